@@ -49,3 +49,7 @@ GUARDED(open_with,
 GUARDED(open_desk, (const cefrodil_shape *shape, size_t words, cefrodil_handle *passes, size_t pass_count), (shape, words, passes, pass_count))
 GUARDED(open_shards, (const cefrodil_shape *shape, uint32_t shards, size_t words, cefrodil_handle *passes, size_t pass_count),
         (shape, shards, words, passes, pass_count))
+GUARDED(open_shards_with,
+        (const cefrodil_shape *shape, uint32_t shards, size_t words, const uint64_t *entries, size_t entry_words, uint32_t *statuses,
+         size_t status_count, cefrodil_handle *passes, size_t pass_count),
+        (shape, shards, words, entries, entry_words, statuses, status_count, passes, pass_count))

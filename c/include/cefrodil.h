@@ -13,7 +13,8 @@
  *      the earlier calls before the later ones. Calls with different handles of one cache need no synchronization.
  *   3. Pointers are to memory of yours, aligned for their types and valid for the whole call. None of it overlaps. They
  *      are never null, but for a handle of cefrodil_close, a reply of cefrodil_get, and an array of cefrodil_open_with,
- *      cefrodil_get_many, cefrodil_put_many, cefrodil_entries or cefrodil_stamped_entries whose count is 0.
+ *      cefrodil_open_shards_with, cefrodil_get_many, cefrodil_put_many, cefrodil_entries or cefrodil_stamped_entries whose
+ *      count is 0.
  *      `value` has `words` words; an array has as many elements as its count says.
  *   4. No call comes from a signal handler. A handle is used in the process that opened it: no call comes from a forked
  *      child, which ends by _exit or exec, since exit would run the destructors of C++ objects, and so close handles.
@@ -221,6 +222,15 @@ CEFRODIL_CHECKED CEFRODIL_NO_NULL cefrodil_status cefrodil_shape_for_shards(uint
  * Returns the statuses of cefrodil_open, and BAD_SHARDS, right after BAD_MIX. */
 CEFRODIL_CHECKED CEFRODIL_NO_NULL cefrodil_status cefrodil_open_shards(const cefrodil_shape *shape, uint32_t shards, size_t words,
                                                                        cefrodil_handle *passes, size_t pass_count);
+
+/* Opens shards like cefrodil_open_shards and puts `status_count` entries, in order, each in its key's shard. Entries and `statuses` are as in
+ * cefrodil_open_with: no entry evicts another, and each status says what became of its entry. Every pass finds the entries from its first
+ * lookup on.
+ * Returns the statuses of cefrodil_open_shards, and BAD_COUNT, right after BAD_WORDS. Unless OK, `statuses` is unchanged. */
+CEFRODIL_CHECKED CEFRODIL_NO_NULL cefrodil_status cefrodil_open_shards_with(const cefrodil_shape *shape, uint32_t shards, size_t words,
+                                                                            const uint64_t *entries, size_t entry_words,
+                                                                            uint32_t *statuses, size_t status_count,
+                                                                            cefrodil_handle *passes, size_t pass_count);
 
 /* Looks a key up, by any handle. By the writer it is never busy.
  * OK: `value`, `at` and `since` are set. ABSENT: `at` is set. BUSY: ask again, or treat it as a miss. If the writer
@@ -501,6 +511,16 @@ CEFRODIL_CHECKED CEFRODIL_INLINE cefrodil_status cefrodil_open_with_or_none(cons
                               status_count, writer, readers, reader_count);
 }
 
+CEFRODIL_CHECKED CEFRODIL_INLINE cefrodil_status cefrodil_open_shards_with_or_none(const cefrodil_shape *shape, uint32_t shards, size_t words,
+                                                                                   const uint64_t *entries, size_t entry_words,
+                                                                                   uint32_t *statuses, size_t status_count,
+                                                                                   cefrodil_handle *passes, size_t pass_count) {
+    uint64_t no_entry = 0;
+    uint32_t no_status = 0;
+    return cefrodil_open_shards_with(shape, shards, words, entry_words != 0 ? entries : &no_entry, entry_words,
+                                     status_count != 0 ? statuses : &no_status, status_count, passes, pass_count);
+}
+
 CEFRODIL_CHECKED CEFRODIL_INLINE cefrodil_status cefrodil_get_many_or_none(cefrodil_handle *reader, const uint64_t *keys, size_t key_count,
                                                                            uint64_t *values, size_t value_words, cefrodil_answer *answers,
                                                                            size_t answer_count) {
@@ -543,6 +563,7 @@ CEFRODIL_CHECKED CEFRODIL_INLINE cefrodil_status cefrodil_stamped_entries_or_non
 #define cefrodil_get_or_desk cefrodil_get_or_desk_of_width
 #define cefrodil_close cefrodil_close_unless_null
 #define cefrodil_open_with cefrodil_open_with_or_none
+#define cefrodil_open_shards_with cefrodil_open_shards_with_or_none
 #define cefrodil_get_many cefrodil_get_many_or_none
 #define cefrodil_put_many cefrodil_put_many_or_none
 #define cefrodil_entries cefrodil_entries_or_none

@@ -233,29 +233,50 @@ template <size_t Words>
     return status;
 }
 
+namespace inside {
+
+// What became of entries: the statuses that the library writes, and what they are here.
+class Became {
+  public:
+    explicit Became(size_t count) noexcept : count_(count) {}
+    void grow() {
+        raw_.resize(count_);
+        told_.resize(count_);
+    }
+    uint32_t *raw() noexcept { return raw_.data(); }
+    size_t count() const noexcept { return count_; }
+    void tell(std::vector<Status> &statuses) noexcept {
+        for (size_t i = 0; i < count_; i++) {
+            told_[i] = static_cast<Status>(raw_[i]);
+        }
+        statuses = std::move(told_);
+    }
+
+  private:
+    size_t count_;
+    std::vector<uint32_t> raw_{};
+    std::vector<Status> told_{};
+};
+
+} // namespace inside
+
 // Opens a cache with entries, each its key and then its value, as Writer::entries lists them. `statuses` says what became of each.
 template <size_t Words>
 [[nodiscard]] Status open_with(const cefrodil_shape &shape, size_t count, const std::vector<uint64_t> &entries, Writer<Words> &writer,
                  std::vector<Reader<Words>> &readers, std::vector<Status> &statuses) noexcept {
     count = inside::allowed(count);
-    const size_t many = entries.size() / (1 + Words);
+    inside::Became became(entries.size() / (1 + Words));
     std::shared_ptr<inside::Lines> lines;
-    std::vector<uint32_t> raw_statuses;
-    std::vector<Status> told;
     const auto grow = [&] {
         lines = inside::lines_for(count);
-        raw_statuses.resize(many);
-        told.resize(many);
+        became.grow();
     };
-    const Status status = inside::open_all(readers, count, lines, grow, [&](cefrodil_handle *raw, size_t readers_asked) {
-        return cefrodil_open_with_or_none(&shape, Words, entries.data(), entries.size(), raw_statuses.data(), many, writer.raw(), raw, readers_asked);
+    const Status status = inside::open_all(readers, count, lines, grow, [&](cefrodil_handle *raw, size_t many) {
+        return cefrodil_open_with_or_none(&shape, Words, entries.data(), entries.size(), became.raw(), became.count(), writer.raw(), raw, many);
     });
     if (status == Status::ok) {
         inside::Counting::in(writer, lines);
-        for (size_t i = 0; i < many; i++) {
-            told[i] = static_cast<Status>(raw_statuses[i]);
-        }
-        statuses = std::move(told);
+        became.tell(statuses);
     }
     return status;
 }
@@ -298,6 +319,27 @@ template <size_t Words>
     return inside::open_all(passes, count, lines, grow, [&](cefrodil_handle *raw, size_t many) {
         return cefrodil_open_shards(&shape, shards, Words, raw, many);
     });
+}
+
+// Opens a cache of `shards` shards with entries, as Writer::entries and Pass::try_entries list them: `count` passes. `statuses` says what became
+// of each entry. Unless ok, `passes` and `statuses` are unchanged.
+template <size_t Words>
+[[nodiscard]] Status open_shards_with(const cefrodil_shape &shape, uint32_t shards, size_t count, const std::vector<uint64_t> &entries,
+                                      std::vector<Pass<Words>> &passes, std::vector<Status> &statuses) noexcept {
+    count = inside::allowed(count);
+    inside::Became became(entries.size() / (1 + Words));
+    std::shared_ptr<inside::Lines> lines;
+    const auto grow = [&] {
+        lines = inside::lines_for(count);
+        became.grow();
+    };
+    const Status status = inside::open_all(passes, count, lines, grow, [&](cefrodil_handle *raw, size_t many) {
+        return cefrodil_open_shards_with_or_none(&shape, shards, Words, entries.data(), entries.size(), became.raw(), became.count(), raw, many);
+    });
+    if (status == Status::ok) {
+        became.tell(statuses);
+    }
+    return status;
 }
 
 } // namespace cefrodil

@@ -57,6 +57,8 @@ static_assert(noexcept(cefrodil::open_with(any<cefrodil_shape>(), 1, any<Words>(
                                            any<std::vector<Status>>())));
 static_assert(noexcept(cefrodil::open_desk(any<cefrodil_shape>(), 1, any<std::vector<Pass<1>>>())));
 static_assert(noexcept(cefrodil::open_shards(any<cefrodil_shape>(), 4, 1, any<std::vector<Pass<1>>>())));
+static_assert(noexcept(cefrodil::open_shards_with(any<cefrodil_shape>(), 4, 1, any<Words>(), any<std::vector<Pass<1>>>(),
+                                                  any<std::vector<Status>>())));
 static_assert(noexcept(cefrodil::make_desk(any<Writer<1>>(), 1, any<std::vector<Pass<1>>>())));
 static_assert(noexcept(any<Writer<1>>().entries(any<Words>())) && noexcept(any<Writer<1>>().stamped_entries(any<Words>())));
 static_assert(noexcept(any<Pass<1>>().try_entries(any<Words>())) && noexcept(any<Pass<1>>().try_stamped_entries(any<Words>())));
@@ -111,6 +113,31 @@ static void opened_with(const cefrodil_shape &shape) {
     MUST(cefrodil::open_with(shape, 1, list, other, readers, statuses) == Status::bad_count && !other.is_open());
     MUST(statuses.size() == 2 && readers.size() == 1 && readers[0].is_open());
     MUST(cefrodil::open_with(shape, 2, {}, other, readers, statuses) == Status::ok && statuses.empty() && readers.size() == 2);
+}
+
+// The entries of shards open other shards. What a full shard leaves out has a status.
+static void shards_opened_with(const cefrodil_shape &part) {
+    std::vector<Pass<1>> passes, others;
+    std::vector<Status> statuses;
+    std::vector<uint64_t> list{1, 10, 2, 20};
+    MUST(cefrodil::open_shards_with(part, 4, 2, list, passes, statuses) == Status::ok && passes.size() == 2);
+    MUST(statuses.size() == 2 && statuses[0] == Status::ok && statuses[1] == Status::ok);
+    for (Pass<1> &pass : passes) {
+        MUST((*pass.get(2).value)[0] == 20 && (*pass.get(1).value)[0] == 10 && !pass.get(3).value);
+    }
+    MUST(passes[1].try_entries(list) == Status::ok && list.size() == 4);
+    cefrodil_shape small = part;
+    small.items = 1;
+    list.insert(list.end(), {1, 11, 3, 30});
+    MUST(cefrodil::open_shards_with(small, 1, 1, list, others, statuses) == Status::ok && statuses.size() == 4);
+    MUST(statuses[0] == Status::ok && (statuses[1] == Status::no_item) && (statuses[3] == Status::no_item));
+    MUST((statuses[2] == Status::ok) == (list[0] == 1) && others[0].get(list[0]).value.has_value());
+    list.push_back(3);
+    MUST(cefrodil::open_shards_with(part, 3, 1, list, passes, statuses) == Status::bad_count && passes.size() == 2 && statuses.size() == 4);
+    list.pop_back();
+    MUST(cefrodil::open_shards_with(part, 3, 1, list, passes, statuses) == Status::bad_shards && passes[1].is_open() && statuses.size() == 4);
+    MUST(cefrodil::open_shards_with(part, 4, 0, list, others, statuses) == Status::bad_readers && others.size() == 1);
+    MUST(cefrodil::open_shards_with(part, 4, 2, {}, others, statuses) == Status::ok && statuses.empty() && others.size() == 2);
 }
 
 // Types of the program. The second has four bytes of padding after its last member, and the third one byte between its members.
@@ -231,6 +258,7 @@ int main() {
     MUST(shape && part && !cefrodil::shape_for_items(0) && !cefrodil::shape_for_shards(100, 3));
     apart(*shape);
     opened_with(*shape);
+    shards_opened_with(*part);
     typed(*shape);
     std::vector<Pass<1>> passes, others;
     MUST(cefrodil::open_desk(*shape, 1, passes) == Status::ok && cefrodil::open_shards(*part, 4, 1, others) == Status::ok);

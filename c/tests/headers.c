@@ -36,6 +36,7 @@ int main(void) {
 #ifdef CEFRODIL_NO_MACROS
     MUST(same(NAME_OF(cefrodil_get), "cefrodil_get") && same(NAME_OF(cefrodil_put), "cefrodil_put") && same(NAME_OF(cefrodil_close), "cefrodil_close"));
     MUST(same(NAME_OF(cefrodil_open_with), "cefrodil_open_with") && same(NAME_OF(cefrodil_get_many), "cefrodil_get_many"));
+    MUST(same(NAME_OF(cefrodil_open_shards_with), "cefrodil_open_shards_with"));
     MUST(same(NAME_OF(cefrodil_entries), "cefrodil_entries") && same(NAME_OF(cefrodil_stamped_entries), "cefrodil_stamped_entries"));
 #else
     MUST(same(NAME_OF(cefrodil_get), "cefrodil_get_of_width") && same(NAME_OF(cefrodil_close), "cefrodil_close_unless_null"));

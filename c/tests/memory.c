@@ -47,7 +47,7 @@ void __wrap_free(void *block) {
 
 static cefrodil_handle writer, handles[4];
 
-enum how { APART, BY_TURNS, BY_SHARDS, WITH_ENTRIES };
+enum how { APART, BY_TURNS, BY_SHARDS, WITH_ENTRIES, SHARDS_WITH_ENTRIES };
 
 /* Three entries of 1 to 8 words, and their statuses. */
 static const uint64_t entries[27];
@@ -59,7 +59,8 @@ static uint32_t open_one(const cefrodil_shape *shape, size_t words, enum how how
     case APART: return cefrodil_open(shape, words, &writer, handles, 4);
     case BY_TURNS: return cefrodil_open_desk(shape, words, handles, 4);
     case BY_SHARDS: return cefrodil_open_shards(shape, 4, words, handles, 4);
-    default: return cefrodil_open_with(shape, words, entries, 3 * (1 + words), statuses, 3, &writer, handles, 4);
+    case WITH_ENTRIES: return cefrodil_open_with(shape, words, entries, 3 * (1 + words), statuses, 3, &writer, handles, 4);
+    default: return cefrodil_open_shards_with(shape, 4, words, entries, 3 * (1 + words), statuses, 3, handles, 4);
     }
 }
 
@@ -84,7 +85,7 @@ static long allocations(const cefrodil_shape *shape, size_t words, enum how how)
                 cefrodil_close(&handles[i]);
             }
             cefrodil_close(&writer);
-            return kept == 0 && is_told(how == WITH_ENTRIES ? CEFRODIL_OK : 99) ? allowed : -1;
+            return kept == 0 && is_told(how >= WITH_ENTRIES ? CEFRODIL_OK : 99) ? allowed : -1;
         }
         if (status != CEFRODIL_NO_MEMORY || kept != 0 || open_handles() != 0 || !is_told(99)) {
             return -1;
@@ -252,8 +253,9 @@ int main(void) {
     for (size_t words = 1; words <= 8; words++) {
         long apart = allocations(&shape, words, APART), by_turns = allocations(&shape, words, BY_TURNS);
         long by_shards = allocations(&shape, words, BY_SHARDS), with_entries = allocations(&shape, words, WITH_ENTRIES);
-        if (apart < 5 || by_turns < 5 || by_shards < 40 || with_entries != apart + 2) {
-            printf("memory: %zu words: %ld, %ld, %ld, %ld\n", words, apart, by_turns, by_shards, with_entries);
+        long both = allocations(&shape, words, SHARDS_WITH_ENTRIES);
+        if (apart < 5 || by_turns < 5 || by_shards < 40 || with_entries != apart + 2 || both != by_shards + 1) {
+            printf("memory: %zu words: %ld, %ld, %ld, %ld, %ld\n", words, apart, by_turns, by_shards, with_entries, both);
             return 1;
         }
         if (!all_list(&shape, words)) {

@@ -153,6 +153,12 @@ static void by_passes() {
     lists(2, [&](std::vector<uint64_t> &list) { return passes[1].try_entries(list); });
     lists(3, [&](std::vector<uint64_t> &list) { return passes[1].try_stamped_entries(list); });
     MUST(at_last(4, [&] { return open_shards(shape, 4, 2, of_shards); }, [&] { return of_shards.empty(); }));
+    std::vector<Pass<1>> loaded;
+    std::vector<Status> statuses{Status::busy};
+    const std::vector<uint64_t> entries{7, 70, 8, 80};
+    const auto none = [&] { return loaded.empty() && statuses.size() == 1 && statuses[0] == Status::busy; };
+    MUST(at_last(6, [&] { return open_shards_with(shape, 4, 2, entries, loaded, statuses); }, none));
+    MUST(statuses.size() == 2 && statuses[0] == Status::ok && statuses[1] == Status::ok && loaded[1].get(8).value);
     MUST(of_shards.size() == 2 && of_shards[0].try_put(7, {70}).status == Status::ok);
     lists(2, [&](std::vector<uint64_t> &list) { return of_shards[1].try_entries(list); });
     // What is open already stays so.

@@ -1,9 +1,8 @@
 //! A cache with a writer and readers.
 use crate::counts::Meter;
 use crate::error::{ListError, OpenError, PutError, PutIfAbsentError, PutIfError, Spent, Why};
-use crate::handle::{same_version, Handle};
-use crate::memory::room;
-use crate::raw;
+use crate::handle::Handle;
+use crate::loads::Loads;
 use crate::reader::Reader;
 use crate::reply::{self, Entry, Put, Removal, Replaced, Reply, Swapped, Take};
 use crate::shape::Shape;
@@ -119,18 +118,9 @@ impl<const WORDS: usize> Cache<WORDS> {
     where
         [u64; WORDS]: Value,
     {
-        same_version()?;
-        let mut words = room(entries.len() * (1 + WORDS))?;
-        for (key, value) in entries {
-            words.push(*key);
-            words.extend_from_slice(value);
-        }
-        let mut statuses = room(entries.len())?;
-        statuses.resize(entries.len(), raw::OK);
-        let (writer, readers) = Handle::open_with(&shape.raw(), WORDS, &words, &mut statuses, readers, Reader)?;
-        let mut left = room(statuses.iter().filter(|status| **status != raw::OK).count())?;
-        left.extend(statuses.iter().enumerate().filter_map(|(index, status)| Some((index, Why::of(*status)?))));
-        Ok(Opened { writer: Writer(writer), readers, left })
+        let mut loads = Loads::of(entries)?;
+        let (writer, readers) = Handle::open_with(&shape.raw(), WORDS, &loads.words, &mut loads.statuses, readers, Reader)?;
+        Ok(Opened { writer: Writer(writer), readers, left: loads.left()? })
     }
 }
 

@@ -195,6 +195,34 @@ impl Handle {
         all.opened(status, kind)
     }
 
+    /// Opens shards with entries, each its key and then its value. `statuses` gets the status of each entry.
+    pub fn open_shards_with<T>(
+        shape: &RawShape,
+        shards: u32,
+        words: usize,
+        entries: &[u64],
+        statuses: &mut [u32],
+        passes: usize,
+        kind: fn(Handle) -> T,
+    ) -> Result<Vec<T>, OpenError> {
+        let mut all = Opening::of(passes, Counter::many)?;
+        // SAFETY: as in `open`; the lengths of the two arrays are passed with them.
+        let status = unsafe {
+            raw::cefrodil_open_shards_with(
+                shape,
+                shards,
+                words,
+                entries.as_ptr(),
+                entries.len(),
+                statuses.as_mut_ptr(),
+                statuses.len(),
+                all.raw.as_mut_ptr(),
+                all.raw.len(),
+            )
+        };
+        all.opened(status, kind)
+    }
+
     /// Reads what the calls by all handles of this cache came to.
     pub fn meter(&self) -> Meter {
         self.counter.meter()

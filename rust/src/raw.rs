@@ -103,6 +103,17 @@ unsafe extern "C" {
         passes: *mut RawHandle,
         pass_count: usize,
     ) -> u32;
+    pub fn cefrodil_open_shards_with(
+        shape: *const RawShape,
+        shards: u32,
+        words: usize,
+        entries: *const u64,
+        entry_words: usize,
+        statuses: *mut u32,
+        status_count: usize,
+        passes: *mut RawHandle,
+        pass_count: usize,
+    ) -> u32;
     pub fn cefrodil_get(reader: *mut RawHandle, key: u64, value: *mut u64, words: usize, reply: *mut RawReply) -> u32;
     pub fn cefrodil_get_1(reader: *mut RawHandle, key: u64, value: *mut u64, reply: *mut RawReply) -> u32;
     pub fn cefrodil_get_2(reader: *mut RawHandle, key: u64, value: *mut u64, reply: *mut RawReply) -> u32;

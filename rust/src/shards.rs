@@ -1,6 +1,7 @@
 //! A cache for several threads that write often.
-use crate::error::OpenError;
+use crate::error::{OpenError, Why};
 use crate::handle::Handle;
+use crate::loads::Loads;
 use crate::pass::Pass;
 use crate::shape::Shape;
 use crate::width::Value;
@@ -13,6 +14,15 @@ use crate::width::Value;
 /// Each shard evicts for itself.
 #[derive(Debug)]
 pub struct Shards<const WORDS: usize>(());
+
+/// Shards that were opened with entries: their passes.
+#[derive(Debug)]
+pub struct OpenedShards<const WORDS: usize> {
+    /// The passes.
+    pub passes: Vec<Pass<'static, WORDS>>,
+    /// The entries that were left out: the index of each, in order, and the reason.
+    pub left: Vec<(usize, Why)>,
+}
 
 impl<const WORDS: usize> Shards<WORDS> {
     /// Opens `shards` empty shards, a power of two from 1 to 256, each of this shape, with this many passes, 1 to 1024.
@@ -58,5 +68,47 @@ impl<const WORDS: usize> Shards<WORDS> {
         [u64; WORDS]: Value,
     {
         Handle::open_shards(&shape.raw(), shards, WORDS, passes, Pass::owning)
+    }
+
+    /// Opens shards like [`Shards::open`], and puts these entries, in order, each in its key's shard. No entry evicts another: one that
+    /// can't be put so is left out, and reported with the reason. A key that is listed twice is put twice. Each pass finds the entries from
+    /// its first lookup on.
+    ///
+    /// # Errors
+    ///
+    /// Those of [`Shards::open`]. An entry that is left out is no error.
+    ///
+    /// # Examples
+    ///
+    /// ```
+    /// use cefrodil::{OpenedShards, Shape, Shards};
+    ///
+    /// let mut small = Shards::<1>::open(&Shape::for_shards(100, 4)?, 4, 1)?;
+    /// small[0].try_put(7, &[70])?;
+    /// let entries = small[0].try_entries()?;
+    /// let OpenedShards { mut passes, left } = Shards::open_with(&Shape::for_shards(1000, 16)?, 16, 2, &entries)?;
+    /// assert_eq!(left, []);
+    /// assert_eq!(passes[1].get(7).value(), Some([70]));
+    /// # Ok::<(), Box<dyn std::error::Error>>(())
+    /// ```
+    ///
+    /// Another width doesn't compile:
+    ///
+    /// ```compile_fail,E0277
+    /// let _ = cefrodil::Shards::<9>::open_with(&cefrodil::Shape::for_shards(100, 1).unwrap(), 1, 1, &[]);
+    /// ```
+    pub fn open_with(
+        shape: &Shape,
+        shards: u32,
+        passes: usize,
+        entries: &[(u64, [u64; WORDS])],
+    ) -> Result<OpenedShards<WORDS>, OpenError>
+    where
+        [u64; WORDS]: Value,
+    {
+        let mut loads = Loads::of(entries)?;
+        let passes =
+            Handle::open_shards_with(&shape.raw(), shards, WORDS, &loads.words, &mut loads.statuses, passes, Pass::owning)?;
+        Ok(OpenedShards { passes, left: loads.left()? })
     }
 }

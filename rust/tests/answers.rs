@@ -18,6 +18,7 @@ where
     assert_eq!(Desk::<WORDS>::open(shape, readers).unwrap_err(), why);
     assert_eq!(Cache::<WORDS>::open_with(shape, readers, &[]).unwrap_err(), why);
     assert_eq!(Shards::<WORDS>::open(shape, 4, readers).unwrap_err(), why);
+    assert_eq!(Shards::<WORDS>::open_with(shape, 4, readers, &[]).unwrap_err(), why);
     why
 }
 

@@ -296,6 +296,41 @@ fn threads_write_to_shards() -> Result<(), Box<dyn Error>> {
 }
 
 #[test]
+fn entries_are_loaded_into_shards() -> Result<(), Box<dyn Error>> {
+    let entries: Vec<(u64, [u64; 2])> = (0..500).map(|key| (key, [key, key + 1])).collect();
+    let opened = Shards::<2>::open_with(&Shape::for_shards(500, 8)?, 8, 3, &entries)?;
+    assert_eq!((opened.passes.len(), opened.left), (3, vec![]));
+    for mut pass in opened.passes {
+        for (key, value) in &entries {
+            assert_eq!(pass.get(*key).value(), Some(*value));
+        }
+    }
+    Ok(())
+}
+
+// Keys are not mixed, so their bits 48 and up choose the shard. Each shard has two items.
+#[test]
+fn entries_that_find_no_place_in_their_shard_are_left() -> Result<(), Box<dyn Error>> {
+    const OTHER: u64 = 1 << 48;
+    let small = Shape { buckets: 4, items: 2, stripes: 1, depth: 2, tries: 2, limit: 1 << 62, mix: Mix::None };
+    let entries = [(1, [11]), (2, [12]), (3, [13]), (OTHER, [21]), (1, [14]), (4, [15])];
+    let mut opened = Shards::<1>::open_with(&small, 2, 2, &entries)?;
+    assert_eq!(opened.left, [(2, Why::NoItem), (5, Why::NoItem)]);
+    for pass in &mut opened.passes {
+        assert_eq!(pass.get(1), Reply::Found { value: [14], at: 3, since: 3 });
+        assert_eq!(pass.get(OTHER), Reply::Found { value: [21], at: 1, since: 1 });
+        assert_eq!(pass.get(3), Reply::Absent { at: 3 });
+    }
+    let spent = Shards::<1>::open_with(&Shape { limit: 10, items: 16, ..small }, 2, 1, &entries[..4])?;
+    assert_eq!(spent.left, [(2, Why::Spent)]);
+    assert_eq!(Shards::<1>::open_with(&small, 3, 0, &entries).err(), Some(OpenError::Shards));
+    assert_eq!(Shards::<1>::open_with(&Shape { items: 0, ..small }, 2, 0, &entries).err(), Some(OpenError::Items));
+    assert_eq!(Shards::<1>::open_with(&small, 2, 0, &entries).err(), Some(OpenError::Readers));
+    assert_eq!(Shards::<1>::open_with(&small, 2, 1, &[])?.left, []);
+    Ok(())
+}
+
+#[test]
 fn shards_are_refused() -> Result<(), OpenError> {
     let shape = Shape::for_shards(500, 8)?;
     assert_eq!(Shape::for_shards(500, 3), Err(OpenError::Shards));

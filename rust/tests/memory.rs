@@ -143,6 +143,9 @@ fn an_opening_with_entries_without_memory_is_an_error() -> Tested {
     let mut opened = opens(OF_CRATE + 3, || Cache::<1>::open_with(&small, 2, &[(7, [70]), (8, [80]), (9, [90])]));
     assert_eq!(opened.left, [(2, Why::NoItem)]);
     assert_eq!((opened.writer.len(), opened.readers[0].get(8).value()), (2, Some([80])));
+    let mut opened = opens(OF_CRATE + 3, || Shards::<1>::open_with(&small, 1, 2, &[(7, [70]), (8, [80]), (9, [90])]));
+    assert_eq!(opened.left, [(2, Why::NoItem)]);
+    assert_eq!((opened.passes[0].try_len()?, opened.passes[1].get(8).value()), (2, Some([80])));
     Ok(())
 }
 

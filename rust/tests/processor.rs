@@ -13,4 +13,5 @@ fn a_processor_that_is_too_old_opens_nothing() {
     assert_eq!(Cache::<1>::open_with(&SHAPE, 1, &[(1, [10])]).err(), expected);
     assert_eq!(Desk::<1>::open(&SHAPE, 1).err(), expected);
     assert_eq!(Shards::<1>::open(&SHAPE, 4, 1).err(), expected);
+    assert_eq!(Shards::<1>::open_with(&SHAPE, 4, 1, &[(1, [10])]).err(), expected);
 }

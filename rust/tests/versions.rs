@@ -14,4 +14,5 @@ fn an_archive_of_another_version_opens_nothing() {
     assert_eq!(Cache::<1>::open_with(&SHAPE, 1, &[(1, [10])]).err(), expected);
     assert_eq!(Desk::<1>::open(&SHAPE, 1).err(), expected);
     assert_eq!(Shards::<1>::open(&SHAPE, 4, 1).err(), expected);
+    assert_eq!(Shards::<1>::open_with(&SHAPE, 4, 1, &[(1, [10])]).err(), expected);
 }

@@ -3,7 +3,7 @@ use Rattle.std.proofs.Common.{ℕ, ◌≡◌, ◌≢◌, ◌+◌, ◌<◌, get_o
 use Rattle.std.proofs.Math.ListN.{set, length-set}
 use Rattle.std.proofs.lemmas.List.Elements.{AllWithin-more_set, All-from_all_within}
 use mathlib.Core.Bool.{Bool}
-use mathlib.Core.Option.{Option, some}
+use mathlib.Core.Option.{Option, none, some}
 use Rattle.mc_shared.specs.Records.{Opening}
 use Rattle.mc_door.specs.AnySides.{role_in, width_of}
 use Rattle.mc_door.specs.NewSides.{IsNewSide, count_in, has_desk_in, opening_in, width_in}
@@ -16,6 +16,10 @@ use Rattle.cefrodil.specs.declared.raw_handle.RawHandle.{RawHandle}
 
 pub keeps : (P : AnySide → Type 0) (b : Option AnySide) (h : AnySide) → b ≡ some h → P h → Keeps P b
 keeps P b h is holds = subst (Keeps P) (sym is) holds
+
+pub keeps_more : (P Q : AnySide → Type 0) (b : Option AnySide) → ((h : AnySide) → P h → Q h) → Keeps P b → Keeps Q b
+keeps_more P Q none more has = absurd has
+keeps_more P Q (some h) more has = more h has
 
 pub filled_more : (Waits : RawHandle → Type 0) (first rest rest' : Rest) (slots : List RawHandle) (n : ℕ) (slot : RawHandle) (held : AnySide) → IsFilledTo Waits first rest slots n → n < length slots
     → opening_in rest' ≡ opening_in rest → has_desk_in rest' ≡ has_desk_in rest → width_in rest' ≡ width_in rest → kept slot ≡ some held

@@ -6,8 +6,10 @@ use Rattle.std.specs.List.{All, AllByRecursion, EachIndex, slice_index}
 use Rattle.std.proofs.lemmas.List.Elements.{All-from_recursion}
 use Rattle.mc_words.specs.declared.history.Change.{Change}
 use Rattle.mc_cache.specs.Plain.{TakesOrNames, history}
-use Rattle.mc_shared.specs.Records.{Opening}
-use Rattle.mc_door.specs.Loading.{IsLoadedWriter, entries_in}
+use Rattle.mc_shared.specs.Records.{Opening, ReaderRecord}
+use Rattle.mc_shards.specs.Loadings.{puts_of}
+use Rattle.mc_shards.specs.Sharded.{Sharded}
+use Rattle.mc_door.specs.Loading.{HaveSeenLoads, IsLoadedWriter, entries_in}
 use Rattle.mc_door.specs.Roles.{Role, Writes, Reads, Passes, Shares, Idle}
 use mathlib.Core.Bool.{cond, false}
 use mathlib.Core.Option.{some}
@@ -63,6 +65,11 @@ named_within V count o words left (Reads r) loaded = absurd loaded
 named_within V count o words left (Passes r) loaded = absurd loaded
 named_within V count o words left (Shares s rs) loaded = absurd loaded
 named_within V count o words left Idle loaded = absurd loaded
+
+pub named_of_shards : (V count : ℕ) (s : Sharded) (words : List ℕ) (left : List (ℕ × Why)) (passes : List (List ReaderRecord)) → HaveSeenLoads V s (entries_in V count words) left passes
+    → All (λ l. l.0 < count) left
+named_of_shards V count s words left passes loads =
+    All-from_recursion (λ l. l.0 < count) left (named_after 0 count (entries_in V count words) (puts_of {V = V} loads.plain.kept) left loads.plain.each (omega (arith, length_of_entries V count words)))
 
 pub are_loaded : (raw : RawShape) (words count : ℕ) (entries statuses : List ℕ) (writer : RawHandle) (readers : List RawHandle) (sh : Shape) (first : Rest) (held : AnySide) (left : List (ℕ × Why))
     → IsShapeOf raw sh → (opening_in first).layout ≡ layout_of words sh → width_in first ≡ words → has_desk_in first ≡ false → length statuses ≡ count → AreEntries words (length entries) count

@@ -1,6 +1,9 @@
 -- Handles of shards are all open, or none is.
-use Rattle.std.proofs.Common.{ℕ, ◌≡◌, ◌≢◌, ◌+◌, ◌<◌, ◌↔◌, get_or-set_other, List, Option, Some, MatchOption, length, All, inr, refl, ◌∙◌, subst, arith}
-use Rattle.std.proofs.Math.ListN.{set, length-set}
+use Rattle.std.proofs.Common.{ℕ, ◌≡◌, ◌≢◌, ◌+◌, ◌++◌, ◌<◌, ◌↔◌, get_or, get_or-set_other, List, [], ◌∷◌, Option, Some, MatchOption, length, All, inr, refl, sym, ◌∙◌, slice_get, subst, arith}
+use Rattle.std.proofs.Math.ListN.{set, length-set, length-append, get_or-append}
+use Rattle.std.proofs.Math.Seq.{get_or-append_seam}
+use Rattle.std.proofs.lemmas.Option.{get_or_from_slice_get, slice_get_read, slice_get_within}
+use Rattle.std.specs.List.{EachIndex, slice_index}
 use Rattle.std.proofs.lemmas.List.Elements.{AllWithin-more_set, All-from_all_within}
 use mathlib.Core.Option.{some}
 use Rattle.mc_cache.specs.declared.opening.OpenError.TheVariants as opening
@@ -8,58 +11,101 @@ use Rattle.mc_words.specs.Places.{IsWidth}
 use Rattle.mc_words.specs.Readers.{HasReaders}
 use Rattle.mc_words.specs.Shapes.{HasShards, IsShape}
 use Rattle.mc_words.specs.declared.shape.Shape.{Shape}
-use Rattle.mc_shards.specs.Openings.{RefusesShards}
+use Rattle.mc_shared.specs.Records.{ReaderRecord}
+use Rattle.mc_shards.specs.Openings.{HasSeenNothing, RefusesShards}
 use Rattle.mc_shards.specs.Sharded.{Sharded}
 use Rattle.mc_shards.specs.declared.opening.OpenShardsError.{OpenShardsError}
 use Rattle.mc_shards.specs.declared.opening.OpenShardsError.TheVariants as error
+use Rattle.mc_plan.specs.declared.answer.Why.{Why}
 use Rattle.mc_door.specs.AnySides.{role_in, width_of}
-use Rattle.mc_door.specs.NewPasses.{IsNewPass, count_on, shards_on, width_on}
+use Rattle.mc_door.specs.Loading.{HaveSeenLoads, entries_in}
+use Rattle.mc_door.specs.NewPasses.{HaveSeenNothing, IsLastPass, IsNewPass, IsPassOf, passes_on, shards_on, width_on}
+use Rattle.mc_door.specs.Roles.{Role, Writes, Reads, Passes, Shares, Idle}
 use Rattle.mc_door.specs.declared.any_side.AnySide.{AnySide}
 use Rattle.mc_door.specs.declared.shard_rest.ShardRest.{ShardRest}
-use Rattle.cefrodil.specs.Inside.Filling.{HasPassesTo}
+use Rattle.cefrodil.specs.Inside.Filling.{AreAmong, HasPassesTo}
+use Rattle.cefrodil.specs.Loading.{AreEntries, AreLoadedPasses, entry_status}
 use Rattle.cefrodil.specs.Open.{kept}
 use Rattle.cefrodil.specs.RawShapes.{HasMix, IsShapeOf}
-use Rattle.cefrodil.specs.ShardOpenings.{AreShardPasses, IsNewPassAt, RefusesOpenShards}
+use Rattle.cefrodil.specs.ShardOpenings.{AreShardPasses, IsPassAt, RefusesOpenShards}
 use Rattle.cefrodil.specs.declared.shape.RawShape.{RawShape}
 use Rattle.cefrodil.specs.declared.raw_handle.RawHandle.{RawHandle}
 use Rattle.mc_door.specs.declared.status.TheConstants.{NO_MEMORY}
-use Rattle.cefrodil.proofs.Filling.{keeps}
+use Rattle.cefrodil.proofs.Filling.{keeps, keeps_more}
 use Rattle.cefrodil.proofs.Opened.{refused_so_many}
 
 -- what a pass that is given out is
 abbrev pub IsGiven : ShardRest → ShardRest → AnySide → Type 0
-IsGiven rest rest' h = (width_of h ≡ width_on rest) × IsNewPass (width_on rest) (shards_on rest) (role_in h) × (count_on rest ≡ count_on rest' + 1)
+IsGiven rest rest' h = (width_of h ≡ width_on rest) × IsLastPass (shards_on rest) (passes_on rest) (passes_on rest') (role_in h)
 
-pub given_pass : (rest rest' : ShardRest) (given : Option AnySide) (held : AnySide) → MatchOption given (count_on rest ≡ 0) (IsGiven rest rest') → given ≡ Some held → IsGiven rest rest' held
-given_pass rest rest' given held side is = subst (λ (o : Option AnySide). MatchOption o (count_on rest ≡ 0) (IsGiven rest rest')) is side
+pub given_pass : (rest rest' : ShardRest) (given : Option AnySide) (held : AnySide) → MatchOption given (passes_on rest ≡ []) (IsGiven rest rest') → given ≡ Some held → IsGiven rest rest' held
+given_pass rest rest' given held side is = subst (λ (o : Option AnySide). MatchOption o (passes_on rest ≡ []) (IsGiven rest rest')) is side
+
+among_more : (others : List (List ReaderRecord)) (last : List ReaderRecord) (k : ℕ) (rs : List ReaderRecord) → slice_get others k ≡ Some rs → slice_get (others ++ last ∷ []) k ≡ Some rs
+among_more others last k rs is =
+    let within = slice_get_within others k rs is in
+    slice_get_read (others ++ last ∷ []) (length (others ++ last ∷ [])) k rs refl (omega (arith, within, length-append others (last ∷ [])))
+    (sym (get_or-append others (last ∷ []) rs k within ∙ get_or_from_slice_get others k rs rs is))
+
+last_of : (others : List (List ReaderRecord)) (last : List ReaderRecord) → slice_get (others ++ last ∷ []) (length others) ≡ Some last
+last_of others last =
+    slice_get_read (others ++ last ∷ []) (length (others ++ last ∷ [])) (length others) last refl (omega (arith, length-append others (last ∷ []))) (sym (get_or-append_seam others last [] last))
+
+-- the pass that is given out is one of the first, as are those that are left, one fewer
+pub taken : (s : Sharded) (first passes others : List (List ReaderRecord)) (role : Role) → AreAmong first passes → IsLastPass s passes others role
+    → IsPassOf s first role × AreAmong first others × (length passes ≡ length others + 1)
+taken s first passes others (Shares s' rs) among given = (
+  (given.0, given.1, (length others, among (length others) rs (subst (λ (ps : List (List ReaderRecord)). slice_get ps (length others) ≡ Some rs) (sym given.2) (last_of others rs)))),
+  (λ k qs is. among k qs (subst (λ (ps : List (List ReaderRecord)). slice_get ps k ≡ Some qs) (sym given.2) (among_more others rs k qs is))),
+  subst (λ (ps : List (List ReaderRecord)). length ps ≡ length others + 1) (sym given.2) (length-append others (rs ∷ [])),
+)
+taken s first passes others (Writes w) among given = absurd given
+taken s first passes others (Reads r) among given = absurd given
+taken s first passes others (Passes r) among given = absurd given
+taken s first passes others Idle among given = absurd given
 
 -- one more handle has its pass
 pub passes_more : (first rest rest' : ShardRest) (slots : List RawHandle) (n : ℕ) (slot : RawHandle) (held : AnySide) → HasPassesTo first rest slots n → n < length slots
     → shards_on rest' ≡ shards_on rest → width_on rest' ≡ width_on rest → kept slot ≡ some held → IsGiven rest rest' held → HasPassesTo first rest' (set slots n slot) (n + 1)
-passes_more first rest rest' slots n slot held f lt shards width is new = record {
-  shards = shards ∙ f.shards;
-  width = width ∙ f.width;
-  left = omega (arith, f.left, new.2, length-set slots n slot);
-  filled = AllWithin-more_set slots n slot lt (IsNewPassAt (shards_on first) (width_on first)) f.filled
-      (keeps (λ h. (width_of h ≡ width_on first) × IsNewPass (width_on first) (shards_on first) (role_in h)) (kept slot) held is
-      (new.0 ∙ f.width, subst (λ (s : Sharded). IsNewPass (width_on first) s (role_in held)) f.shards (subst (λ (w : ℕ). IsNewPass w (shards_on rest) (role_in held)) f.width new.1)));
-  closed = λ k d low high. let other : k ≢ n = omega arith in let within : k < length slots = omega (arith, length-set slots n slot) in
-      rw get_or-set_other (f.closed k d (omega arith) within);
-}
+passes_more first rest rest' slots n slot held f lt shards width is new =
+    let given = taken (shards_on rest) (passes_on first) (passes_on rest) (passes_on rest') (role_in held) f.among new.1 in record {
+      shards = shards ∙ f.shards;
+      width = width ∙ f.width;
+      left = omega (arith, f.left, given.2, length-set slots n slot);
+      among = given.1;
+      filled = AllWithin-more_set slots n slot lt (IsPassAt (shards_on first) (width_on first) (passes_on first)) f.filled
+          (keeps (λ h. (width_of h ≡ width_on first) × IsPassOf (shards_on first) (passes_on first) (role_in h)) (kept slot) held is
+          (new.0 ∙ f.width, subst (λ (s : Sharded). IsPassOf s (passes_on first) (role_in held)) f.shards given.0));
+      closed = λ k d low high. let other : k ≢ n = omega arith in let within : k < length slots = omega (arith, length-set slots n slot) in
+          rw get_or-set_other (f.closed k d (omega arith) within);
+    }
 
 pub all_passes : (first rest : ShardRest) (slots : List RawHandle) (n : ℕ) → HasPassesTo first rest slots n → n ≡ length slots
-    → All (IsNewPassAt (shards_on first) (width_on first)) slots
+    → All (IsPassAt (shards_on first) (width_on first) (passes_on first)) slots
 all_passes first rest slots n f end =
-    All-from_all_within (IsNewPassAt (shards_on first) (width_on first)) slots (subst (λ (k : ℕ). Rattle.std.specs.List.AllWithin (IsNewPassAt (shards_on first) (width_on first)) slots 0 k) end f.filled)
+    All-from_all_within (IsPassAt (shards_on first) (width_on first) (passes_on first)) slots
+    (subst (λ (k : ℕ). Rattle.std.specs.List.AllWithin (IsPassAt (shards_on first) (width_on first) (passes_on first)) slots 0 k) end f.filled)
+
+-- a pass is new, as all of them are
+new_pass : (V : ℕ) (s : Sharded) (passes : List (List ReaderRecord)) (role : Role) → All (HasSeenNothing V) passes → IsPassOf s passes role → IsNewPass V s role
+new_pass V s passes (Shares s' rs) fresh of =
+    let n = of.2.0 in let is = of.2.1 in (of.0, of.1, subst (HasSeenNothing V) (get_or_from_slice_get passes n rs rs is) (fresh n rs (slice_get_within passes n rs is)))
+new_pass V s passes (Writes w) fresh of = absurd of
+new_pass V s passes (Reads r) fresh of = absurd of
+new_pass V s passes (Passes r) fresh of = absurd of
+new_pass V s passes Idle fresh of = absurd of
 
 pub are_shard_passes : (raw : RawShape) (shards words : ℕ) (passes : List RawHandle) (sh : Shape) (first : ShardRest) → IsShapeOf raw sh
-    → (shards_on first).shape ≡ sh → length (shards_on first).tables ≡ shards → width_on first ≡ words
-    → All (IsNewPassAt (shards_on first) (width_on first)) passes → AreShardPasses raw shards words passes
-are_shard_passes raw shards words passes sh first of shape count wide all = record {
+    → (shards_on first).shape ≡ sh → length (shards_on first).tables ≡ shards → width_on first ≡ words → HaveSeenNothing words (passes_on first)
+    → All (IsPassAt (shards_on first) (width_on first) (passes_on first)) passes → AreShardPasses raw shards words passes
+are_shard_passes raw shards words passes sh first of shape count wide fresh all = record {
   sharded = shards_on first;
   shape = rw shape of;
   count = count;
-  has_passes = subst (λ (w : ℕ). All (IsNewPassAt (shards_on first) w) passes) wide all;
+  has_passes = λ k d lt. keeps_more (λ h. (width_of h ≡ words) × IsPassOf (shards_on first) (passes_on first) (role_in h))
+      (λ h. (width_of h ≡ words) × IsNewPass words (shards_on first) (role_in h)) (kept (get_or passes k d))
+      (λ h has. (has.0, new_pass words (shards_on first) (passes_on first) (role_in h) fresh.each has.1))
+      (subst (λ (w : ℕ). All (IsPassAt (shards_on first) w (passes_on first)) passes) wide all k d lt);
 }
 
 -- the fault is one of the number of handles, if that is cut to what the cache takes
@@ -71,3 +117,19 @@ refused_so_many_passes sh shards cut handles (error.Open why) same refused = (re
 pub refused_shard_memory : (raw : RawShape) (shards words handles cut : ℕ) (sh : Shape) → IsWidth words → HasMix raw → IsShapeOf raw sh → HasShards shards → IsShape sh → HasReaders cut
     → (HasReaders cut ↔ HasReaders handles) → RefusesOpenShards raw shards words handles NO_MEMORY
 refused_shard_memory raw shards words handles cut sh wide mixed of many shaped has same = inr (sh, error.Open opening.NoMemory, wide, mixed, of, (many, (shaped, same.0 has)), refl)
+
+pub are_loaded_passes : (raw : RawShape) (shards words count : ℕ) (entries statuses : List ℕ) (passes : List RawHandle) (sh : Shape) (first : ShardRest) (left : List (ℕ × Why)) → IsShapeOf raw sh
+    → (shards_on first).shape ≡ sh → length (shards_on first).tables ≡ shards → width_on first ≡ words → length statuses ≡ count → AreEntries words (length entries) count
+    → HaveSeenLoads words (shards_on first) (entries_in words count entries) left (passes_on first) → All (IsPassAt (shards_on first) (width_on first) (passes_on first)) passes
+    → EachIndex statuses (λ i. slice_index statuses i ≡ entry_status left i) → AreLoadedPasses raw shards words entries statuses passes
+are_loaded_passes raw shards words count entries statuses passes sh first left of shape tables wide many fit loaded all told = record {
+  sharded = shards_on first;
+  records = passes_on first;
+  left = left;
+  shape = rw shape of;
+  count = tables;
+  fits = subst (λ (n : ℕ). AreEntries words (length entries) n) (sym many) fit;
+  loaded = subst (λ (n : ℕ). HaveSeenLoads words (shards_on first) (entries_in words n entries) left (passes_on first)) (sym many) loaded;
+  has_passes = subst (λ (w : ℕ). All (IsPassAt (shards_on first) w (passes_on first)) passes) wide all;
+  told = told;
+}

@@ -2,18 +2,23 @@
 use Rattle.std.specs.Prelude.{ℕ, ◌≡◌, ◌⊎◌, All, List, length}
 use Rattle.mc_words.specs.Places.{IsWidth}
 use Rattle.mc_words.specs.declared.shape.Shape.{Shape}
+use Rattle.mc_shared.specs.Records.{ReaderRecord}
 use Rattle.mc_shards.specs.Openings.{RefusesShards}
 use Rattle.mc_shards.specs.Sharded.{Sharded}
 use Rattle.mc_shards.specs.declared.opening.OpenShardsError.{OpenShardsError}
 use Rattle.mc_shards.specs.declared.opening.OpenShardsError.TheVariants as error
 use Rattle.mc_door.specs.AnySides.{role_in, width_of}
-use Rattle.mc_door.specs.NewPasses.{IsNewPass}
+use Rattle.mc_door.specs.NewPasses.{IsNewPass, IsPassOf}
 use Rattle.cefrodil.specs.Open.{kept}
 use Rattle.cefrodil.specs.Openings.{Keeps, RefusesAsked, open_status}
 use Rattle.cefrodil.specs.RawShapes.{HasMix, IsShapeOf}
 use Rattle.cefrodil.specs.declared.shape.RawShape.{RawShape}
 use Rattle.cefrodil.specs.declared.raw_handle.RawHandle.{RawHandle}
 use Rattle.mc_door.specs.declared.status.TheConstants.{SHARDS}
+
+-- one of these passes of the shards, for values of this many words
+abbrev pub IsPassAt : Sharded → ℕ → List (List ReaderRecord) → RawHandle → Type 0
+IsPassAt s words passes slot = Keeps (λ h. (width_of h ≡ words) × IsPassOf s passes (role_in h)) (kept slot)
 
 -- a new pass of these shards, for values of this many words
 abbrev pub IsNewPassAt : Sharded → ℕ → RawHandle → Type 0

@@ -18,6 +18,7 @@ mod opening;
 mod puts_by_width;
 pub mod raw_handle;
 mod shape;
+mod shard_loading;
 mod sharding;
 mod swaps;
 mod unboxed;

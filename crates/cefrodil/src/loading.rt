@@ -31,7 +31,7 @@ fn are_entries(words: usize, entry_words: usize, count: usize) -> bool
 }
 
 // The requested shape, or the first fault before those that the cache reports.
-fn asked_with(
+pub(crate) fn asked_with(
     shape: &RawShape,
     words: usize,
     entry_words: usize,
@@ -46,7 +46,7 @@ fn asked_with(
     asked(shape, words)
 }
 
-fn tell_done(statuses: &mut [u32])
+pub(crate) fn tell_done(statuses: &mut [u32])
     ensures { All (λ status. status ≡ OK) statuses.new }
 {
     for status in statuses.iter_mut() {
@@ -55,7 +55,7 @@ fn tell_done(statuses: &mut [u32])
 }
 
 // The statuses of the entries that were left. The others are reported as done.
-fn tell_left(left: &[(usize, Why)], statuses: &mut [u32])
+pub(crate) fn tell_left(left: &[(usize, Why)], statuses: &mut [u32])
     requires done { All (λ status. status ≡ OK) statuses.old }
     requires named { All (λ l. l.0 < length statuses.old) left.now }
     ensures { EachIndex statuses.new (λ i. slice_index statuses.new i ≡ entry_status left.now i) }

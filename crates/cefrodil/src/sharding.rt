@@ -1,8 +1,8 @@
 //! Handles of shards are opened.
 ghost use Rattle.std.specs.Prelude.{◌≡◌, ◌≢◌, All, length, true};
-ghost use Rattle.mc_door.specs.NewPasses.{count_on, shards_on, width_on};
+ghost use Rattle.mc_door.specs.NewPasses.{count_on, passes_on, shards_on, width_on};
 ghost use Rattle.cefrodil.specs.Openings.{IsClosed, RefusesHandles};
-ghost use Rattle.cefrodil.specs.ShardOpenings.{AreShardPasses, IsNewPassAt, RefusesOpenShards, shards_status};
+ghost use Rattle.cefrodil.specs.ShardOpenings.{AreShardPasses, IsPassAt, RefusesOpenShards, shards_status};
 
 use crate::opening::{all_closed, asked, boxed, close_all, count_of, status_of};
 use crate::raw_handle::RawHandle;
@@ -22,9 +22,9 @@ pub(crate) fn status_of_shards(why: OpenShardsError) -> u32
 
 // A pass for each of the slots. `false` if there is no memory.
 #[tactic(auto, using(crate::proofs::ShardFilling::all_passes))]
-fn fill_passes(alloc: Global, mut rest: ShardRest, slots: &mut [RawHandle]) -> bool
+pub(crate) fn fill_passes(alloc: Global, mut rest: ShardRest, slots: &mut [RawHandle]) -> bool
     requires { (count_on rest ≡ length slots.old) × All IsClosed slots.old }
-    ensures { result ≡ true → All (IsNewPassAt (shards_on rest) (width_on rest)) slots.new }
+    ensures { result ≡ true → All (IsPassAt (shards_on rest) (width_on rest) (passes_on rest)) slots.new }
 {
     for slot in slots.iter_mut() {
         let Ok(given) = rest.next() else {
@@ -42,7 +42,7 @@ fn fill_passes(alloc: Global, mut rest: ShardRest, slots: &mut [RawHandle]) -> b
 }
 
 // The handles are closed.
-#[tactic(auto, using(crate::proofs::ShardFilling::are_shard_passes, crate::proofs::ShardFilling::refused_so_many_passes))]
+#[tactic(auto, using(crate::proofs::ShardFilling::refused_so_many_passes))]
 fn open_all_shards(
     alloc: Global,
     shape: &RawShape,

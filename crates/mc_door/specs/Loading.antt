@@ -1,9 +1,13 @@
 -- A cache that was opened with entries, given one after the other as words.
-use Rattle.std.specs.Prelude.{ℕ, zero, suc, ◌≡◌, List, [], ◌∷◌, drop, take}
+use Rattle.std.specs.Prelude.{ℕ, zero, suc, ◌≡◌, All, List, [], ◌∷◌, drop, take}
 use Rattle.mc_cache.specs.Plain.{TakesOrNames, history}
 use Rattle.mc_plan.specs.Loads.{Loads}
 use Rattle.mc_plan.specs.declared.answer.Why.{Why}
-use Rattle.mc_shared.specs.Records.{Opening, WriterRecord}
+use Rattle.mc_words.specs.declared.history.Change.{Change}
+use Rattle.mc_shared.specs.Records.{Opening, ReaderRecord, WriterRecord}
+use Rattle.mc_shards.specs.Loadings.{HaveLoaded, HoldEntries}
+use Rattle.mc_shards.specs.Plain.{seens}
+use Rattle.mc_shards.specs.Sharded.{Sharded}
 use Rattle.mc_theory.specs.States.{opening}
 use Rattle.mc_door.specs.Roles.{Role, Writes}
 
@@ -22,3 +26,11 @@ pub record HasLoaded (V : ℕ) (o : Opening) (entries : List (ℕ × List ℕ)) 
 abbrev pub IsLoadedWriter : (V : ℕ) → Opening → List (ℕ × List ℕ) → List (ℕ × Why) → Role → Type 0
 IsLoadedWriter V o entries left (Writes w) = HasLoaded V o entries left w
 IsLoadedWriter V o entries left role = ⊥
+
+-- these passes of new shards have seen the puts of these entries, each in its key's shard, and nothing else. The entries that were left are
+-- named, with the reason
+pub record HaveSeenLoads (V : ℕ) (s : Sharded) (entries : List (ℕ × List ℕ)) (left : List (ℕ × Why)) (passes : List (List ReaderRecord)) : Type 0 where
+  pub loaded : HaveLoaded V s.shape entries s.tables passes left
+  pub histories : List (List (Change V))
+  pub plain : HoldEntries V s.shape entries histories left
+  pub seen : All (λ rs. seens V rs ≡ histories) passes

@@ -1,5 +1,6 @@
 -- Passes of shards that were opened just now.
-use Rattle.std.specs.Prelude.{ℕ, ◌≡◌, length}
+use Rattle.std.specs.Prelude.{ℕ, ◌≡◌, ◌++◌, All, List, [], ◌∷◌, Some, length, slice_get}
+use Rattle.mc_shared.specs.Records.{ReaderRecord}
 use Rattle.mc_shards.specs.Openings.{HasSeenNothing}
 use Rattle.mc_shards.specs.Sharded.{ArePassOf, Sharded}
 use Rattle.mc_door.specs.Roles.{Role, Shares}
@@ -11,7 +12,21 @@ abbrev pub IsNewPass : ℕ → Sharded → Role → Type 0
 IsNewPass V s (Shares s' rs) = (s' ≡ s) × ArePassOf s rs × HasSeenNothing V rs
 IsNewPass V s role = ⊥
 
--- of the passes that are left: the width of values, their shards, and how many they are
+-- these passes of new shards have seen no change of any shard
+pub record HaveSeenNothing (V : ℕ) (passes : List (List ReaderRecord)) : Type 0 where
+  pub each : All (HasSeenNothing V) passes
+
+-- one of these passes of the shards
+abbrev pub IsPassOf : Sharded → List (List ReaderRecord) → Role → Type 0
+IsPassOf s passes (Shares s' rs) = (s' ≡ s) × ArePassOf s rs × ((n : ℕ) × (slice_get passes n ≡ Some rs))
+IsPassOf s passes role = ⊥
+
+-- the last of these passes of the shards, given out: the others are left
+abbrev pub IsLastPass : Sharded → List (List ReaderRecord) → List (List ReaderRecord) → Role → Type 0
+IsLastPass s passes others (Shares s' rs) = (s' ≡ s) × ArePassOf s rs × (passes ≡ others ++ rs ∷ [])
+IsLastPass s passes others role = ⊥
+
+-- of the passes that are left: the width of values, their shards, and what each of them has of the shards
 abbrev pub width_on : ShardRest → ℕ
 width_on (One s) = 1
 width_on (Two s) = 2
@@ -32,12 +47,16 @@ shards_on (Six s) = s.shards.value
 shards_on (Seven s) = s.shards.value
 shards_on (Eight s) = s.shards.value
 
+abbrev pub passes_on : ShardRest → List (List ReaderRecord)
+passes_on (One s) = s.passes.items
+passes_on (Two s) = s.passes.items
+passes_on (Three s) = s.passes.items
+passes_on (Four s) = s.passes.items
+passes_on (Five s) = s.passes.items
+passes_on (Six s) = s.passes.items
+passes_on (Seven s) = s.passes.items
+passes_on (Eight s) = s.passes.items
+
+-- how many they are
 abbrev pub count_on : ShardRest → ℕ
-count_on (One s) = length s.passes.items
-count_on (Two s) = length s.passes.items
-count_on (Three s) = length s.passes.items
-count_on (Four s) = length s.passes.items
-count_on (Five s) = length s.passes.items
-count_on (Six s) = length s.passes.items
-count_on (Seven s) = length s.passes.items
-count_on (Eight s) = length s.passes.items
+count_on rest = length (passes_on rest)

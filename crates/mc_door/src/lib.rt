@@ -47,6 +47,6 @@ pub use new_sides::NewSides;
 pub use onto_desk::MakeDeskError;
 pub use outcome::{EVICTED, NOTHING, Outcome, RENEWED, RawPut, RawReply, STORED};
 pub use rest::{Rest, open, open_desk, open_with};
-pub use shard_rest::{ShardRest, open_shards};
+pub use shard_rest::{ShardRest, open_shards, open_shards_with};
 pub use side::Side;
 pub use write::{Swap, Write};

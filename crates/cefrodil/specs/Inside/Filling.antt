@@ -1,12 +1,13 @@
 -- Handles are opened one after the other.
-use Rattle.std.specs.Prelude.{ℕ, ◌≡◌, ◌+◌, List, length, true}
+use Rattle.std.specs.Prelude.{ℕ, ◌≡◌, ◌+◌, List, Some, length, slice_get, true}
 use Rattle.std.specs.List.{AllWithin}
-use Rattle.mc_door.specs.NewPasses.{count_on, shards_on, width_on}
+use Rattle.mc_shared.specs.Records.{ReaderRecord}
+use Rattle.mc_door.specs.NewPasses.{count_on, passes_on, shards_on, width_on}
 use Rattle.mc_door.specs.NewSides.{count_in, has_desk_in, opening_in, width_in}
 use Rattle.mc_door.specs.declared.rest.Rest.{Rest}
 use Rattle.mc_door.specs.declared.shard_rest.ShardRest.{ShardRest}
 use Rattle.cefrodil.specs.Openings.{IsClosed, IsNewAt}
-use Rattle.cefrodil.specs.ShardOpenings.{IsNewPassAt}
+use Rattle.cefrodil.specs.ShardOpenings.{IsPassAt}
 use Rattle.cefrodil.specs.declared.raw_handle.RawHandle.{RawHandle}
 
 abbrev pub IsOpen : RawHandle → Type 0
@@ -21,12 +22,17 @@ pub record IsFilledTo (Waits : RawHandle → Type 0) (first rest : Rest) (slots 
   pub filled : AllWithin (IsNewAt (opening_in first) (has_desk_in first) (width_in first)) slots 0 n
   pub waiting : AllWithin Waits slots n (length slots)
 
+-- these passes are among the first, each in its place
+abbrev pub AreAmong : List (List ReaderRecord) → List (List ReaderRecord) → Type 0
+AreAmong first passes = (k : ℕ) (rs : List ReaderRecord) → slice_get passes k ≡ Some rs → slice_get first k ≡ Some rs
+
 -- the first n handles have a pass of the new shards, the others are closed, and as many passes are left
 pub record HasPassesTo (first rest : ShardRest) (slots : List RawHandle) (n : ℕ) : Type 0 where
   pub shards : shards_on rest ≡ shards_on first
   pub width : width_on rest ≡ width_on first
   pub left : count_on rest + n ≡ length slots
-  pub filled : AllWithin (IsNewPassAt (shards_on first) (width_on first)) slots 0 n
+  pub among : AreAmong (passes_on first) (passes_on rest)
+  pub filled : AllWithin (IsPassAt (shards_on first) (width_on first) (passes_on first)) slots 0 n
   pub closed : AllWithin IsClosed slots n (length slots)
 
 -- the first n handles are open, the others closed

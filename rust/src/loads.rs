@@ -1,0 +1,32 @@
+//! Entries with which a cache is opened, as the words that the library takes.
+use crate::error::{OpenError, Why};
+use crate::handle::same_version;
+use crate::memory::room;
+use crate::raw;
+
+/// Each entry as its key and then its value, and the status of each.
+pub struct Loads {
+    pub words: Vec<u64>,
+    pub statuses: Vec<u32>,
+}
+
+impl Loads {
+    pub fn of<const WORDS: usize>(entries: &[(u64, [u64; WORDS])]) -> Result<Loads, OpenError> {
+        same_version()?;
+        let mut words = room(entries.len() * (1 + WORDS))?;
+        for (key, value) in entries {
+            words.push(*key);
+            words.extend_from_slice(value);
+        }
+        let mut statuses = room(entries.len())?;
+        statuses.resize(entries.len(), raw::OK);
+        Ok(Loads { words, statuses })
+    }
+
+    /// The index of each entry that was left out, and the reason.
+    pub fn left(&self) -> Result<Vec<(usize, Why)>, OpenError> {
+        let mut left = room(self.statuses.iter().filter(|status| **status != raw::OK).count())?;
+        left.extend(self.statuses.iter().enumerate().filter_map(|(index, status)| Some((index, Why::of(*status)?))));
+        Ok(left)
+    }
+}
