@@ -21,33 +21,33 @@ pub keeps_more : (P Q : AnySide → Type 0) (b : Option AnySide) → ((h : AnySi
 keeps_more P Q none more has = absurd has
 keeps_more P Q (some h) more has = more h has
 
-pub filled_more : (Waits : RawHandle → Type 0) (first rest rest' : Rest) (slots : List RawHandle) (n : ℕ) (slot : RawHandle) (held : AnySide) → IsFilledTo Waits first rest slots n → n < length slots
-    → opening_in rest' ≡ opening_in rest → has_desk_in rest' ≡ has_desk_in rest → width_in rest' ≡ width_in rest → kept slot ≡ some held
+pub filled_more : (Waits : RawHandle → Type 0) (first rest rest' : Rest) (handles : List RawHandle) (n : ℕ) (handle : RawHandle) (held : AnySide) → IsFilledTo Waits first rest handles n → n < length handles
+    → opening_in rest' ≡ opening_in rest → has_desk_in rest' ≡ has_desk_in rest → width_in rest' ≡ width_in rest → kept handle ≡ some held
     → width_of held ≡ width_in rest → IsNewSide (opening_in rest) (has_desk_in rest) (role_in held) → count_in rest ≡ count_in rest' + 1
-    → IsFilledTo Waits first rest' (set slots n slot) (n + 1)
-filled_more Waits first rest rest' slots n slot held f lt opening desk width is wide new one = record {
+    → IsFilledTo Waits first rest' (set handles n handle) (n + 1)
+filled_more Waits first rest rest' handles n handle held f lt opening desk width is wide new one = record {
   opening = opening ∙ f.opening;
   desk = desk ∙ f.desk;
   width = width ∙ f.width;
-  left = omega (arith, f.left, one, length-set slots n slot);
-  filled = AllWithin-more_set slots n slot lt (IsNewAt (opening_in first) (has_desk_in first) (width_in first)) f.filled
-      (keeps (λ h. (width_of h ≡ width_in first) × IsNewSide (opening_in first) (has_desk_in first) (role_in h)) (kept slot) held is
+  left = omega (arith, f.left, one, length-set handles n handle);
+  filled = AllWithin-more_set handles n handle lt (IsNewAt (opening_in first) (has_desk_in first) (width_in first)) f.filled
+      (keeps (λ h. (width_of h ≡ width_in first) × IsNewSide (opening_in first) (has_desk_in first) (role_in h)) (kept handle) held is
       (wide ∙ f.width, subst (λ (o : Opening). IsNewSide o (has_desk_in first) (role_in held)) f.opening (subst (λ (d : Bool). IsNewSide (opening_in rest) d (role_in held)) f.desk new)));
-  waiting = λ k d low high. let other : k ≢ n = omega arith in let within : k < length slots = omega (arith, length-set slots n slot) in
+  waiting = λ k d low high. let other : k ≢ n = omega arith in let within : k < length handles = omega (arith, length-set handles n handle) in
       rw get_or-set_other (f.waiting k d (omega arith) within);
 }
 
-pub all_filled : (Waits : RawHandle → Type 0) (first rest : Rest) (slots : List RawHandle) (n : ℕ) → IsFilledTo Waits first rest slots n → n ≡ length slots
-    → All (IsNewAt (opening_in first) (has_desk_in first) (width_in first)) slots
-all_filled Waits first rest slots n f end =
-    All-from_all_within (IsNewAt (opening_in first) (has_desk_in first) (width_in first)) slots (subst (λ (k : ℕ). Rattle.std.specs.List.AllWithin (IsNewAt (opening_in first) (has_desk_in first) (width_in first)) slots 0 k) end f.filled)
+pub all_filled : (Waits : RawHandle → Type 0) (first rest : Rest) (handles : List RawHandle) (n : ℕ) → IsFilledTo Waits first rest handles n → n ≡ length handles
+    → All (IsNewAt (opening_in first) (has_desk_in first) (width_in first)) handles
+all_filled Waits first rest handles n f end =
+    All-from_all_within (IsNewAt (opening_in first) (has_desk_in first) (width_in first)) handles (subst (λ (k : ℕ). Rattle.std.specs.List.AllWithin (IsNewAt (opening_in first) (has_desk_in first) (width_in first)) handles 0 k) end f.filled)
 
-pub placed_more : (slots : List RawHandle) (n : ℕ) (slot : RawHandle) → HasPlacesTo slots n → n < length slots → IsOpen slot → HasPlacesTo (set slots n slot) (n + 1)
-placed_more slots n slot p lt live = record {
-  places = AllWithin-more_set slots n slot lt IsOpen p.places live;
-  closed = λ k d low high. let other : k ≢ n = omega arith in let within : k < length slots = omega (arith, length-set slots n slot) in
+pub placed_more : (handles : List RawHandle) (n : ℕ) (handle : RawHandle) → HasPlacesTo handles n → n < length handles → IsOpen handle → HasPlacesTo (set handles n handle) (n + 1)
+placed_more handles n handle p lt live = record {
+  places = AllWithin-more_set handles n handle lt IsOpen p.places live;
+  closed = λ k d low high. let other : k ≢ n = omega arith in let within : k < length handles = omega (arith, length-set handles n handle) in
       rw get_or-set_other (p.closed k d (omega arith) within);
 }
 
-pub all_placed : (slots : List RawHandle) (n : ℕ) → HasPlacesTo slots n → n ≡ length slots → All IsOpen slots
-all_placed slots n p end = All-from_all_within IsOpen slots (subst (λ (k : ℕ). Rattle.std.specs.List.AllWithin IsOpen slots 0 k) end p.places)
+pub all_placed : (handles : List RawHandle) (n : ℕ) → HasPlacesTo handles n → n ≡ length handles → All IsOpen handles
+all_placed handles n p end = All-from_all_within IsOpen handles (subst (λ (k : ℕ). Rattle.std.specs.List.AllWithin IsOpen handles 0 k) end p.places)

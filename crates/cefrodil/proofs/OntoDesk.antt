@@ -12,12 +12,12 @@ use Rattle.cefrodil.specs.Openings.{IsNewAt}
 use Rattle.cefrodil.specs.declared.raw_handle.RawHandle.{RawHandle}
 use Rattle.cefrodil.proofs.Opened.{all_at}
 
-pub are_desk_passes : (h : AnySide) (rest : Rest) (slots : List RawHandle) → WritesTo (opening_in rest) (role_in h) → has_desk_in rest ≡ true → width_in rest ≡ width_of h
-    → All (IsNewAt (opening_in rest) (has_desk_in rest) (width_in rest)) slots → AreDeskPasses h slots
-are_desk_passes h rest slots writes desk wide all = record {
+pub are_desk_passes : (h : AnySide) (rest : Rest) (handles : List RawHandle) → WritesTo (opening_in rest) (role_in h) → has_desk_in rest ≡ true → width_in rest ≡ width_of h
+    → All (IsNewAt (opening_in rest) (has_desk_in rest) (width_in rest)) handles → AreDeskPasses h handles
+are_desk_passes h rest handles writes desk wide all = record {
   opening = opening_in rest;
   of = writes;
-  has_passes = all_at rest true (width_of h) slots desk wide all;
+  has_passes = all_at rest true (width_of h) handles desk wide all;
 }
 
 -- the pass that the writer's handle keeps is one of them

@@ -24,10 +24,10 @@ use Rattle.mc_door.specs.declared.status.TheConstants.{NO_MEMORY}
 use Rattle.cefrodil.proofs.Filling.{keeps}
 
 -- the same, of what is known of the sides
-pub all_at : (first : Rest) (desk : Bool) (words : ℕ) (slots : List RawHandle) → has_desk_in first ≡ desk → width_in first ≡ words
-    → All (IsNewAt (opening_in first) (has_desk_in first) (width_in first)) slots → All (IsNewAt (opening_in first) desk words) slots
-all_at first desk words slots is wide new =
-    subst (λ (d : Bool). All (IsNewAt (opening_in first) d words) slots) is (subst (λ (w : ℕ). All (IsNewAt (opening_in first) (has_desk_in first) w) slots) wide new)
+pub all_at : (first : Rest) (desk : Bool) (words : ℕ) (handles : List RawHandle) → has_desk_in first ≡ desk → width_in first ≡ words
+    → All (IsNewAt (opening_in first) (has_desk_in first) (width_in first)) handles → All (IsNewAt (opening_in first) desk words) handles
+all_at first desk words handles is wide new =
+    subst (λ (d : Bool). All (IsNewAt (opening_in first) d words) handles) is (subst (λ (w : ℕ). All (IsNewAt (opening_in first) (has_desk_in first) w) handles) wide new)
 
 -- as many readers as handles were given out, so the writer keeps the others
 pub keeps_spares : (cut asked handles : ℕ) (writer : RawHandle) (held : AnySide) → HasReaders cut → (HasReaders cut ↔ HasReaders asked) → (HasReaders asked → cut ≡ asked) → handles ≡ asked

@@ -65,26 +65,26 @@ taken s first passes others (Passes r) among given = absurd given
 taken s first passes others Idle among given = absurd given
 
 -- one more handle has its pass
-pub passes_more : (first rest rest' : ShardRest) (slots : List RawHandle) (n : ℕ) (slot : RawHandle) (held : AnySide) → HasPassesTo first rest slots n → n < length slots
-    → shards_on rest' ≡ shards_on rest → width_on rest' ≡ width_on rest → kept slot ≡ some held → IsGiven rest rest' held → HasPassesTo first rest' (set slots n slot) (n + 1)
-passes_more first rest rest' slots n slot held f lt shards width is new =
+pub passes_more : (first rest rest' : ShardRest) (handles : List RawHandle) (n : ℕ) (handle : RawHandle) (held : AnySide) → HasPassesTo first rest handles n → n < length handles
+    → shards_on rest' ≡ shards_on rest → width_on rest' ≡ width_on rest → kept handle ≡ some held → IsGiven rest rest' held → HasPassesTo first rest' (set handles n handle) (n + 1)
+passes_more first rest rest' handles n handle held f lt shards width is new =
     let given = taken (shards_on rest) (passes_on first) (passes_on rest) (passes_on rest') (role_in held) f.among new.1 in record {
       shards = shards ∙ f.shards;
       width = width ∙ f.width;
-      left = omega (arith, f.left, given.2, length-set slots n slot);
+      left = omega (arith, f.left, given.2, length-set handles n handle);
       among = given.1;
-      filled = AllWithin-more_set slots n slot lt (IsPassAt (shards_on first) (width_on first) (passes_on first)) f.filled
-          (keeps (λ h. (width_of h ≡ width_on first) × IsPassOf (shards_on first) (passes_on first) (role_in h)) (kept slot) held is
+      filled = AllWithin-more_set handles n handle lt (IsPassAt (shards_on first) (width_on first) (passes_on first)) f.filled
+          (keeps (λ h. (width_of h ≡ width_on first) × IsPassOf (shards_on first) (passes_on first) (role_in h)) (kept handle) held is
           (new.0 ∙ f.width, subst (λ (s : Sharded). IsPassOf s (passes_on first) (role_in held)) f.shards given.0));
-      closed = λ k d low high. let other : k ≢ n = omega arith in let within : k < length slots = omega (arith, length-set slots n slot) in
+      closed = λ k d low high. let other : k ≢ n = omega arith in let within : k < length handles = omega (arith, length-set handles n handle) in
           rw get_or-set_other (f.closed k d (omega arith) within);
     }
 
-pub all_passes : (first rest : ShardRest) (slots : List RawHandle) (n : ℕ) → HasPassesTo first rest slots n → n ≡ length slots
-    → All (IsPassAt (shards_on first) (width_on first) (passes_on first)) slots
-all_passes first rest slots n f end =
-    All-from_all_within (IsPassAt (shards_on first) (width_on first) (passes_on first)) slots
-    (subst (λ (k : ℕ). Rattle.std.specs.List.AllWithin (IsPassAt (shards_on first) (width_on first) (passes_on first)) slots 0 k) end f.filled)
+pub all_passes : (first rest : ShardRest) (handles : List RawHandle) (n : ℕ) → HasPassesTo first rest handles n → n ≡ length handles
+    → All (IsPassAt (shards_on first) (width_on first) (passes_on first)) handles
+all_passes first rest handles n f end =
+    All-from_all_within (IsPassAt (shards_on first) (width_on first) (passes_on first)) handles
+    (subst (λ (k : ℕ). Rattle.std.specs.List.AllWithin (IsPassAt (shards_on first) (width_on first) (passes_on first)) handles 0 k) end f.filled)
 
 -- a pass is new, as all of them are
 new_pass : (V : ℕ) (s : Sharded) (passes : List (List ReaderRecord)) (role : Role) → All (HasSeenNothing V) passes → IsPassOf s passes role → IsNewPass V s role

@@ -18,11 +18,11 @@ use Rattle.mc_door.specs.declared.status.TheConstants.{SHARDS}
 
 -- one of these passes of the shards, for values of this many words
 abbrev pub IsPassAt : Sharded → ℕ → List (List ReaderRecord) → RawHandle → Type 0
-IsPassAt s words passes slot = Keeps (λ h. (width_of h ≡ words) × IsPassOf s passes (role_in h)) (kept slot)
+IsPassAt s words passes handle = Keeps (λ h. (width_of h ≡ words) × IsPassOf s passes (role_in h)) (kept handle)
 
 -- a new pass of these shards, for values of this many words
 abbrev pub IsNewPassAt : Sharded → ℕ → RawHandle → Type 0
-IsNewPassAt s words slot = Keeps (λ h. (width_of h ≡ words) × IsNewPass words s (role_in h)) (kept slot)
+IsNewPassAt s words handle = Keeps (λ h. (width_of h ≡ words) × IsNewPass words s (role_in h)) (kept handle)
 
 -- the passes of `shards` new shards, each of the requested shape
 pub record AreShardPasses (raw : RawShape) (shards words : ℕ) (passes : List RawHandle) : Type 0 where

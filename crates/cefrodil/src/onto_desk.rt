@@ -24,35 +24,35 @@ fn status_of_desk(why: MakeDeskError) -> u32
 
 // Opens the handles, with nothing behind them yet. `false` if there is no memory.
 #[tactic(auto, using(crate::proofs::Filling::all_placed))]
-fn make_places(alloc: Global, slots: &mut [RawHandle]) -> bool
-    requires { All IsClosed slots.old }
-    ensures { result ≡ true → All IsOpen slots.new }
+fn make_places(alloc: Global, handles: &mut [RawHandle]) -> bool
+    requires { All IsClosed handles.old }
+    ensures { result ≡ true → All IsOpen handles.new }
 {
-    for slot in slots.iter_mut() {
+    for handle in handles.iter_mut() {
         let Some(place) = boxed(alloc, AnySide::nothing()) else {
             return false;
         };
-        slot.put(place);
+        handle.put(place);
     }
     true
 }
 
 // Puts a pass behind each of the open handles. `false` if a pass can't have a share of the desk: then at least one pass is left.
 #[tactic(auto, using(crate::proofs::Filling::all_filled))]
-fn give_passes(rest: &mut Rest, slots: &mut [RawHandle]) -> bool
-    requires { (count_in rest.old ≡ length slots.old) × All IsOpen slots.old }
+fn give_passes(rest: &mut Rest, handles: &mut [RawHandle]) -> bool
+    requires { (count_in rest.old ≡ length handles.old) × All IsOpen handles.old }
     ensures same { (opening_in rest.new ≡ opening_in rest.old) × (has_desk_in rest.new ≡ has_desk_in rest.old) × (width_in rest.new ≡ width_in rest.old) }
-    ensures given { result ≡ true → All (IsNewAt (opening_in rest.old) (has_desk_in rest.old) (width_in rest.old)) slots.new }
+    ensures given { result ≡ true → All (IsNewAt (opening_in rest.old) (has_desk_in rest.old) (width_in rest.old)) handles.new }
     ensures left { result ≡ false → 1 ≤ count_in rest.new }
 {
-    for slot in slots.iter_mut() {
+    for handle in handles.iter_mut() {
         let Ok(given) = rest.next() else {
             return false;
         };
         let Some(held) = given else {
             unreachable!();
         };
-        slot.replace(held);
+        handle.replace(held);
     }
     true
 }

@@ -32,23 +32,23 @@ pub(crate) fn status_of(why: OpenError) -> u32
     }
 }
 
-pub(crate) fn all_closed(slots: &[RawHandle]) -> bool
-    ensures yes { result ≡ true → All IsClosed slots.now }
-    ensures no { result ≡ false → ¬ All IsClosed slots.now }
+pub(crate) fn all_closed(handles: &[RawHandle]) -> bool
+    ensures yes { result ≡ true → All IsClosed handles.now }
+    ensures no { result ≡ false → ¬ All IsClosed handles.now }
 {
-    for slot in slots {
-        if slot.is_live() {
+    for handle in handles {
+        if handle.is_live() {
             return false;
         }
     }
     true
 }
 
-pub(crate) fn close_all(alloc: Global, slots: &mut [RawHandle])
-    ensures { All IsClosed slots.new }
+pub(crate) fn close_all(alloc: Global, handles: &mut [RawHandle])
+    ensures { All IsClosed handles.new }
 {
-    for slot in slots.iter_mut() {
-        drop(slot.take(alloc));
+    for handle in handles.iter_mut() {
+        drop(handle.take(alloc));
     }
 }
 
@@ -62,13 +62,13 @@ pub(crate) fn boxed<T: Drop>(alloc: Global, value: T) -> Option<Box<T, Global>>
     }
 }
 
-// A side for each of the slots. `false` if there is no memory.
+// A side for each of the handles. `false` if there is no memory.
 #[tactic(auto, using(crate::proofs::Filling::all_filled))]
-fn fill(alloc: Global, mut rest: Rest, slots: &mut [RawHandle]) -> bool
-    requires { (count_in rest ≡ length slots.old) × All IsClosed slots.old }
-    ensures { result ≡ true → All (IsNewAt (opening_in rest) (has_desk_in rest) (width_in rest)) slots.new }
+fn fill(alloc: Global, mut rest: Rest, handles: &mut [RawHandle]) -> bool
+    requires { (count_in rest ≡ length handles.old) × All IsClosed handles.old }
+    ensures { result ≡ true → All (IsNewAt (opening_in rest) (has_desk_in rest) (width_in rest)) handles.new }
 {
-    for slot in slots.iter_mut() {
+    for handle in handles.iter_mut() {
         let Ok(given) = rest.next() else {
             return false;
         };
@@ -78,7 +78,7 @@ fn fill(alloc: Global, mut rest: Rest, slots: &mut [RawHandle]) -> bool
         let Some(held) = boxed(alloc, held) else {
             return false;
         };
-        slot.put(held);
+        handle.put(held);
     }
     true
 }

@@ -71,11 +71,11 @@ impl RawHandle {
 
 // Makes a call with what is behind the handle, in place. If the handle is closed, the reply says that instead.
 macro_rules! told_of_handle {
-    ($slot:ident, $reply:ident, $held:ident => $status:expr) => {{
-        if !$slot.live {
+    ($handle:ident, $reply:ident, $held:ident => $status:expr) => {{
+        if !$handle.live {
             return mc_door::Outcome::plain(mc_door::status::CLOSED).tell($reply);
         }
-        let $held = $slot.handle.held();
+        let $held = $handle.handle.held();
         $status
     }};
 }
@@ -84,7 +84,7 @@ pub(crate) use told_of_handle;
 
 fn crosses<T: Send>(_value: &T) {}
 
-/// It is proved only if C may hand a slot to another thread. It does nothing when it runs.
-pub fn slots_cross(slot: &RawHandle) {
-    crosses(slot);
+/// It is proved only if C may hand a handle to another thread. It does nothing when it runs.
+pub fn handles_cross(handle: &RawHandle) {
+    crosses(handle);
 }

@@ -20,13 +20,13 @@ pub(crate) fn status_of_shards(why: OpenShardsError) -> u32
     }
 }
 
-// A pass for each of the slots. `false` if there is no memory.
+// A pass for each of the handles. `false` if there is no memory.
 #[tactic(auto, using(crate::proofs::ShardFilling::all_passes))]
-pub(crate) fn fill_passes(alloc: Global, mut rest: ShardRest, slots: &mut [RawHandle]) -> bool
-    requires { (count_on rest ≡ length slots.old) × All IsClosed slots.old }
-    ensures { result ≡ true → All (IsPassAt (shards_on rest) (width_on rest) (passes_on rest)) slots.new }
+pub(crate) fn fill_passes(alloc: Global, mut rest: ShardRest, handles: &mut [RawHandle]) -> bool
+    requires { (count_on rest ≡ length handles.old) × All IsClosed handles.old }
+    ensures { result ≡ true → All (IsPassAt (shards_on rest) (width_on rest) (passes_on rest)) handles.new }
 {
-    for slot in slots.iter_mut() {
+    for handle in handles.iter_mut() {
         let Ok(given) = rest.next() else {
             return false;
         };
@@ -36,7 +36,7 @@ pub(crate) fn fill_passes(alloc: Global, mut rest: ShardRest, slots: &mut [RawHa
         let Some(held) = boxed(alloc, held) else {
             return false;
         };
-        slot.put(held);
+        handle.put(held);
     }
     true
 }

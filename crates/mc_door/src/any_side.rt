@@ -36,7 +36,7 @@ pub enum AnySide {
     Eight(Side<8>),
 }
 
-/// What is done with the side that a `AnySide` is, whatever its width.
+/// What is done with the side that an `AnySide` is, whatever its width.
 #[macro_export]
 macro_rules! with_side {
     ($held:expr, $side:ident => $done:expr) => {

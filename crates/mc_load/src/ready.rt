@@ -21,7 +21,7 @@ use mc_cache::{Cache, Writer};
 use std::alloc::{AllocError, Global};
 
 /// A single writer, in a list of its own.
-pub(crate) fn writing_of<'p, const V: usize>(
+pub(crate) fn writer_thread_of<'p, const V: usize>(
     alloc: Global,
     load: Load,
     cache: &'p Cache<V>,
@@ -69,7 +69,7 @@ fn stream_of(writer: u32) -> u64
 }
 
 /// One of the writers that take turns.
-pub(crate) fn trying_of<'p, const V: usize>(
+pub(crate) fn turn_thread_of<'p, const V: usize>(
     alloc: Global,
     load: Load,
     handle: Handle<'p, V>,
@@ -120,7 +120,7 @@ fn looking_of<'p, const V: usize>(
 }
 
 /// The readers, each with one of these handles. Each asks for `many` keys at once.
-pub(crate) fn lookings_of<'p, const V: usize>(
+pub(crate) fn reader_threads_of<'p, const V: usize>(
     alloc: Global,
     load: Load,
     many: u32,

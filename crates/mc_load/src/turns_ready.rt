@@ -13,7 +13,7 @@ use crate::asked::Load;
 use crate::dated::Dated;
 use crate::handle::Handle;
 use crate::reader_thread::ReaderThread;
-use crate::ready::{lookings_of, trying_of};
+use crate::ready::{reader_threads_of, turn_thread_of};
 use crate::turn_thread::TurnThread;
 use mc_cache::Change;
 use mc_check::Record;
@@ -49,7 +49,7 @@ pub(crate) fn seats_of(readers: u32, writers: u32) -> u32
 }
 
 /// The writers, each with one of the last handles.
-fn tryings_of<'p, const V: usize>(
+fn turn_threads_of<'p, const V: usize>(
     alloc: Global,
     load: Load,
     writers: u32,
@@ -68,7 +68,7 @@ fn tryings_of<'p, const V: usize>(
         let Some(handle) = handles.pop() else {
             unreachable!();
         };
-        tryings.push(trying_of(alloc, load, handle, number)?)?;
+        tryings.push(turn_thread_of(alloc, load, handle, number)?)?;
     }
     Ok(tryings)
 }
@@ -102,8 +102,8 @@ pub(crate) fn seat_workers<'p, const V: usize>(
     ensures { (s : Sharded) → All (λ h. place_of h ≡ s) handles.entry.items → IfOk result (AreSeated V s load writers) }
 {
     let audit = audit_of(alloc, load, writers)?;
-    let tryings = tryings_of(alloc, load, writers, &mut handles)?;
-    let lookings = lookings_of(alloc, load, 1, handles)?;
+    let tryings = turn_threads_of(alloc, load, writers, &mut handles)?;
+    let lookings = reader_threads_of(alloc, load, 1, handles)?;
     Ok(Seated {
         tryings,
         lookings,

@@ -11,7 +11,7 @@ use crate::error::LoadError;
 use crate::gate::Gate;
 use crate::handle::Handle;
 use crate::handles::cache_handles;
-use crate::ready::{lookings_of, writing_of};
+use crate::ready::{reader_threads_of, writer_thread_of};
 use crate::refusing::refused_lookup;
 use crate::report::Report;
 use crate::run::run_all;
@@ -40,10 +40,10 @@ fn run_workers<const V: usize, R: Threads + Sync, G: Gate>(
     requires of { All (λ h. cache_of h ≡ Some cache.now) handles.items }
     ensures { MatchResult result (Reports V load) (RefusesLoad (G.may_refuse gate.now) load) }
 {
-    let Ok(mut writings) = writing_of(alloc, load, cache, writer) else {
+    let Ok(mut writings) = writer_thread_of(alloc, load, cache, writer) else {
         return Err(LoadError::NoMemory);
     };
-    let Ok(mut lookings) = lookings_of(alloc, load, many, handles) else {
+    let Ok(mut lookings) = reader_threads_of(alloc, load, many, handles) else {
         return Err(LoadError::NoMemory);
     };
     run_all(rt, gate, load, &mut writings, &mut lookings);

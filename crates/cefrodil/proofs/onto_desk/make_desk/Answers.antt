@@ -16,4 +16,4 @@ returns-then-not-give_passes-clause-refused c =
 pub returns-clause-made : goal.returns-clause-made
 returns-clause-made c =
     let made = c.in-Ok.ensures.made in
-    λ _. are_desk_passes c.args.held.now c.in-Ok.rest c.give_passes.new.slots made.0 made.1 made.3 (c.if-not-give_passes.ensures.given refl)
+    λ _. are_desk_passes c.args.held.now c.in-Ok.rest c.give_passes.new.handles made.0 made.1 made.3 (c.if-not-give_passes.ensures.given refl)

@@ -11,5 +11,5 @@ returns-then-not-fill_passes-clause-refused c =
 pub returns-clause-opened : goal.returns-clause-opened
 returns-clause-opened c =
     let made = c.in-Ok-open_shards.ensures in
-    λ _. are_shard_passes c.args.shape.now c.args.shards c.args.words c.fill_passes.new.slots c.in-Ok.shape c.in-Ok-open_shards.rest c.in-Ok.ensures.2 made.refused.0 made.refused.1 made.rest.0
+    λ _. are_shard_passes c.args.shape.now c.args.shards c.args.words c.fill_passes.new.handles c.in-Ok.shape c.in-Ok-open_shards.rest c.in-Ok.ensures.2 made.refused.0 made.refused.1 made.rest.0
     made.fresh (c.if-not-fill_passes.ensures refl)

@@ -38,14 +38,14 @@ report_of-requires g c =
     let cache = ap (λ q. q.now) end.cache ∙ c.in-Ok.ensures.of 0 x low in
     let written : HasWritten V load load.writes x = subst (λ (o : Option ℕ). IfNone o (HasWritten V load load.writes x)) c.in_default-refused.is end.written in
     let ls = c.run_all.new.readers.items in
-    let looked = c.in-Ok-lookings_of.lookings in
+    let looked = c.in-Ok-reader_threads_of.lookings in
     let read = c.run_all.ensures.read in
     let same = read.0 in
-    let len : vec_len c.run_all.new.readers ≡ load.readers = omega (arith, same, c.in-Ok-lookings_of.ensures.len, looked.ok.0, c.run_all.new.readers.ok.0) in
+    let len : vec_len c.run_all.new.readers ≡ load.readers = omega (arith, same, c.in-Ok-reader_threads_of.ensures.len, looked.ok.0, c.run_all.new.readers.ok.0) in
     let most = c.requires.asked.1.1 in
-    let ended = all_ended may load looked.items ls c.in-Ok-lookings_of.ensures.ready read in
+    let ended = all_ended may load looked.items ls c.in-Ok-reader_threads_of.ensures.ready read in
     let whole : AreWhole ls = subst (λ (z : List (ReaderThread V)). AreWhole z) c.as_slice.ensures.value c.in-None.ensures.none in
-    let of = still_readers may load c.args.cache.now looked.items ls (c.in-Ok-lookings_of.ensures.of c.args.cache.now c.requires.of) read in (
+    let of = still_readers may load c.args.cache.now looked.items ls (c.in-Ok-reader_threads_of.ensures.of c.args.cache.now c.requires.of) read in (
       omega arith,
       (
         omega arith,

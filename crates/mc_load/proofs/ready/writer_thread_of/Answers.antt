@@ -5,7 +5,7 @@ use Rattle.mc_load.specs.Inside.Workers.{CanWrite}
 use Rattle.mc_load.specs.declared.writer_thread.WriterThread.{WriterThread}
 use Rattle.mc_load.proofs.Each.{each_more}
 use Rattle.mc_load.proofs.Histories.{history_none, made_none}
-use Rattle.mc_load.proofs.ready.writing_of.Goals as goal
+use Rattle.mc_load.proofs.ready.writer_thread_of.Goals as goal
 
 pub returns-clause-can : goal.returns-clause-can
 returns-clause-can g c =

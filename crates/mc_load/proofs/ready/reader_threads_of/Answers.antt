@@ -5,7 +5,7 @@ use Rattle.mc_load.specs.Inside.Handles.{cache_of}
 use Rattle.mc_load.specs.Inside.Workers.{AreReadersOf, AreReady, IsReady}
 use Rattle.mc_load.specs.declared.handle.Handle.{Handle}
 use Rattle.mc_load.specs.declared.reader_thread.ReaderThread.{ReaderThread}
-use Rattle.mc_load.proofs.ready.lookings_of.Goals as goal
+use Rattle.mc_load.proofs.ready.reader_threads_of.Goals as goal
 
 pub loop-handle-preserved : goal.loop-handle-preserved
 loop-handle-preserved g c =

@@ -4,7 +4,7 @@ use Rattle.mc_shared.specs.Records.{Opening}
 use Rattle.mc_load.specs.Inside.Handles.{cache_of}
 use Rattle.mc_load.specs.Inside.Workers.{AreReadersOf, AreReady}
 use Rattle.mc_load.specs.declared.handle.Handle.{Handle}
-use Rattle.mc_load.proofs.ready.lookings_of.Given as goal
+use Rattle.mc_load.proofs.ready.reader_threads_of.Given as goal
 
 abbrev pub invariant-loop-handle : goal.invariant-loop-handle
 invariant-loop-handle g l = record {

@@ -1,6 +1,6 @@
 use Rattle.std.proofs.Common.{rules, refl}
 use Rattle.mc_load.proofs.Tries.{tried_none}
-use Rattle.mc_load.proofs.ready.trying_of.Goals as goal
+use Rattle.mc_load.proofs.ready.turn_thread_of.Goals as goal
 
 pub returns : goal.returns
 returns g c = λ s of. record {

@@ -4,7 +4,7 @@ use Rattle.mc_shards.specs.Sharded.{Sharded}
 use Rattle.mc_load.specs.Inside.Handles.{place_of}
 use Rattle.mc_load.specs.declared.handle.Handle.{Handle}
 use Rattle.mc_load.specs.Inside.Tries.{CanAllTry}
-use Rattle.mc_load.proofs.turns_ready.tryings_of.Given as goal
+use Rattle.mc_load.proofs.turns_ready.turn_threads_of.Given as goal
 
 abbrev pub invariant-loop-number : goal.invariant-loop-number
 invariant-loop-number g l = record {
