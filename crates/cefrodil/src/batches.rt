@@ -22,7 +22,7 @@ fn put<const V: usize>(side: &mut Side<V>, key: u64, value: &[u64]) -> RawPut
     RawPut::of(Outcome { status, reply })
 }
 
-// Puts the keys one after the other, after the loads ahead of each group.
+// Puts the keys one after the other. Before each group its words are loaded ahead.
 #[inline(never)]
 fn put_singly<const V: usize>(
     side: &mut Side<V>,
@@ -59,8 +59,8 @@ fn put_all<const V: usize>(side: &mut Side<V>, keys: &[u64], values: &[u64], ans
     }
 }
 
-// Puts each key, whatever the width.
-fn put_each(held: &mut AnySide, keys: &[u64], values: &[u64], answers: &mut [RawPut])
+// Puts the keys by a side of any width.
+fn put_at_width(held: &mut AnySide, keys: &[u64], values: &[u64], answers: &mut [RawPut])
     requires answers { length answers.old ≡ length keys.now }
     requires values { length values.now ≡ length keys.now * width_of held.old }
     ensures width { width_of held.new ≡ width_of held.old }
@@ -78,7 +78,7 @@ fn put_many(held: &mut AnySide, keys: &[u64], values: &[u64], answers: &mut [Raw
     if keys.len().checked_mul(held.words()) != Some(values.len()) {
         return WIDTH;
     }
-    put_each(held, keys, values, answers);
+    put_at_width(held, keys, values, answers);
     OK
 }
 

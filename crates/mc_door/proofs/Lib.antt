@@ -3,6 +3,5 @@ pub mod MoreEntries
 pub mod NewReaders
 pub mod ListedWords
 pub mod AnySideLists
-pub mod ShardTries
 pub mod ManyPuts
 pub mod Groups

@@ -16,7 +16,7 @@ use Rattle.mc_door.specs.Roles.{Role}
 use Rattle.mc_door.specs.Tellings.{plain, swap_if_told, swap_told, take_if_told, take_told, turn_told}
 use Rattle.mc_door.specs.Means.{CanChange}
 use Rattle.mc_door.specs.Tells.{HasTold}
-use Rattle.mc_door.specs.Turns.{HasTried}
+use Rattle.mc_door.specs.Turns.{HasCalledBy}
 use Rattle.mc_door.specs.declared.status.TheConstants.{KIND, WIDTH}
 use Rattle.mc_door.specs.declared.outcome.Outcome.{Outcome}
 use Rattle.mc_door.specs.declared.write.Swap.{Swap}
@@ -64,7 +64,7 @@ SwapIs V Is key (call.RemoveIf since) v = Is (Replaced V) IfError (take_if_contr
 abbrev pub SwapMeans : (V : ℕ) → Role → Role → ℕ → Swap → List ℕ → List ℕ → List ℕ → Outcome → Type 0
 SwapMeans V role role' key call v old new told =
     (swap_words V call v ≡ V)
-    × SwapIs V (λ T E c tells old_of. HasTold (turn_told tells) (λ a. HasTried role role' key c a × (new ≡ left_by (old_of_turn old_of a) old)) told) key call v
+    × SwapIs V (λ T E c tells old_of. HasTold (turn_told tells) (λ a. HasCalledBy role role' key c a × (new ≡ left_by (old_of_turn old_of a) old)) told) key call v
 
 -- the call was made; or the first that applies: the side has no such call, or the value or the words for the old one have another width.
 -- Then nothing was done

@@ -29,9 +29,9 @@ HasMadeAtOnce c w w' (Ok done) = HasMade c w.of (Ok done) w w'
 HasMadeAtOnce c w w' (Err desk.Held) = ⊥
 HasMadeAtOnce c w w' (Err (desk.Call why)) = HasMade c w.of (Err why) w w'
 
--- whoever makes the call of this key
-abbrev pub HasTried : {V : ℕ} {T E : Type 0} → Role → Role → ℕ → Contract V T E → Result T (DeskError E) → Type 0
-HasTried (Writes w) (Writes w') key c tried = HasMadeAtOnce c w w' tried
-HasTried (Passes r) (Passes r') key c tried = (r'.of ≡ r.of) × HasTriedAtDesk c r.of.layout.shape r r' tried
-HasTried (Shares s rs) (Shares s' rs') key c tried = (s' ≡ s) × HasTriedAtShard c s key rs rs' tried
-HasTried _ _ key c tried = ⊥
+-- a call of this key by the writer, or by a pass, which tries for the turn. No other side makes calls
+abbrev pub HasCalledBy : {V : ℕ} {T E : Type 0} → Role → Role → ℕ → Contract V T E → Result T (DeskError E) → Type 0
+HasCalledBy (Writes w) (Writes w') key c tried = HasMadeAtOnce c w w' tried
+HasCalledBy (Passes r) (Passes r') key c tried = (r'.of ≡ r.of) × HasTriedAtDesk c r.of.layout.shape r r' tried
+HasCalledBy (Shares s rs) (Shares s' rs') key c tried = (s' ≡ s) × HasTriedAtShard c s key rs rs' tried
+HasCalledBy _ _ key c tried = ⊥

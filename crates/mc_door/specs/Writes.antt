@@ -12,7 +12,7 @@ use Rattle.mc_door.specs.Roles.{Role}
 use Rattle.mc_door.specs.Tellings.{put_if_absent_told, put_if_told, put_told, removal_told, turn_told}
 use Rattle.mc_door.specs.Means.{CanChange}
 use Rattle.mc_door.specs.Tells.{HasTold, Tells}
-use Rattle.mc_door.specs.Turns.{HasTried}
+use Rattle.mc_door.specs.Turns.{HasCalledBy}
 use Rattle.mc_door.specs.declared.outcome.Outcome.{Outcome}
 use Rattle.mc_door.specs.declared.write.Write.{Write}
 use Rattle.mc_door.specs.declared.write.Write.TheVariants as call
@@ -33,7 +33,7 @@ WriteIs V Is key call.Remove v = Is Remove Spent (remove_contract V key) removal
 -- a write by the writer, or by a pass, which tries for the turn
 abbrev pub WriteMeans : (V : ℕ) → Role → Role → ℕ → Write → List ℕ → Outcome → Type 0
 WriteMeans V role role' key call v told =
-    (words_in V call v ≡ V) × WriteIs V (λ T E c tells. HasTold (turn_told tells) (λ a. HasTried role role' key c a) told) key call v
+    (words_in V call v ≡ V) × WriteIs V (λ T E c tells. HasTold (turn_told tells) (λ a. HasCalledBy role role' key c a) told) key call v
 
 -- what writes return. `Same`: the side is unchanged
 abbrev pub WriteTells : (V : ℕ) → Role → Role → Type 0 → ℕ → Write → List ℕ → Outcome → Type 0

@@ -1,7 +1,7 @@
 //! Whoever makes calls that change the map: the writer at once, a pass in a turn that it tries for.
 ghost use Rattle.std.specs.Prelude.{◌≡◌, Err};
 ghost use Rattle.mc_cache.specs.declared.desk.DeskError.TheVariants.{Held};
-ghost use Rattle.mc_door.specs.Turns.{HasTried};
+ghost use Rattle.mc_door.specs.Turns.{HasCalledBy};
 
 use mc_cache::DeskError;
 use mc_cache::turn::TurnCall;
@@ -13,8 +13,9 @@ pub(crate) trait Caller<const V: usize> {
     // What contracts see of it.
     ghost role: { Self → Role };
 
-    /// Makes a call of this key. `Held` if that needs a turn, and the one try for it did not win: then nothing was done.
+    /// Makes the call. The key is the one that it uses, and selects the shard. `Held` if that needs a turn, and the one try for it did not
+    /// win: then nothing was done.
     fn try_call<T, E, C: TurnCall<V, T, E>>(&mut self, key: u64, call: C) -> Result<T, DeskError<E>>
-        ensures tried { HasTried (role self.old) (role self.new) key (C.contract call) result }
+        ensures tried { HasCalledBy (role self.old) (role self.new) key (C.contract call) result }
         ensures held { result ≡ Err Held → role self.new ≡ role self.old };
 }

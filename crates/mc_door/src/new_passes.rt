@@ -19,7 +19,7 @@ use mc_words::{NoMemory, can_shard};
 use std::alloc::Global;
 use std::sync::Arc;
 
-// The first fault of the request, if there is one.
+// The first fault of the request, if there is one. It is looked for before memory is taken, so that a lack of memory comes last.
 fn check_shards(shape: Shape, shards: u32, passes: u32) -> Result<(), OpenShardsError>
     ensures { MatchResult result (λ _. HasShards shards × IsShape shape × HasReaders passes) (λ e. RefusesShards shape shards passes e) }
 {

@@ -52,13 +52,13 @@ impl<const V: usize> PassSide<V> {
 
 impl<const V: usize> Caller<V> for PassSide<V> {
     ghost use Rattle.mc_door.specs.Roles.{Passes};
-    ghost use Rattle.mc_door.specs.Turns.{HasTried};
+    ghost use Rattle.mc_door.specs.Turns.{HasCalledBy};
 
     ghost role = { λ s. Passes s.pass };
 
     #[inline(always)]
     fn try_call<T, E, C: TurnCall<V, T, E>>(&mut self, key: u64, call: C) -> Result<T, DeskError<E>>
-        ensures tried { HasTried (Passes self.old.pass) (Passes self.new.pass) key (C.contract call) result }
+        ensures tried { HasCalledBy (Passes self.old.pass) (Passes self.new.pass) key (C.contract call) result }
         ensures held { result ≡ Err Held → Passes self.new.pass ≡ Passes self.old.pass }
     {
         let _key = key;

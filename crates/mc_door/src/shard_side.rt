@@ -52,13 +52,13 @@ impl<const V: usize> ShardSide<V> {
 
 impl<const V: usize> Caller<V> for ShardSide<V> {
     ghost use Rattle.mc_door.specs.Roles.{Shares};
-    ghost use Rattle.mc_door.specs.Turns.{HasTried};
+    ghost use Rattle.mc_door.specs.Turns.{HasCalledBy};
 
     ghost role = { λ s. Shares s.shards.value s.pass };
 
     #[inline(always)]
     fn try_call<T, E, C: TurnCall<V, T, E>>(&mut self, key: u64, call: C) -> Result<T, DeskError<E>>
-        ensures tried { HasTried (Shares self.old.shards.value self.old.pass) (Shares self.new.shards.value self.new.pass) key (C.contract call) result }
+        ensures tried { HasCalledBy (Shares self.old.shards.value self.old.pass) (Shares self.new.shards.value self.new.pass) key (C.contract call) result }
         ensures held { result ≡ Err Held → Shares self.new.shards.value self.new.pass ≡ Shares self.old.shards.value self.old.pass }
     {
         self.pass.try_call(&self.shards, key, call)

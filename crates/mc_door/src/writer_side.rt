@@ -43,13 +43,13 @@ impl<const V: usize> WriterSide<V> {
 
 impl<const V: usize> Caller<V> for WriterSide<V> {
     ghost use Rattle.mc_door.specs.Roles.{Writes};
-    ghost use Rattle.mc_door.specs.Turns.{HasTried};
+    ghost use Rattle.mc_door.specs.Turns.{HasCalledBy};
 
     ghost role = { λ s. Writes s.writer };
 
     #[inline(always)]
     fn try_call<T, E, C: TurnCall<V, T, E>>(&mut self, key: u64, call: C) -> Result<T, DeskError<E>>
-        ensures tried { HasTried (Writes self.old.writer) (Writes self.new.writer) key (C.contract call) result }
+        ensures tried { HasCalledBy (Writes self.old.writer) (Writes self.new.writer) key (C.contract call) result }
         ensures held { result ≡ Err Held → Writes self.new.writer ≡ Writes self.old.writer }
     {
         let _key = key;

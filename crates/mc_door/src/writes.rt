@@ -1,7 +1,7 @@
 //! The writes of one key, each by whoever makes it.
 ghost use Rattle.std.specs.Prelude.{◌≡◌, [], length};
 ghost use Rattle.mc_cache.specs.CallContracts.{put_contract};
-ghost use Rattle.mc_door.specs.Turns.{HasTried};
+ghost use Rattle.mc_door.specs.Turns.{HasCalledBy};
 ghost use Rattle.mc_door.specs.Writes.{WriteMeans, words_in};
 
 use crate::caller::Caller;
@@ -49,7 +49,7 @@ fn try_within<const V: usize, S: Caller<V>>(
     key: u64,
     value: &[u64; V],
 ) -> Result<Put, DeskError<PutError>>
-    ensures { HasTried (S.role side.old) (S.role side.new) key (put_contract V key value.now) result }
+    ensures { HasCalledBy (S.role side.old) (S.role side.new) key (put_contract V key value.now) result }
 {
     for _ in 1..tries {
         match side.try_call(key, Putting(key, value)) {

@@ -93,7 +93,7 @@ pub(crate) fn turn_thread_of<'p, const V: usize>(
 }
 
 /// A reader.
-fn looking_of<'p, const V: usize>(
+fn reader_thread_of<'p, const V: usize>(
     alloc: Global,
     load: Load,
     many: u32,
@@ -137,7 +137,7 @@ pub(crate) fn reader_threads_of<'p, const V: usize>(
     let mut lookings = Vec::new(alloc);
     while let Some(handle) = handles.pop() {
         let number = lookings.len() as u32;
-        lookings.push(looking_of(alloc, load, many, handle, number)?)?;
+        lookings.push(reader_thread_of(alloc, load, many, handle, number)?)?;
     }
     Ok(lookings)
 }

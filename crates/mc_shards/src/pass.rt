@@ -74,7 +74,8 @@ impl<const V: usize> Pass<V> {
         lender.try_peek(cache, reader, key)
     }
 
-    /// Tries once for the turn of the key's shard, and with it makes the call. Condition: the pass belongs to these shards.
+    /// Tries once for the turn of the key's shard, and with it makes the call. The key must be the one that the call uses. Nothing checks
+    /// that, and no lookup finds what is put in another shard. Condition: the pass belongs to these shards.
     #[inline(always)]
     pub fn try_call<T, E, C: TurnCall<V, T, E>>(
         &mut self,

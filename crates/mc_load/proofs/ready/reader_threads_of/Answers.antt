@@ -16,16 +16,16 @@ loop-handle-preserved g c =
     let rest = c.pop.new.self.items in
     let h = c.in-Some.handle in
     let ls = c.loop-handle.lookings.items in
-    let l = c.in_ok-looking_of.field-0 in
+    let l = c.in_ok-reader_thread_of.field-0 in
     let one : length xs ≡ length rest + 1 = ap length c.in-Some.ensures.items ∙ length-append rest (h ∷ []) in
     let more : length c.push.new.self.items ≡ length ls + 1 = ap length c.in_ok-push.ensures.items ∙ length-append ls (l ∷ []) in
     let place : c.len-number.result ≡ length ls = search rules in
     record {
       many = omega (arith, one, more, was.many);
-      ready = subst (AreReady V load) (sym c.in_ok-push.ensures.items) (each_more (IsReady V load) ls l was.ready (subst (λ (k : ℕ). IsReady V load k l) place c.in_ok-looking_of.ensures.ready));
+      ready = subst (AreReady V load) (sym c.in_ok-push.ensures.items) (each_more (IsReady V load) ls l was.ready (subst (λ (k : ℕ). IsReady V load k l) place c.in_ok-reader_thread_of.ensures.ready));
       rest = λ o all. each_front (λ k (x : Handle V). cache_of x ≡ Some o) xs rest h c.in-Some.ensures.items (was.rest o all);
       of = λ o all.
           subst (AreReadersOf o) (sym c.in_ok-push.ensures.items)
           (each_more (λ k (x : ReaderThread V). cache_of x.handle ≡ Some o) ls l (was.of o all)
-          (ap (λ (x : Handle V). cache_of x) c.in_ok-looking_of.ensures.handle ∙ each_last (λ k (x : Handle V). cache_of x ≡ Some o) xs rest h c.in-Some.ensures.items (was.rest o all)));
+          (ap (λ (x : Handle V). cache_of x) c.in_ok-reader_thread_of.ensures.handle ∙ each_last (λ k (x : Handle V). cache_of x ≡ Some o) xs rest h c.in-Some.ensures.items (was.rest o all)));
     }
