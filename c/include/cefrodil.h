@@ -284,10 +284,11 @@ CEFRODIL_CHECKED CEFRODIL_NO_NULL cefrodil_status cefrodil_put_if_absent(cefrodi
  * OK and ABSENT: `at` is set. SPENT, HELD, CLOSED, KIND. */
 CEFRODIL_CHECKED CEFRODIL_NO_NULL cefrodil_status cefrodil_remove(cefrodil_handle *handle, uint64_t key, cefrodil_reply *reply);
 
-/* Puts `key_count` keys. Equivalent to calling cefrodil_put for each key in order, but a pass of a desk tries for one turn for every 16 keys:
- * all 16 answers are HELD and nothing was changed, or the 16 puts follow each other with no change of another thread between them.
- * In a large table the processor then waits for the words of several keys at once, but not by a pass of shards. `values` has one value
- * after the other, so `value_words` must be `key_count` times the words of a value.
+/* Puts `key_count` keys. Equivalent to calling cefrodil_put for each key in order, except by a pass of a desk. That takes the keys in groups
+ * of 16 (the last may be smaller), and tries once for a turn for each group: either all answers of a group are HELD and none of its keys was
+ * put, or its puts were made with no change of another thread between them. After a held group the next one is tried, so if you put the held
+ * keys again, their puts come last. In a large table the processor waits for the words of several keys at once, but not by a pass of shards.
+ * `values` has one value after the other, so `value_words` must be `key_count` times the words of a value.
  * OK: answer i is that of key i. CLOSED; BAD_COUNT: `answer_count` is not `key_count`; WIDTH: `value_words` does not match. With these
  * nothing was done, and nothing is written. */
 CEFRODIL_CHECKED CEFRODIL_NO_NULL cefrodil_status cefrodil_put_many(cefrodil_handle *handle, const uint64_t *keys, size_t key_count,

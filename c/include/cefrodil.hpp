@@ -131,8 +131,9 @@ template <size_t Words> class Pass : public Lookups<Words> {
         const cefrodil_status status = cefrodil_put_of_width(this->raw(), key, value.data(), Words, &reply);
         return this->wrote(status, reply);
     }
-    // Puts the keys in order. At a desk every 16 keys have one turn: all of them are held, or no change of another thread comes between
-    // their puts. In shards it is equivalent to try_put for each key.
+    // Puts the keys in order. At a desk each group of 16 keys (the last may be smaller) has one turn: either all its answers are held, or no
+    // change of another thread comes between its puts. A held group does not stop the later ones. In shards each key has a turn, as by
+    // try_put.
     [[nodiscard]] Status try_put_many(const uint64_t *keys, size_t count, const Value *values, cefrodil_put_answer *answers) noexcept {
         return this->template put_words<Words>(keys, count, values, answers);
     }
@@ -164,7 +165,8 @@ template <size_t Words> class Pass : public Lookups<Words> {
     [[nodiscard]] Swapped<Words> try_take(uint64_t key) noexcept { return this->template take_words<Words>(key); }
     [[nodiscard]] Swapped<Words> try_take_if(uint64_t key, uint64_t since) noexcept { return this->template take_words_if<Words>(key, since); }
     // Makes a call by this pass again while it is held: at most `tries` times, at least once, without a pause. `call` takes the pass, and returns
-    // what its call returned: `pass.within(1000, [](auto &pass) { return pass.try_take(7); })`.
+    // what its call returned: `pass.within(1000, [](auto &pass) { return pass.try_take(7); })`. Not for try_put_many, whose answers say what was
+    // held.
     template <class Call> [[nodiscard]] auto within(uint32_t tries, Call call) {
         auto told = call(*this);
         for (uint32_t n = 1; n < tries && inside::status_of(told) == Status::held; n++) {
@@ -235,17 +237,17 @@ template <size_t Words>
 
 namespace inside {
 
-// What became of entries: the statuses that the library writes, and what they are here.
-class Became {
+// The statuses of entries: as the library writes them, and as Status.
+class EntryStatuses {
   public:
-    explicit Became(size_t count) noexcept : count_(count) {}
-    void grow() {
+    explicit EntryStatuses(size_t count) noexcept : count_(count) {}
+    void allocate() {
         raw_.resize(count_);
         told_.resize(count_);
     }
     uint32_t *raw() noexcept { return raw_.data(); }
     size_t count() const noexcept { return count_; }
-    void tell(std::vector<Status> &statuses) noexcept {
+    void move_to(std::vector<Status> &statuses) noexcept {
         for (size_t i = 0; i < count_; i++) {
             told_[i] = static_cast<Status>(raw_[i]);
         }
@@ -260,23 +262,24 @@ class Became {
 
 } // namespace inside
 
-// Opens a cache with entries, each its key and then its value, as Writer::entries lists them. `statuses` says what became of each.
+// Opens a cache with entries, each its key and then its value, as Writer::entries lists them. `statuses` gets the status of each. Unless ok,
+// nothing changes.
 template <size_t Words>
 [[nodiscard]] Status open_with(const cefrodil_shape &shape, size_t count, const std::vector<uint64_t> &entries, Writer<Words> &writer,
                  std::vector<Reader<Words>> &readers, std::vector<Status> &statuses) noexcept {
     count = inside::allowed(count);
-    inside::Became became(entries.size() / (1 + Words));
+    inside::EntryStatuses became(entries.size() / (1 + Words));
     std::shared_ptr<inside::Lines> lines;
     const auto grow = [&] {
         lines = inside::lines_for(count);
-        became.grow();
+        became.allocate();
     };
     const Status status = inside::open_all(readers, count, lines, grow, [&](cefrodil_handle *raw, size_t many) {
         return cefrodil_open_with_or_none(&shape, Words, entries.data(), entries.size(), became.raw(), became.count(), writer.raw(), raw, many);
     });
     if (status == Status::ok) {
         inside::Counting::in(writer, lines);
-        became.tell(statuses);
+        became.move_to(statuses);
     }
     return status;
 }
@@ -310,7 +313,7 @@ template <size_t Words> [[nodiscard]] Status make_desk(Writer<Words> &writer, si
     return status;
 }
 
-// Opens a cache of `shards` shards: `count` passes.
+// Opens a cache of `shards` shards with `count` passes, which replace those in `passes`. Unless ok, `passes` is unchanged.
 template <size_t Words>
 [[nodiscard]] Status open_shards(const cefrodil_shape &shape, uint32_t shards, size_t count, std::vector<Pass<Words>> &passes) noexcept {
     count = inside::allowed(count);
@@ -321,23 +324,23 @@ template <size_t Words>
     });
 }
 
-// Opens a cache of `shards` shards with entries, as Writer::entries and Pass::try_entries list them: `count` passes. `statuses` says what became
-// of each entry. Unless ok, `passes` and `statuses` are unchanged.
+// Opens a cache of `shards` shards with `count` passes, which replace those in `passes`, and puts these entries, as Writer::entries and
+// Pass::try_entries list them. `statuses` gets the status of each entry. Unless ok, nothing changes.
 template <size_t Words>
 [[nodiscard]] Status open_shards_with(const cefrodil_shape &shape, uint32_t shards, size_t count, const std::vector<uint64_t> &entries,
                                       std::vector<Pass<Words>> &passes, std::vector<Status> &statuses) noexcept {
     count = inside::allowed(count);
-    inside::Became became(entries.size() / (1 + Words));
+    inside::EntryStatuses became(entries.size() / (1 + Words));
     std::shared_ptr<inside::Lines> lines;
     const auto grow = [&] {
         lines = inside::lines_for(count);
-        became.grow();
+        became.allocate();
     };
     const Status status = inside::open_all(passes, count, lines, grow, [&](cefrodil_handle *raw, size_t many) {
         return cefrodil_open_shards_with_or_none(&shape, shards, Words, entries.data(), entries.size(), became.raw(), became.count(), raw, many);
     });
     if (status == Status::ok) {
-        became.tell(statuses);
+        became.move_to(statuses);
     }
     return status;
 }

@@ -11,6 +11,7 @@ pub struct Loads {
 }
 
 impl Loads {
+    /// The words of these entries, and room for their statuses. Fails if the archive has another version, or without memory.
     pub fn of<const WORDS: usize>(entries: &[(u64, [u64; WORDS])]) -> Result<Loads, OpenError> {
         same_version()?;
         let mut words = room(entries.len() * (1 + WORDS))?;

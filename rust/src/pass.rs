@@ -108,8 +108,9 @@ impl<const WORDS: usize> Pass<'_, WORDS> {
         reply::turn(self.handle().put_within(tries, key, value), Put::of)
     }
 
-    /// Puts the entries in order, each as [`try_put`](Pass::try_put) does. At a desk every 16 entries have one turn: all of them are
-    /// [`Held`](TurnError::Held), or no change of another thread comes between their puts. In shards each has a turn of its own.
+    /// Puts the entries in order. At a desk each group of 16 entries (the last may be smaller) has one turn: either all its answers are
+    /// [`Held`](TurnError::Held), or no change of another thread comes between its puts. A held group does not stop the later ones. In
+    /// shards each entry has a turn, as by [`try_put`](Pass::try_put).
     ///
     /// # Panics
     ///

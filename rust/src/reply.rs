@@ -159,7 +159,7 @@ impl<const WORDS: usize> Reply<WORDS> {
     }
 }
 
-// How many keys one call of the archive gets: two groups, of which a pass of a desk puts each in one turn.
+// How many keys one call of the archive gets: a multiple of 16, so that the groups of a desk's pass begin where the caller's do.
 const KEYS_A_CALL: usize = 32;
 
 /// Looks the keys up in order.
