@@ -260,6 +260,24 @@ class EntryStatuses {
     std::vector<Status> told_{};
 };
 
+// Opens all of these, with entries. `statuses` gets the status of each entry.
+template <class Kind, class Open>
+Status open_all_with(std::vector<Kind> &all, size_t count, std::shared_ptr<Lines> &lines, size_t entries, std::vector<Status> &statuses,
+                     Open open) noexcept {
+    EntryStatuses told(entries);
+    const auto grow = [&] {
+        lines = lines_for(count);
+        told.allocate();
+    };
+    const Status status = open_all(all, count, lines, grow, [&](cefrodil_handle *raw, size_t many) {
+        return open(told.raw(), told.count(), raw, many);
+    });
+    if (status == Status::ok) {
+        told.move_to(statuses);
+    }
+    return status;
+}
+
 } // namespace inside
 
 // Opens a cache with entries, each its key and then its value, as Writer::entries lists them. `statuses` gets the status of each. Unless ok,
@@ -268,18 +286,13 @@ template <size_t Words>
 [[nodiscard]] Status open_with(const cefrodil_shape &shape, size_t count, const std::vector<uint64_t> &entries, Writer<Words> &writer,
                  std::vector<Reader<Words>> &readers, std::vector<Status> &statuses) noexcept {
     count = inside::allowed(count);
-    inside::EntryStatuses became(entries.size() / (1 + Words));
     std::shared_ptr<inside::Lines> lines;
-    const auto grow = [&] {
-        lines = inside::lines_for(count);
-        became.allocate();
+    const auto open = [&](uint32_t *told, size_t many_told, cefrodil_handle *raw, size_t many) {
+        return cefrodil_open_with_or_none(&shape, Words, entries.data(), entries.size(), told, many_told, writer.raw(), raw, many);
     };
-    const Status status = inside::open_all(readers, count, lines, grow, [&](cefrodil_handle *raw, size_t many) {
-        return cefrodil_open_with_or_none(&shape, Words, entries.data(), entries.size(), became.raw(), became.count(), writer.raw(), raw, many);
-    });
+    const Status status = inside::open_all_with(readers, count, lines, entries.size() / (1 + Words), statuses, open);
     if (status == Status::ok) {
         inside::Counting::in(writer, lines);
-        became.move_to(statuses);
     }
     return status;
 }
@@ -330,19 +343,11 @@ template <size_t Words>
 [[nodiscard]] Status open_shards_with(const cefrodil_shape &shape, uint32_t shards, size_t count, const std::vector<uint64_t> &entries,
                                       std::vector<Pass<Words>> &passes, std::vector<Status> &statuses) noexcept {
     count = inside::allowed(count);
-    inside::EntryStatuses became(entries.size() / (1 + Words));
     std::shared_ptr<inside::Lines> lines;
-    const auto grow = [&] {
-        lines = inside::lines_for(count);
-        became.allocate();
+    const auto open = [&](uint32_t *told, size_t many_told, cefrodil_handle *raw, size_t many) {
+        return cefrodil_open_shards_with_or_none(&shape, shards, Words, entries.data(), entries.size(), told, many_told, raw, many);
     };
-    const Status status = inside::open_all(passes, count, lines, grow, [&](cefrodil_handle *raw, size_t many) {
-        return cefrodil_open_shards_with_or_none(&shape, shards, Words, entries.data(), entries.size(), became.raw(), became.count(), raw, many);
-    });
-    if (status == Status::ok) {
-        became.move_to(statuses);
-    }
-    return status;
+    return inside::open_all_with(passes, count, lines, entries.size() / (1 + Words), statuses, open);
 }
 
 } // namespace cefrodil
