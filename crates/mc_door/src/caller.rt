@@ -1,4 +1,4 @@
-//! Whoever makes calls that change the map: the writer at once, a pass in a turn that it tries for.
+//! One call that changes the map, generic over the side that makes it: the writer at once, a pass in a turn that it tries for.
 ghost use Rattle.std.specs.Prelude.{◌≡◌, Err};
 ghost use Rattle.mc_cache.specs.declared.desk.DeskError.TheVariants.{Held};
 ghost use Rattle.mc_door.specs.Turns.{HasCalledBy};

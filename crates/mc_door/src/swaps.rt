@@ -1,4 +1,4 @@
-//! The writes of one key that also return the entry which gives way, each by whoever makes it.
+//! Writes of one key that also return the entry which gives way, generic over the side that makes them.
 ghost use Rattle.std.specs.Prelude.{◌≡◌, [], length};
 ghost use Rattle.mc_words.specs.Places.{IsWidth};
 ghost use Rattle.mc_door.specs.Swaps.{SwapMeans, swap_words};

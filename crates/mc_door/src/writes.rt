@@ -1,4 +1,4 @@
-//! The writes of one key, each by whoever makes it.
+//! Writes of one key, generic over the side that makes them.
 ghost use Rattle.std.specs.Prelude.{◌≡◌, [], length};
 ghost use Rattle.mc_cache.specs.CallContracts.{put_contract};
 ghost use Rattle.mc_door.specs.Turns.{HasCalledBy};

@@ -35,20 +35,20 @@ fn wrong_answers<const V: usize>(
     load: Load,
     checker: &Checker<'_, V>,
     share: Share,
-    lookings: &[ReaderThread<'_, V>],
+    reader_threads: &[ReaderThread<'_, V>],
     told: &mut Vec<Record<V>>,
 ) -> u64
     requires width { IsWidth V }
-    requires noted { HaveAllNoted load lookings.now }
+    requires noted { HaveAllNoted load reader_threads.now }
     requires room { load.lookups ≤ vec_capacity told.old }
     ensures capacity { vec_capacity told.new ≡ vec_capacity told.old }
-    ensures right { result ≡ 0 → AreTrueIn share.mix share.shards share.shard checker.now lookings.now }
+    ensures right { result ≡ 0 → AreTrueIn share.mix share.shards share.shard checker.now reader_threads.now }
 {
     let _load = load;
     let mut wrong: u64 = 0;
-    for n in 0..lookings.len() {
+    for n in 0..reader_threads.len() {
         told.clear();
-        append_answers(told, share, lookings[n].records.as_slice());
+        append_answers(told, share, reader_threads[n].records.as_slice());
         wrong = wrong.saturating_add(checker.check(told.as_slice()));
     }
     wrong
@@ -60,25 +60,25 @@ pub(crate) fn check_shard<const V: usize>(
     load: Load,
     share: Share,
     last: u64,
-    tryings: &[TurnThread<'_, V>],
-    lookings: &[ReaderThread<'_, V>],
+    turn_threads: &[TurnThread<'_, V>],
+    reader_threads: &[ReaderThread<'_, V>],
     audit: &mut Audit<V>,
 ) -> u64
     requires width { IsWidth V }
-    requires few { length tryings.now ≤ most_writers }
-    requires tried { HaveTriedWhole load tryings.now }
-    requires noted { HaveAllNoted load lookings.now }
-    requires can { CanAudit V load (length tryings.now) audit.old }
-    ensures can { CanAudit V load (length tryings.now) audit.new }
-    ensures right { result ≡ 0 → IsRightIn share.mix share.shards (all_tries tryings.now) (answers_of lookings.now) share.shard }
+    requires few { length turn_threads.now ≤ most_writers }
+    requires tried { HaveTriedWhole load turn_threads.now }
+    requires noted { HaveAllNoted load reader_threads.now }
+    requires can { CanAudit V load (length turn_threads.now) audit.old }
+    ensures can { CanAudit V load (length turn_threads.now) audit.new }
+    ensures right { result ≡ 0 → IsRightIn share.mix share.shards (all_tries turn_threads.now) (answers_of reader_threads.now) share.shard }
 {
     audit.dated.clear();
-    gather(load, share, tryings, &mut audit.dated);
+    gather(load, share, turn_threads, &mut audit.dated);
     audit.dated.sort_unstable_by_key(|change| change.at);
     let misplaced = misplaced(audit.dated.as_slice(), last);
     audit.history.clear();
     write_history(&mut audit.history, audit.dated.as_slice());
     let checker = Checker::sorted(alloc, audit.history.as_slice());
-    let wrong = wrong_answers(load, &checker, share, lookings, &mut audit.told);
+    let wrong = wrong_answers(load, &checker, share, reader_threads, &mut audit.told);
     wrong.saturating_add(misplaced)
 }

@@ -38,16 +38,16 @@ fn note_lasts<const V: usize>(
 pub(crate) fn last_moments<const V: usize>(
     load: Load,
     shards: u32,
-    tryings: &[TurnThread<'_, V>],
-    lookings: &mut Vec<ReaderThread<'_, V>>,
+    turn_threads: &[TurnThread<'_, V>],
+    reader_threads: &mut Vec<ReaderThread<'_, V>>,
 ) -> [u64; MOST_SHARDS]
     requires shards { HasShards shards }
-    requires noted { HaveAllNoted load lookings.old.items }
-    ensures len { vec_len lookings.new ≡ vec_len lookings.old }
-    ensures noted { HaveAllNoted load lookings.new.items }
+    requires noted { HaveAllNoted load reader_threads.old.items }
+    ensures len { vec_len reader_threads.new ≡ vec_len reader_threads.old }
+    ensures noted { HaveAllNoted load reader_threads.new.items }
 {
     let mut lasts = [0; MOST_SHARDS];
-    let Some(looking) = lookings.pop() else {
+    let Some(thread) = reader_threads.pop() else {
         return lasts;
     };
     let ReaderThread {
@@ -57,12 +57,12 @@ pub(crate) fn last_moments<const V: usize>(
         draws,
         records,
         refused,
-    } = looking;
-    for n in 0..tryings.len() {
-        let journal = tryings[n].journal.as_slice();
+    } = thread;
+    for n in 0..turn_threads.len() {
+        let journal = turn_threads[n].journal.as_slice();
         note_lasts(&mut handle, load.shape.mix, shards, journal, &mut lasts);
     }
-    lookings.push_reserved(ReaderThread {
+    reader_threads.push_reserved(ReaderThread {
         handle,
         number,
         many,

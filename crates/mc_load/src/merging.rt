@@ -53,21 +53,21 @@ fn append<const V: usize>(all: &mut Vec<Dated<V>>, share: Share, journal: &[Date
 pub(crate) fn gather<const V: usize>(
     load: Load,
     share: Share,
-    tryings: &[TurnThread<'_, V>],
+    turn_threads: &[TurnThread<'_, V>],
     all: &mut Vec<Dated<V>>,
 )
     requires width { IsWidth V }
-    requires few { length tryings.now ≤ most_writers }
-    requires tried { HaveTriedWhole load tryings.now }
+    requires few { length turn_threads.now ≤ most_writers }
+    requires tried { HaveTriedWhole load turn_threads.now }
     requires empty { vec_len all.old ≡ 0 }
-    requires room { 2 * load.writes * length tryings.now ≤ vec_capacity all.old }
-    ensures len { vec_len all.new ≤ 2 * load.writes * length tryings.now }
+    requires room { 2 * load.writes * length turn_threads.now ≤ vec_capacity all.old }
+    ensures len { vec_len all.new ≤ 2 * load.writes * length turn_threads.now }
     ensures capacity { vec_capacity all.new ≡ vec_capacity all.old }
-    ensures items { all.new.items ≡ all.old.items ++ journals_in share.mix share.shards share.shard (all_tries tryings.now) }
+    ensures items { all.new.items ≡ all.old.items ++ journals_in share.mix share.shards share.shard (all_tries turn_threads.now) }
 {
     let _load = load;
-    for n in 0..tryings.len() {
-        append(all, share, tryings[n].journal.as_slice());
+    for n in 0..turn_threads.len() {
+        append(all, share, turn_threads[n].journal.as_slice());
     }
 }
 

@@ -38,15 +38,15 @@ pub(crate) fn writer_thread_of<'p, const V: usize>(
 {
     let journal = Vec::with_capacity(alloc, 2 * load.writes as usize)?;
     let draws = Draws::new(load, 0);
-    let mut writings = Vec::with_capacity(alloc, 1)?;
-    writings.push_reserved(WriterThread {
+    let mut writer_threads = Vec::with_capacity(alloc, 1)?;
+    writer_threads.push_reserved(WriterThread {
         cache,
         writer,
         draws,
         journal,
         refused: None,
     });
-    Ok(writings)
+    Ok(writer_threads)
 }
 
 /// The worker that a writer is.
@@ -134,10 +134,10 @@ pub(crate) fn reader_threads_of<'p, const V: usize>(
     ensures ready { IfOk result (λ ls. AreReady V load ls.items) }
     ensures of { (o : Opening) → All (λ h. cache_of h ≡ Some o) handles.entry.items → IfOk result (λ ls. AreReadersOf o ls.items) }
 {
-    let mut lookings = Vec::new(alloc);
+    let mut reader_threads = Vec::new(alloc);
     while let Some(handle) = handles.pop() {
-        let number = lookings.len() as u32;
-        lookings.push(reader_thread_of(alloc, load, many, handle, number)?)?;
+        let number = reader_threads.len() as u32;
+        reader_threads.push(reader_thread_of(alloc, load, many, handle, number)?)?;
     }
-    Ok(lookings)
+    Ok(reader_threads)
 }

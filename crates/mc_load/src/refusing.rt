@@ -9,13 +9,15 @@ use crate::reader_thread::ReaderThread;
 use crate::turn_thread::TurnThread;
 
 /// The first reader's call that the gate refused.
-pub(crate) fn refused_lookup<const V: usize>(lookings: &[ReaderThread<'_, V>]) -> Option<LoadError>
-    requires { length lookings.now ≤ most_readers }
-    ensures none { IfNone result (AreWhole lookings.now) }
-    ensures some { IfSome result (IsFirstRefusal lookings.now) }
+pub(crate) fn refused_lookup<const V: usize>(
+    reader_threads: &[ReaderThread<'_, V>],
+) -> Option<LoadError>
+    requires { length reader_threads.now ≤ most_readers }
+    ensures none { IfNone result (AreWhole reader_threads.now) }
+    ensures some { IfSome result (IsFirstRefusal reader_threads.now) }
 {
-    for n in 0..lookings.len() {
-        match lookings[n].refused {
+    for n in 0..reader_threads.len() {
+        match reader_threads[n].refused {
             Some(call) => {
                 let who = n as u32 + 1;
                 return Some(LoadError::Gate { who, call });
@@ -27,14 +29,14 @@ pub(crate) fn refused_lookup<const V: usize>(lookings: &[ReaderThread<'_, V>]) -
 }
 
 /// The first refusal by the gate among the writers that take turns.
-pub(crate) fn refused_try<const V: usize>(tryings: &[TurnThread<'_, V>]) -> Option<LoadError>
-    ensures none { IfNone result (AreTriesLetThrough tryings.now (length tryings.now)) }
-    ensures some { IfSome result (IsTryRefusal tryings.now) }
+pub(crate) fn refused_try<const V: usize>(turn_threads: &[TurnThread<'_, V>]) -> Option<LoadError>
+    ensures none { IfNone result (AreTriesLetThrough turn_threads.now (length turn_threads.now)) }
+    ensures some { IfSome result (IsTryRefusal turn_threads.now) }
 {
-    for n in 0..tryings.len() {
-        match tryings[n].refused {
+    for n in 0..turn_threads.len() {
+        match turn_threads[n].refused {
             Some(call) => {
-                let who = tryings[n].who;
+                let who = turn_threads[n].who;
                 return Some(LoadError::Gate { who, call });
             }
             None => {}

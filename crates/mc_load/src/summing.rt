@@ -17,19 +17,22 @@ use mc_check::Checker;
 use std::alloc::Global;
 
 /// How many answers of all readers have each kind.
-pub(crate) fn answers_of<const V: usize>(load: Load, lookings: &[ReaderThread<'_, V>]) -> Report
-    requires few { length lookings.now ≤ most_readers }
-    requires noted { HaveAllNoted load lookings.now }
-    ensures lookups { result.lookups ≡ length lookings.now * load.lookups }
+pub(crate) fn answers_of<const V: usize>(
+    load: Load,
+    reader_threads: &[ReaderThread<'_, V>],
+) -> Report
+    requires few { length reader_threads.now ≤ most_readers }
+    requires noted { HaveAllNoted load reader_threads.now }
+    ensures lookups { result.lookups ≡ length reader_threads.now * load.lookups }
     ensures sum { result.found + result.absent + result.busy ≡ result.lookups }
-    ensures found { result.found ≡ total_of is_found (answers_of lookings.now) }
-    ensures absent { result.absent ≡ total_of is_absent (answers_of lookings.now) }
-    ensures busy { result.busy ≡ total_of is_busy (answers_of lookings.now) }
+    ensures found { result.found ≡ total_of is_found (answers_of reader_threads.now) }
+    ensures absent { result.absent ≡ total_of is_absent (answers_of reader_threads.now) }
+    ensures busy { result.busy ≡ total_of is_busy (answers_of reader_threads.now) }
 {
     let _load = load;
     let mut report = Report::none(0, 0);
-    for n in 0..lookings.len() {
-        report.add(Tally::of(lookings[n].records.as_slice()), 0);
+    for n in 0..reader_threads.len() {
+        report.add(Tally::of(reader_threads[n].records.as_slice()), 0);
     }
     report
 }
@@ -38,20 +41,20 @@ pub(crate) fn answers_of<const V: usize>(load: Load, lookings: &[ReaderThread<'_
 fn check_reader<const V: usize>(
     writer: &mut Writer<V>,
     checker: &Checker<'_, V>,
-    looking: ReaderThread<'_, V>,
+    thread: ReaderThread<'_, V>,
 ) -> u64
-    requires of { cache_of looking.handle ≡ Some writer.old.of }
-    requires told { AreAllTold V looking.handle looking.records.items }
+    requires of { cache_of thread.handle ≡ Some writer.old.of }
+    requires told { AreAllTold V thread.handle thread.records.items }
     requires history { checker.now ≡ history_after V writer.old.of.layout.shape writer.old.acts }
     ensures writer { writer.new ≡ writer.old }
     ensures wrong { result ≡ 0 }
-    ensures told { AreTrue (history_after V writer.old.of.layout.shape writer.old.acts) looking.entry.records.items }
+    ensures told { AreTrue (history_after V writer.old.of.layout.shape writer.old.acts) thread.entry.records.items }
 {
     let ReaderThread {
         handle,
         records,
         ..
-    } = looking;
+    } = thread;
     let Handle::Cache(mut held) = handle else {
         unreachable!();
     };
@@ -64,18 +67,18 @@ fn check_reader<const V: usize>(
 fn check_readers<const V: usize>(
     writer: &mut Writer<V>,
     checker: &Checker<'_, V>,
-    mut lookings: Vec<ReaderThread<'_, V>>,
+    mut reader_threads: Vec<ReaderThread<'_, V>>,
 ) -> u64
-    requires of { AreReadersOf writer.old.of lookings.items }
-    requires told { (n : ℕ) (d : ReaderThread V) → n < length lookings.items → AreAllTold V (slice_index_or lookings.items n d).handle (slice_index_or lookings.items n d).records.items }
+    requires of { AreReadersOf writer.old.of reader_threads.items }
+    requires told { (n : ℕ) (d : ReaderThread V) → n < length reader_threads.items → AreAllTold V (slice_index_or reader_threads.items n d).handle (slice_index_or reader_threads.items n d).records.items }
     requires history { checker.now ≡ history_after V writer.old.of.layout.shape writer.old.acts }
     ensures wrong { result ≡ 0 }
-    ensures told { (n : ℕ) (d : ReaderThread V) → n < length lookings.entry.items →
-        AreTrue (history_after V writer.old.of.layout.shape writer.old.acts) (slice_index_or lookings.entry.items n d).records.items }
+    ensures told { (n : ℕ) (d : ReaderThread V) → n < length reader_threads.entry.items →
+        AreTrue (history_after V writer.old.of.layout.shape writer.old.acts) (slice_index_or reader_threads.entry.items n d).records.items }
 {
     let mut wrong = 0;
-    while let Some(looking) = lookings.pop() {
-        wrong += check_reader(writer, checker, looking);
+    while let Some(thread) = reader_threads.pop() {
+        wrong += check_reader(writer, checker, thread);
     }
     wrong
 }
@@ -84,30 +87,30 @@ fn check_readers<const V: usize>(
 pub(crate) fn report_of<const V: usize>(
     alloc: Global,
     load: Load,
-    writing: WriterThread<'_, V>,
-    lookings: Vec<ReaderThread<'_, V>>,
+    writer: WriterThread<'_, V>,
+    reader_threads: Vec<ReaderThread<'_, V>>,
 ) -> Report
     requires width { IsWidth V }
-    requires shape { IsShape load.shape × (writing.cache.now.layout.shape ≡ load.shape) }
-    requires writing { IsWriting V writing.cache.now writing }
-    requires written { HasWritten V load load.writes writing }
-    requires journal { vec_len writing.journal ≤ 2 * load.writes }
-    requires len { vec_len lookings ≡ load.readers }
-    requires few { vec_len lookings ≤ most_readers }
-    requires of { AreReadersOf writing.cache.now lookings.items }
-    requires ended { HaveEnded V load lookings.items }
-    requires noted { HaveAllNoted load lookings.items }
+    requires shape { IsShape load.shape × (writer.cache.now.layout.shape ≡ load.shape) }
+    requires writing { IsWriting V writer.cache.now writer }
+    requires written { HasWritten V load load.writes writer }
+    requires journal { vec_len writer.journal ≤ 2 * load.writes }
+    requires len { vec_len reader_threads ≡ load.readers }
+    requires few { vec_len reader_threads ≤ most_readers }
+    requires of { AreReadersOf writer.cache.now reader_threads.items }
+    requires ended { HaveEnded V load reader_threads.items }
+    requires noted { HaveAllNoted load reader_threads.items }
     ensures { Reports V load result }
 {
     let WriterThread {
         mut writer,
         journal,
         ..
-    } = writing;
+    } = writer;
     let checker = Checker::sorted(alloc, journal.as_slice());
-    let mut report = answers_of(load, lookings.as_slice());
+    let mut report = answers_of(load, reader_threads.as_slice());
     report.writes = u64::from(load.writes);
     report.changes = journal.len() as u64;
-    report.wrong = check_readers(&mut writer, &checker, lookings);
+    report.wrong = check_readers(&mut writer, &checker, reader_threads);
     report
 }

@@ -55,20 +55,20 @@ fn run_workers<const V: usize, R: Threads + Sync, G: Gate>(
         return Err(LoadError::NoMemory);
     };
     let Seated {
-        mut tryings,
-        mut lookings,
+        mut turn_threads,
+        mut reader_threads,
         audit,
     } = seated;
-    run_all(rt, gate, load, &mut tryings, &mut lookings);
-    if let Some(refused) = refused_try(tryings.as_slice()) {
+    run_all(rt, gate, load, &mut turn_threads, &mut reader_threads);
+    if let Some(refused) = refused_try(turn_threads.as_slice()) {
         return Err(refused);
     }
-    if let Some(refused) = refused_lookup(lookings.as_slice()) {
+    if let Some(refused) = refused_lookup(reader_threads.as_slice()) {
         return Err(refused);
     }
     let seated = Seated {
-        tryings,
-        lookings,
+        turn_threads,
+        reader_threads,
         audit,
     };
     Ok(run_of(alloc, load, shards, seated))

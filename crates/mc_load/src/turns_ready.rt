@@ -30,8 +30,8 @@ pub(crate) struct Audit<const V: usize> {
 /// The writers and the readers, and what they are checked with.
 #[derive(Drop)]
 pub(crate) struct Seated<'p, const V: usize> {
-    pub(crate) tryings: Vec<TurnThread<'p, V>>,
-    pub(crate) lookings: Vec<ReaderThread<'p, V>>,
+    pub(crate) turn_threads: Vec<TurnThread<'p, V>>,
+    pub(crate) reader_threads: Vec<ReaderThread<'p, V>>,
     pub(crate) audit: Audit<V>,
 }
 
@@ -63,14 +63,14 @@ fn turn_threads_of<'p, const V: usize>(
     ensures ready { (s : Sharded) → All (λ h. place_of h ≡ s) handles.old.items → IfOk result (λ ts. CanAllTry V s load ts.items) }
     ensures left { IfOk result (λ ts. vec_len handles.new ≡ load.readers) }
 {
-    let mut tryings = Vec::new(alloc);
+    let mut turn_threads = Vec::new(alloc);
     for number in 0..writers {
         let Some(handle) = handles.pop() else {
             unreachable!();
         };
-        tryings.push(turn_thread_of(alloc, load, handle, number)?)?;
+        turn_threads.push(turn_thread_of(alloc, load, handle, number)?)?;
     }
-    Ok(tryings)
+    Ok(turn_threads)
 }
 
 /// What `writers` writers and the readers are checked with.
@@ -102,11 +102,11 @@ pub(crate) fn seat_workers<'p, const V: usize>(
     ensures { (s : Sharded) → All (λ h. place_of h ≡ s) handles.entry.items → IfOk result (AreSeated V s load writers) }
 {
     let audit = audit_of(alloc, load, writers)?;
-    let tryings = turn_threads_of(alloc, load, writers, &mut handles)?;
-    let lookings = reader_threads_of(alloc, load, 1, handles)?;
+    let turn_threads = turn_threads_of(alloc, load, writers, &mut handles)?;
+    let reader_threads = reader_threads_of(alloc, load, 1, handles)?;
     Ok(Seated {
-        tryings,
-        lookings,
+        turn_threads,
+        reader_threads,
         audit,
     })
 }

@@ -21,34 +21,34 @@ use crate::turns_ready::{Audit, Seated};
 use std::alloc::Global;
 
 /// What came of the tries of all writers, and how many changes their answers report.
-fn tries_of<const V: usize>(load: Load, tryings: &[TurnThread<'_, V>]) -> (Turns, u64)
-    requires few { length tryings.now ≤ most_writers }
-    requires tried { HaveTriedWhole load tryings.now }
-    ensures sum { result.0.held + result.0.answered ≡ length tryings.now * load.writes }
+fn tries_of<const V: usize>(load: Load, turn_threads: &[TurnThread<'_, V>]) -> (Turns, u64)
+    requires few { length turn_threads.now ≤ most_writers }
+    requires tried { HaveTriedWhole load turn_threads.now }
+    ensures sum { result.0.held + result.0.answered ≡ length turn_threads.now * load.writes }
     ensures few { result.1 ≤ 2 * result.0.answered }
-    ensures held { result.0.held ≡ sum_by (λ t. t.turns.held) (all_tries tryings.now) }
-    ensures answered { result.0.answered ≡ sum_by (λ t. t.turns.answered) (all_tries tryings.now) }
-    ensures changes { result.1 ≡ sum_by (λ t. length t.journal) (all_tries tryings.now) }
+    ensures held { result.0.held ≡ sum_by (λ t. t.turns.held) (all_tries turn_threads.now) }
+    ensures answered { result.0.answered ≡ sum_by (λ t. t.turns.answered) (all_tries turn_threads.now) }
+    ensures changes { result.1 ≡ sum_by (λ t. length t.journal) (all_tries turn_threads.now) }
 {
     let _load = load;
     let mut turns = Turns::none();
     let mut changes = 0;
-    for n in 0..tryings.len() {
-        turns.add(tryings[n].turns);
-        changes += tryings[n].journal.len() as u64;
+    for n in 0..turn_threads.len() {
+        turns.add(turn_threads[n].turns);
+        changes += turn_threads[n].journal.len() as u64;
     }
     (turns, changes)
 }
 
 /// What came of each writer's tries.
-fn turns_of<const V: usize>(load: Load, tryings: &[TurnThread<'_, V>]) -> [Turns; MOST_WRITERS]
-    requires few { length tryings.now ≤ most_writers }
-    requires tried { HaveTriedWhole load tryings.now }
-    ensures { (n : ℕ) (d : Turns) → n < length tryings.now → (slice_index_or result n d).held + (slice_index_or result n d).answered ≡ load.writes }
+fn turns_of<const V: usize>(load: Load, turn_threads: &[TurnThread<'_, V>]) -> [Turns; MOST_WRITERS]
+    requires few { length turn_threads.now ≤ most_writers }
+    requires tried { HaveTriedWhole load turn_threads.now }
+    ensures { (n : ℕ) (d : Turns) → n < length turn_threads.now → (slice_index_or result n d).held + (slice_index_or result n d).answered ≡ load.writes }
 {
     let mut turns = [Turns::none(); MOST_WRITERS];
-    for n in 0..tryings.len() {
-        turns[n] = tryings[n].turns;
+    for n in 0..turn_threads.len() {
+        turns[n] = turn_threads[n].turns;
     }
     turns
 }
@@ -59,18 +59,18 @@ fn check_all<const V: usize>(
     load: Load,
     shards: u32,
     lasts: &[u64],
-    tryings: &[TurnThread<'_, V>],
-    lookings: &[ReaderThread<'_, V>],
+    turn_threads: &[TurnThread<'_, V>],
+    reader_threads: &[ReaderThread<'_, V>],
     audit: &mut Audit<V>,
 ) -> u64
     requires width { IsWidth V }
     requires shards { HasShards shards × (length lasts.now ≡ 256) }
-    requires few { length tryings.now ≤ most_writers }
-    requires tried { HaveTriedWhole load tryings.now }
-    requires noted { HaveAllNoted load lookings.now }
-    requires can { CanAudit V load (length tryings.now) audit.old }
+    requires few { length turn_threads.now ≤ most_writers }
+    requires tried { HaveTriedWhole load turn_threads.now }
+    requires noted { HaveAllNoted load reader_threads.now }
+    requires can { CanAudit V load (length turn_threads.now) audit.old }
     ensures right { result ≡ 0 → (n : ℕ) → n < shards →
-        IsRightIn load.shape.mix shards (all_tries tryings.now) (answers_of lookings.now) n }
+        IsRightIn load.shape.mix shards (all_tries turn_threads.now) (answers_of reader_threads.now) n }
 {
     let mut wrong: u64 = 0;
     for shard in 0..shards {
@@ -80,7 +80,15 @@ fn check_all<const V: usize>(
             shard,
         };
         let last = lasts[shard as usize];
-        let found = check_shard(alloc, load, share, last, tryings, lookings, audit);
+        let found = check_shard(
+            alloc,
+            load,
+            share,
+            last,
+            turn_threads,
+            reader_threads,
+            audit,
+        );
         wrong = wrong.saturating_add(found);
     }
     wrong
@@ -94,20 +102,28 @@ pub(crate) fn run_of<const V: usize>(
     seated: Seated<'_, V>,
 ) -> TurnsRun
     requires width { IsWidth V }
-    requires run { (s : Sharded) × HasRun s load shards (vec_len seated.tryings) seated }
-    ensures { RunsTurns V load shards (vec_len seated.entry.tryings) result }
+    requires run { (s : Sharded) × HasRun s load shards (vec_len seated.turn_threads) seated }
+    ensures { RunsTurns V load shards (vec_len seated.entry.turn_threads) result }
 {
     let Seated {
-        tryings,
-        mut lookings,
+        turn_threads,
+        mut reader_threads,
         mut audit,
     } = seated;
-    let tryings = tryings.as_slice();
-    let lasts = last_moments(load, shards, tryings, &mut lookings);
-    let lookings = lookings.as_slice();
-    let wrong = check_all(alloc, load, shards, &lasts, tryings, lookings, &mut audit);
-    let answers = answers_of(load, lookings);
-    let (turns, changes) = tries_of(load, tryings);
+    let turn_threads = turn_threads.as_slice();
+    let lasts = last_moments(load, shards, turn_threads, &mut reader_threads);
+    let reader_threads = reader_threads.as_slice();
+    let wrong = check_all(
+        alloc,
+        load,
+        shards,
+        &lasts,
+        turn_threads,
+        reader_threads,
+        &mut audit,
+    );
+    let answers = answers_of(load, reader_threads);
+    let (turns, changes) = tries_of(load, turn_threads);
     let report = DeskReport {
         lookups: answers.lookups,
         found: answers.found,
@@ -121,6 +137,6 @@ pub(crate) fn run_of<const V: usize>(
     };
     TurnsRun {
         report,
-        turns: turns_of(load, tryings),
+        turns: turns_of(load, turn_threads),
     }
 }

@@ -40,22 +40,22 @@ fn run_workers<const V: usize, R: Threads + Sync, G: Gate>(
     requires of { All (λ h. cache_of h ≡ Some cache.now) handles.items }
     ensures { MatchResult result (Reports V load) (RefusesLoad (G.may_refuse gate.now) load) }
 {
-    let Ok(mut writings) = writer_thread_of(alloc, load, cache, writer) else {
+    let Ok(mut writer_threads) = writer_thread_of(alloc, load, cache, writer) else {
         return Err(LoadError::NoMemory);
     };
-    let Ok(mut lookings) = reader_threads_of(alloc, load, many, handles) else {
+    let Ok(mut reader_threads) = reader_threads_of(alloc, load, many, handles) else {
         return Err(LoadError::NoMemory);
     };
-    run_all(rt, gate, load, &mut writings, &mut lookings);
-    let Some(writing) = writings.pop() else {
+    run_all(rt, gate, load, &mut writer_threads, &mut reader_threads);
+    let Some(writer) = writer_threads.pop() else {
         unreachable!();
     };
-    if let Some(call) = writing.refused {
+    if let Some(call) = writer.refused {
         return Err(LoadError::Gate { who: 0, call });
     }
-    match refused_lookup(lookings.as_slice()) {
+    match refused_lookup(reader_threads.as_slice()) {
         Some(refused) => Err(refused),
-        None => Ok(report_of(alloc, load, writing, lookings)),
+        None => Ok(report_of(alloc, load, writer, reader_threads)),
     }
 }
 

@@ -15,8 +15,8 @@ pub record CanAudit (V : ℕ) (load : Load) (writers : ℕ) (a : Audit V) : Type
 
 -- the workers have handles of these shards, and they can be checked
 pub record AreSeated (V : ℕ) (s : Sharded) (load : Load) (writers : ℕ) (w : Seated V) : Type 0 where
-  pub many : vec_len w.tryings ≡ writers
-  pub can : CanAllTry V s load w.tryings.items
-  pub readers : vec_len w.lookings ≡ load.readers
-  pub ready : AreReady V load w.lookings.items
+  pub many : vec_len w.turn_threads ≡ writers
+  pub can : CanAllTry V s load w.turn_threads.items
+  pub readers : vec_len w.reader_threads ≡ load.readers
+  pub ready : AreReady V load w.reader_threads.items
   pub audit : CanAudit V load writers w.audit

@@ -33,11 +33,11 @@ pub record HasRun {V : ℕ} (opened : Sharded) (load : Load) (shards writers : �
   pub allowed : HasShards shards
   pub shape : opened.shape ≡ load.shape
   pub tables : length opened.tables ≡ shards
-  pub readers : vec_len s.lookings ≡ load.readers
+  pub readers : vec_len s.reader_threads ≡ load.readers
   pub few : load.readers ≤ most_readers
-  pub noted : HaveAllNoted load s.lookings.items
-  pub many : vec_len s.tryings ≡ writers
+  pub noted : HaveAllNoted load s.reader_threads.items
+  pub many : vec_len s.turn_threads ≡ writers
   pub most : writers ≤ most_writers
-  pub tried : HaveTriedWhole load s.tryings.items
-  pub made : HaveAllMade V opened load s.tryings.items
+  pub tried : HaveTriedWhole load s.turn_threads.items
+  pub made : HaveAllMade V opened load s.turn_threads.items
   pub audit : CanAudit V load writers s.audit

@@ -11,9 +11,9 @@ pub loop-n-preserved : goal.loop-n-preserved
 loop-n-preserved g c =
     let V = g.row.V in
     let n = c.loop-n.n in
-    let ls = c.args.lookings.now in
+    let ls = c.args.reader_threads.now in
     let h = c.args.checker.now in
-    let x = c.index-lookings-n.result in
+    let x = c.index-reader_threads-n.result in
     let own : List (Record V) → List (Record V) = λ (rs : List (Record V)). answers_in c.args.share.mix c.args.share.shards c.args.share.shard rs in
     let added : c.append_answers.new.told.items ≡ own c.as_slice.result.now =
     c.append_answers.ensures.items ∙ ap (λ (z : List (Record V)). z ++ own c.as_slice.result.now) c.clear.ensures.items in

@@ -7,5 +7,5 @@ abbrev pub invariant-loop-n : goal.invariant-loop-n
 invariant-loop-n g l = record {
   len : vec_len l.all ≤ 2 * l.fn.load.writes * l.n;
   capacity : vec_capacity l.all ≡ vec_capacity l.fn.all;
-  items : l.all.items ≡ l.fn.all.items ++ journals_in l.fn.share.mix l.fn.share.shards l.fn.share.shard (all_tries (take l.n l.fn.tryings));
+  items : l.all.items ≡ l.fn.all.items ++ journals_in l.fn.share.mix l.fn.share.shards l.fn.share.shard (all_tries (take l.n l.fn.turn_threads));
 }

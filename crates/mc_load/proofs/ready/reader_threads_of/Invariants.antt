@@ -8,10 +8,10 @@ use Rattle.mc_load.proofs.ready.reader_threads_of.Given as goal
 
 abbrev pub invariant-loop-handle : goal.invariant-loop-handle
 invariant-loop-handle g l = record {
-  many : length l.lookings.items + length l.handles.items ≡ l.fn.load.readers;
-  ready : AreReady g.row.V l.fn.load l.lookings.items;
+  many : length l.reader_threads.items + length l.handles.items ≡ l.fn.load.readers;
+  ready : AreReady g.row.V l.fn.load l.reader_threads.items;
   rest : (o : Opening) → All (λ (h : Handle g.row.V). cache_of h ≡ Some o) l.fn.handles.items → All (λ (h : Handle g.row.V). cache_of h ≡ Some o) l.handles.items;
-  of : (o : Opening) → All (λ (h : Handle g.row.V). cache_of h ≡ Some o) l.fn.handles.items → AreReadersOf o l.lookings.items;
+  of : (o : Opening) → All (λ (h : Handle g.row.V). cache_of h ≡ Some o) l.fn.handles.items → AreReadersOf o l.reader_threads.items;
 }
 
 abbrev pub decreases-loop-handle : goal.decreases-loop-handle

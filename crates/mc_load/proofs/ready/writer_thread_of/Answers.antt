@@ -12,9 +12,9 @@ returns-clause-can g c =
     let V = g.row.V in
     let load = c.args.load in
     let sh = c.args.cache.now.layout.shape in
-    let none = c.in_ok-writings.ensures.len in
+    let none = c.in_ok-writer_threads.ensures.len in
     subst (λ (z : List (WriterThread V)). All (CanWrite V load) z) (sym c.push_reserved.ensures.items)
-    (each_more (λ k (x : WriterThread V). CanWrite V load x) c.in_ok-writings.writings.items _ (λ n d low. absurd (omega (arith, low, none, c.in_ok-writings.writings.ok.0)))
+    (each_more (λ k (x : WriterThread V). CanWrite V load x) c.in_ok-writer_threads.writer_threads.items _ (λ n d low. absurd (omega (arith, low, none, c.in_ok-writer_threads.writer_threads.ok.0)))
     (record {
       shape = c.requires.shape;
       writing = record {

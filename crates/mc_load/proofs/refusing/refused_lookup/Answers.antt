@@ -9,7 +9,7 @@ returns-in-Some-clause-some g c = (
   record {
     below = c.loop-n-test.true;
     reader = _;
-    is = get_or_default c.args.lookings.now c.loop-n.n _ _ c.loop-n-test.true;
+    is = get_or_default c.args.reader_threads.now c.loop-n.n _ _ c.loop-n-test.true;
     refused = c.in-Some.is;
     first = c.loop-n.invariant;
   },

@@ -9,8 +9,8 @@ returns-in-Some-clause-some g c = (
   record {
     below = c.loop-n-test.true;
     writer = _;
-    is = get_or_default c.args.tryings.now c.loop-n.n _ _ c.loop-n-test.true;
+    is = get_or_default c.args.turn_threads.now c.loop-n.n _ _ c.loop-n-test.true;
     named = refl;
-    refused = ap (λ (t : TurnThread g.row.V). t.refused) (get_or_default c.args.tryings.now c.loop-n.n _ _ c.loop-n-test.true) ∙ c.in-Some.is;
+    refused = ap (λ (t : TurnThread g.row.V). t.refused) (get_or_default c.args.turn_threads.now c.loop-n.n _ _ c.loop-n-test.true) ∙ c.in-Some.is;
   },
 )

@@ -8,7 +8,7 @@ invariant-loop-n g l = record {
   lookups : l.report.lookups ≡ l.n * l.fn.load.lookups;
   sum : l.report.found + l.report.absent + l.report.busy ≡ l.report.lookups;
   wrong : l.report.wrong ≡ 0;
-  found : l.report.found ≡ total_of is_found (answers_of (take l.n l.fn.lookings));
-  absent : l.report.absent ≡ total_of is_absent (answers_of (take l.n l.fn.lookings));
-  busy : l.report.busy ≡ total_of is_busy (answers_of (take l.n l.fn.lookings));
+  found : l.report.found ≡ total_of is_found (answers_of (take l.n l.fn.reader_threads));
+  absent : l.report.absent ≡ total_of is_absent (answers_of (take l.n l.fn.reader_threads));
+  busy : l.report.busy ≡ total_of is_busy (answers_of (take l.n l.fn.reader_threads));
 }

@@ -9,11 +9,11 @@ use Rattle.mc_load.proofs.summing.check_reader.Goals as goal
 pub returns-clause-wrong : goal.returns-clause-wrong
 returns-clause-wrong g c =
     let w = c.args.writer.now in
-    let records = c.args.looking.records.items in
+    let records = c.args.thread.records.items in
     let now = history_after g.row.V w.of.layout.shape w.acts in
     none_wrong now records c.check.result
-    (told_of_cache c.args.looking.handle _ w records c.in-Cache.is c.requires.of c.catch_up.ensures.begins c.requires.told)
+    (told_of_cache c.args.thread.handle _ w records c.in-Cache.is c.requires.of c.catch_up.ensures.begins c.requires.told)
     (subst (λ (h : List (Change g.row.V)). AreWrong h records c.check.result) c.requires.history (subst (λ rs. AreWrong c.args.checker.now rs c.check.result) c.as_slice.ensures.value c.check.ensures))
 
 pub returns-clause-told : goal.returns-clause-told
-returns-clause-told g c = told_of_cache c.args.looking.handle _ c.args.writer.now c.args.looking.records.items c.in-Cache.is c.requires.of c.catch_up.ensures.begins c.requires.told
+returns-clause-told g c = told_of_cache c.args.thread.handle _ c.args.writer.now c.args.thread.records.items c.in-Cache.is c.requires.of c.catch_up.ensures.begins c.requires.told

@@ -32,12 +32,12 @@ pub run_all-requires-clause-write : goal.run_all-requires-clause-write
 run_all-requires-clause-write g c κs within =
     let s = c.requires.opened.0 in
     let seated = c.in-Ok.ensures s c.requires.opened.3 in
-    all_can_try s c.args.load c.in-Ok.seated.tryings.items (omega (arith, seated.many, c.requires.asked.some.1, c.in-Ok.seated.tryings.ok.0)) seated.can
+    all_can_try s c.args.load c.in-Ok.seated.turn_threads.items (omega (arith, seated.many, c.requires.asked.some.1, c.in-Ok.seated.turn_threads.ok.0)) seated.can
 
 pub run_all-requires-clause-read : goal.run_all-requires-clause-read
 run_all-requires-clause-read g c κs within =
     let seated = c.in-Ok.ensures c.requires.opened.0 c.requires.opened.3 in
-    all_can_look c.args.load c.in-Ok.seated.lookings.items (omega (arith, seated.readers, c.requires.asked.seats.1, c.in-Ok.seated.lookings.ok.0)) seated.ready
+    all_can_look c.args.load c.in-Ok.seated.reader_threads.items (omega (arith, seated.readers, c.requires.asked.seats.1, c.in-Ok.seated.reader_threads.ok.0)) seated.ready
 
 pub returns-in-Some : goal.returns-in-Some
 returns-in-Some g c =
@@ -46,12 +46,12 @@ returns-in-Some g c =
     let load = c.args.load in
     let s = c.requires.opened.0 in
     let seated = c.in-Ok.ensures s c.requires.opened.3 in
-    let before = c.in-Ok.seated.tryings.items in
+    let before = c.in-Ok.seated.turn_threads.items in
     let after = c.run_all.new.writers.items in
     let ran = c.run_all.ensures.written in
     let same = ran.0 in
     let read = c.as_slice.ensures.value in
-    let many : length c.as_slice.result.now ≡ c.args.writers = omega (arith, ap length read, same, seated.many, c.in-Ok.seated.tryings.ok.0) in
+    let many : length c.as_slice.result.now ≡ c.args.writers = omega (arith, ap length read, same, seated.many, c.in-Ok.seated.turn_threads.ok.0) in
     refused_try_told s may load c.args.shards c.args.writers c.as_slice.result.now c.in-Some.refused c.requires.asked many
     (subst (λ (ts : List (TurnThread V)). HaveAllTried V s load ts) (sym read) (all_have_tried may s load before after seated.can ran))
     (subst (λ (ts : List (TurnThread V)). AreTriesRefusedBy may ts) (sym read) (all_tries_refused may load before after ran)) c.in-Some.ensures.some
@@ -60,7 +60,7 @@ pub refused_lookup-requires : goal.refused_lookup-requires
 refused_lookup-requires g c =
     let seated = c.in-Ok.ensures c.requires.opened.0 c.requires.opened.3 in
     let same = c.run_all.ensures.read.0 in
-    (omega arith, omega (arith, ap length c.as_slice-2.ensures.value, same, seated.readers, c.requires.asked.seats.1, c.in-Ok.seated.lookings.ok.0))
+    (omega arith, omega (arith, ap length c.as_slice-2.ensures.value, same, seated.readers, c.requires.asked.seats.1, c.in-Ok.seated.reader_threads.ok.0))
 
 pub returns-in-Some-refused_lookup : goal.returns-in-Some-refused_lookup
 returns-in-Some-refused_lookup g c =
@@ -68,12 +68,12 @@ returns-in-Some-refused_lookup g c =
     let may : ℕ → ℕ → Type 0 = g.G.Gate.may_refuse c.args.gate.now in
     let load = c.args.load in
     let seated = c.in-Ok.ensures c.requires.opened.0 c.requires.opened.3 in
-    let before = c.in-Ok.seated.lookings.items in
+    let before = c.in-Ok.seated.reader_threads.items in
     let after = c.run_all.new.readers.items in
     let ran = c.run_all.ensures.read in
     let same = ran.0 in
     let read = c.as_slice-2.ensures.value in
-    let many : length c.as_slice-2.result.now ≡ load.readers = omega (arith, ap length read, same, seated.readers, c.in-Ok.seated.lookings.ok.0) in
+    let many : length c.as_slice-2.result.now ≡ load.readers = omega (arith, ap length read, same, seated.readers, c.in-Ok.seated.reader_threads.ok.0) in
     refused_lookup_told may load c.args.shards c.args.writers c.as_slice-2.result.now c.in-Some-refused_lookup.refused c.requires.asked many
     (subst (λ (ls : List (ReaderThread V)). HaveEnded V load ls) (sym read) (all_ended may load before after seated.ready ran))
     (subst (λ (ls : List (ReaderThread V)). AreRefusedBy may ls) (sym read) (all_refused may load before after seated.ready ran)) c.in-Some-refused_lookup.ensures.some
@@ -92,11 +92,11 @@ run_of-requires g c =
     let same = wrote.0 in
     let same_readers = read.0 in
     let few = c.requires.asked.seats.1 in
-    let tried = all_have_tried may s load c.in-Ok.seated.tryings.items ts seated.can wrote in
+    let tried = all_have_tried may s load c.in-Ok.seated.turn_threads.items ts seated.can wrote in
     let through : AreTriesLetThrough ts (length ts) = subst (λ (z : List (TurnThread V)). AreTriesLetThrough z (length z)) c.as_slice.ensures.value (search rules) in
     let whole : AreWhole ls = subst (λ (z : List (ReaderThread V)). AreWhole z) c.as_slice-2.ensures.value (search rules) in
-    let many : vec_len c.run_all.new.writers ≡ c.args.writers = omega (arith, same, seated.many, c.in-Ok.seated.tryings.ok.0, c.run_all.new.writers.ok.0) in
-    let readers : vec_len c.run_all.new.readers ≡ load.readers = omega (arith, same_readers, seated.readers, c.in-Ok.seated.lookings.ok.0, c.run_all.new.readers.ok.0) in (
+    let many : vec_len c.run_all.new.writers ≡ c.args.writers = omega (arith, same, seated.many, c.in-Ok.seated.turn_threads.ok.0, c.run_all.new.writers.ok.0) in
+    let readers : vec_len c.run_all.new.readers ≡ load.readers = omega (arith, same_readers, seated.readers, c.in-Ok.seated.reader_threads.ok.0, c.run_all.new.readers.ok.0) in (
       omega arith,
       (
         c.requires.width,
@@ -108,7 +108,7 @@ run_of-requires g c =
             tables = c.requires.opened.2;
             readers = readers;
             few = omega (arith, few);
-            noted = all_noted load ls (all_ended may load c.in-Ok.seated.lookings.items ls seated.ready read) whole;
+            noted = all_noted load ls (all_ended may load c.in-Ok.seated.reader_threads.items ls seated.ready read) whole;
             many = refl;
             most = omega (arith, many, c.requires.asked.some.1);
             tried = all_tried s load ts tried through;
@@ -123,5 +123,5 @@ pub returns : goal.returns
 returns g c =
     let seated = c.in-Ok.ensures c.requires.opened.0 c.requires.opened.3 in
     let same = c.run_all.ensures.written.0 in
-    let many : vec_len c.run_all.new.writers ≡ c.args.writers = omega (arith, same, seated.many, c.in-Ok.seated.tryings.ok.0, c.run_all.new.writers.ok.0) in
+    let many : vec_len c.run_all.new.writers ≡ c.args.writers = omega (arith, same, seated.many, c.in-Ok.seated.turn_threads.ok.0, c.run_all.new.writers.ok.0) in
     subst (λ (w : ℕ). RunsTurns g.row.V c.args.load c.args.shards w c.run_of.result) many c.run_of.ensures

@@ -7,6 +7,6 @@ use Rattle.mc_load.proofs.turns_summing.check_all.Given as goal
 
 abbrev pub invariant-loop-shard : goal.invariant-loop-shard
 invariant-loop-shard g l = record {
-  can : CanAudit g.row.V l.fn.load (length l.fn.tryings) l.audit;
-  right : l.wrong ≡ 0 → (n : ℕ) → n < l.shard → IsRightIn l.fn.load.shape.mix l.fn.shards (all_tries l.fn.tryings) (answers_of l.fn.lookings) n;
+  can : CanAudit g.row.V l.fn.load (length l.fn.turn_threads) l.audit;
+  right : l.wrong ≡ 0 → (n : ℕ) → n < l.shard → IsRightIn l.fn.load.shape.mix l.fn.shards (all_tries l.fn.turn_threads) (answers_of l.fn.reader_threads) n;
 }

@@ -18,12 +18,12 @@ returns g c =
     let load = c.args.load in
     let s = c.requires.run.0 in
     let run = c.requires.run.1 in
-    let ts = c.args.seated.tryings.items in
-    let ls = c.last_moments-lasts.new.lookings.items in
-    let writers : c.as_slice-tryings.result.now ≡ ts = c.as_slice-tryings.ensures.value in
-    let readers : c.as_slice-lookings.result.now ≡ ls = c.as_slice-lookings.ensures.value in
-    let many_writers : length c.as_slice-tryings.result.now ≡ vec_len c.args.seated.tryings = c.as_slice-tryings.ensures.len in
-    let many_readers : length c.as_slice-lookings.result.now ≡ load.readers = c.as_slice-lookings.ensures.len ∙ (c.last_moments-lasts.ensures.len ∙ run.readers) in
+    let ts = c.args.seated.turn_threads.items in
+    let ls = c.last_moments-lasts.new.reader_threads.items in
+    let writers : c.as_slice-turn_threads.result.now ≡ ts = c.as_slice-turn_threads.ensures.value in
+    let readers : c.as_slice-reader_threads.result.now ≡ ls = c.as_slice-reader_threads.ensures.value in
+    let many_writers : length c.as_slice-turn_threads.result.now ≡ vec_len c.args.seated.turn_threads = c.as_slice-turn_threads.ensures.len in
+    let many_readers : length c.as_slice-reader_threads.result.now ≡ load.readers = c.as_slice-reader_threads.ensures.len ∙ (c.last_moments-lasts.ensures.len ∙ run.readers) in
     let tried : length (all_tries ts) ≡ length ts = length-map ts (λ (t : TurnThread V). tries_of t) in
     let read : length (answers_of ls) ≡ length ls = length-map ls (λ (l : ReaderThread V). l.records.items) in
     record {
@@ -32,7 +32,7 @@ returns g c =
         shape = run.shape;
         tables = run.tables;
         tries = all_tries ts;
-        many = omega (arith, tried, c.as_slice-tryings.ensures.len, ap length writers);
+        many = omega (arith, tried, c.as_slice-turn_threads.ensures.len, ap length writers);
         made = λ w e low.
             let under : w < length ts = omega (arith, low, tried) in
             let d = some_element ts w under in
@@ -51,7 +51,7 @@ returns g c =
         busy = c.answers_of-answers.ensures.busy ∙ ap (λ (z : List (ReaderThread V)). total_of is_busy (answers_of z)) readers;
         right = λ none n low.
             subst (λ (z : List (TurnThread V)). IsRightIn load.shape.mix c.args.shards (all_tries z) (answers_of ls) n) writers
-            (subst (λ (z : List (ReaderThread V)). IsRightIn load.shape.mix c.args.shards (all_tries c.as_slice-tryings.result.now) (answers_of z) n) readers (c.check_all-wrong.ensures.right none n low));
+            (subst (λ (z : List (ReaderThread V)). IsRightIn load.shape.mix c.args.shards (all_tries c.as_slice-turn_threads.result.now) (answers_of z) n) readers (c.check_all-wrong.ensures.right none n low));
         lookups = c.answers_of-answers.ensures.lookups ∙ ap (λ (k : ℕ). k * load.lookups) many_readers;
         sum = c.answers_of-answers.ensures.sum;
         calls = c.tries_of-changes.ensures.sum ∙ ap (λ (k : ℕ). k * load.writes) many_writers;

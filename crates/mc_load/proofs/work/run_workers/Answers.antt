@@ -20,8 +20,8 @@ pub returns-in-Some-refused : goal.returns-in-Some-refused
 returns-in-Some-refused g c =
     let may : ℕ → ℕ → Type 0 = g.G.Gate.may_refuse c.args.gate.now in
     let load = c.args.load in
-    let one : length c.in-Ok.writings.items ≡ 1 = omega (arith, c.in-Ok.ensures.one, c.in-Ok.writings.ok.0) in
-    let end = writer_ended may load c.in-Ok.writings.items c.run_all.new.writers.items c.pop.new.self.items c.in-Some.writing one c.in-Some.ensures.items c.run_all.ensures.written in
+    let one : length c.in-Ok.writer_threads.items ≡ 1 = omega (arith, c.in-Ok.ensures.one, c.in-Ok.writer_threads.ok.0) in
+    let end = writer_ended may load c.in-Ok.writer_threads.items c.run_all.new.writers.items c.pop.new.self.items c.in-Some.writer one c.in-Some.ensures.items c.run_all.ensures.written in
     let told = subst (λ (o : Option ℕ). IfSome o (λ call. (1 ≤ call) × (call ≤ load.writes) × may 0 call)) c.in-Some-refused.is end.refused in
     (c.requires.keys, c.requires.asked.0, c.requires.asked.1, (told.0, inl (refl, told.1)), told.2)
 
@@ -30,15 +30,15 @@ report_of-requires g c =
     let V = g.row.V in
     let may : ℕ → ℕ → Type 0 = g.G.Gate.may_refuse c.args.gate.now in
     let load = c.args.load in
-    let before = c.in-Ok.writings.items in
-    let x = c.in-Some.writing in
-    let one : length before ≡ 1 = omega (arith, c.in-Ok.ensures.one, c.in-Ok.writings.ok.0) in
+    let before = c.in-Ok.writer_threads.items in
+    let x = c.in-Some.writer in
+    let one : length before ≡ 1 = omega (arith, c.in-Ok.ensures.one, c.in-Ok.writer_threads.ok.0) in
     let end = writer_ended may load before c.run_all.new.writers.items c.pop.new.self.items x one c.in-Some.ensures.items c.run_all.ensures.written in
     let low : 0 < length before = omega (arith, one) in
     let cache = ap (λ q. q.now) end.cache ∙ c.in-Ok.ensures.of 0 x low in
     let written : HasWritten V load load.writes x = subst (λ (o : Option ℕ). IfNone o (HasWritten V load load.writes x)) c.in_default-refused.is end.written in
     let ls = c.run_all.new.readers.items in
-    let looked = c.in-Ok-reader_threads_of.lookings in
+    let looked = c.in-Ok-reader_threads_of.reader_threads in
     let read = c.run_all.ensures.read in
     let same = read.0 in
     let len : vec_len c.run_all.new.readers ≡ load.readers = omega (arith, same, c.in-Ok-reader_threads_of.ensures.len, looked.ok.0, c.run_all.new.readers.ok.0) in
