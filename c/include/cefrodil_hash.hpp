@@ -110,7 +110,8 @@ template <class Key> inline constexpr bool is_string = std::is_same_v<Key, std::
 } // namespace inside
 
 // The hash of a map, unless the program gives it another: SipHash-1-3 of a string's letters, or of the bytes of any other key. With a secret it
-// has 128 bits. With a seed it has 64: for hashes of yours. A key is
+// has 128 bits. Those of a key of up to 8 bytes are a SipHash of 64 bits and the key itself, so no two such keys have the same. With a seed it has 64
+// bits: for hashes of yours. A key is
 // - a std::string or a std::string_view. A `const char *` as the key's type is a pointer: its address is the key, not its letters.
 // - an integer, an enum or a pointer, or a std::array of them.
 // - a trivially copyable struct without padding, whose bytes are its value. No float is: 0.0 and -0.0 are equal, but have other bytes.
@@ -118,7 +119,13 @@ template <class Key> inline constexpr bool is_string = std::is_same_v<Key, std::
 // Don't specialize it: a map takes its bits as they are. Give the map a hash type of yours instead.
 template <class Key> struct SipHash {
     HashPair operator()(const Key &key, const HashSecret &secret) const noexcept {
-        return inside::sip_hash_pair<1, 3>(std::addressof(key), sizeof key, secret);
+        if constexpr (sizeof key <= sizeof(uint64_t)) {
+            HashPair pair{inside::sip_hash<1, 3>(std::addressof(key), sizeof key, secret), 0};
+            std::memcpy(&pair.second, std::addressof(key), sizeof key);
+            return pair;
+        } else {
+            return inside::sip_hash_pair<1, 3>(std::addressof(key), sizeof key, secret);
+        }
     }
     uint64_t operator()(const Key &key, uint64_t seed) const noexcept {
         return inside::sip_hash<1, 3>(std::addressof(key), sizeof key, {seed, 0});

@@ -20,7 +20,7 @@
 //
 // The map stores no keys. It hashes a key to 128 bits, with a secret. Half of them are the key's number in the index. The others are stored with the
 // value. Each lookup compares them, and a mismatch is a miss. So two keys are confused only if all 128 bits agree. With SipHash that is, as far as is
-// known, a chance of 2^-128 for a pair.
+// known, a chance of 2^-128 for a pair of strings or larger structs. Keys of up to 8 bytes, such as integers, are stored themselves, and never confused.
 //
 // What you promise: no other call runs during open, close, a move or the destructor. All other calls may come from any thread at any time. No call
 // comes from a signal handler or a forked child. malloc, realloc and free belong to one allocator, whose blocks are aligned to 16 bytes. The program
@@ -355,7 +355,7 @@ template <class K, class V, class Hash = SipHash<K>> class map {
   private:
     struct Inner {
         explicit Inner(Hash &&hash) : identities(std::move(hash)) {}
-        inside::Flights &flights_of(const inside::Identity &key) noexcept { return flights[key.check % flights.size()]; }
+        inside::Flights &flights_of(const inside::Identity &key) noexcept { return flights[key.index % flights.size()]; }
 
         inside::Identities<Key, Hash> identities;
         inside::Table<V> table{};

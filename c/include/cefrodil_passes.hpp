@@ -245,6 +245,8 @@ template <size_t Words> class Turns {
             return status;
         }
         shape.mix = mix;
+        // The versions of more stripes would take room from entries in the processor's caches.
+        shape.stripes = std::min(shape.stripes, std::max<uint32_t>(64, 4096 / shards));
         tries_ = tries;
         capacity_ = uint64_t(shape.items) * shards;
         return passes_.open(shape, shards, passes);

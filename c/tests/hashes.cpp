@@ -1,4 +1,5 @@
-// A map knows a key by two words: by default those of SipHash-1-3 of 128 bits, whose secret is drawn at the opening.
+// A map knows a key by two words: by default those of SipHash-1-3 of 128 bits, or of a small key one of 64 bits and the key itself. The secret is
+// drawn at the opening.
 #include "cefrodil_map.hpp"
 #include "must.h"
 #include "sip_vectors.h"
@@ -44,13 +45,22 @@ static void sip_hashes() {
     }
     const uint64_t number = 0x0706050403020100;
     const std::string three("\0\1\2", 3);
-    MUST(is_row(cefrodil::SipHash<uint64_t>()(number, numbered), sip_1_3_128[8]));
-    MUST(is_row(cefrodil::SipHash<uint16_t>()(0x0100, numbered), sip_1_3_128[2]));
     MUST(is_row(cefrodil::SipHash<std::string>()(three, numbered), sip_1_3_128[3]));
+    MUST(is_row(cefrodil::SipHash<std::array<uint64_t, 2>>()({number, 0x0f0e0d0c0b0a0908}, numbered), sip_1_3_128[16]));
     MUST(cefrodil::SipHash<uint64_t>()(number, 0) == sip_1_3[8] && cefrodil::SipHash<std::string>()(three, 0) == sip_1_3[3]);
     // By the command in sip_vectors.h, with hexkey:00010203040506070000000000000000 and size:8.
     MUST(cefrodil::SipHash<uint64_t>()(number, number) == 0x5124317f8cfc24cb);
     MUST(cefrodil::SipHash<std::string>()(three, number) == 0xb0dc73387a51665c);
+}
+
+// A key of up to 8 bytes is its own check word.
+static void small_keys() {
+    const uint64_t number = 0x0706050403020100;
+    MUST(is_row(cefrodil::SipHash<uint64_t>()(number, {0, 0}), {sip_1_3[8], number}));
+    MUST(is_row(cefrodil::SipHash<uint64_t>()(number, {number, 0}), {0x5124317f8cfc24cb, number}));
+    MUST(is_row(cefrodil::SipHash<uint16_t>()(0x0100, {0, 0}), {sip_1_3[2], 0x0100}));
+    MUST(is_row(cefrodil::SipHash<std::array<char, 3>>()({0, 1, 2}, {0, 0}), {sip_1_3[3], 0x020100}));
+    MUST(cefrodil::SipHash<int>()(-1, numbered).second == 0xffffffff);
 }
 
 // Hashes that tell what they were asked with. One has 128 bits, and one has 64.
@@ -116,6 +126,7 @@ static void openings() {
 
 int main() {
     sip_hashes();
+    small_keys();
     secrets<TellingPair>(1);
     secrets<TellingSeed>(2);
     default_hashes();

@@ -67,20 +67,19 @@ impl AnyPass {
     #[inline(always)]
     pub fn get<V, R>(mut pass: impl DerefMut<Target = AnyPass>, key: u64, layout: Layout, then: impl FnOnce(Seen) -> R) -> R {
         macro_rules! get {
-            ($($width:literal $variant:ident $reply:ident),*) => {{
-                $(let mut $reply;)*
-                let seen = match (layout.width::<V>(), &mut *pass) {
+            ($($width:literal $variant:ident),*) => {
+                match (layout.width::<V>(), &mut *pass) {
                     $(($width, AnyPass::$variant(by_width)) => {
-                        $reply = by_width.get_or_desk(key);
-                        Seen::of(&mut $reply)
+                        let mut reply = Reply::Busy;
+                        by_width.get_or_desk_into(key, &mut reply);
+                        drop(pass);
+                        then(Seen::of(&mut reply))
                     })*
                     _ => unreachable!("opening takes this width"),
-                };
-                drop(pass);
-                then(seen)
-            }};
+                }
+            };
         }
-        get!(1 One one, 2 Two two, 3 Three three, 4 Four four, 5 Five five, 6 Six six, 7 Seven seven, 8 Eight eight)
+        get!(1 One, 2 Two, 3 Three, 4 Four, 5 Five, 6 Six, 7 Seven, 8 Eight)
     }
 
     /// Looks these keys up, `MANY` at most. There must be as many replies.

@@ -1,8 +1,8 @@
-//! The two hashes by which the index knows a key.
+//! The two words by which the index knows a key.
 use crate::sip::{Secret, Sip};
-use std::hash::{BuildHasher, Hash};
+use std::hash::{BuildHasher, Hash, Hasher};
 
-/// A key's two hashes. The map keeps no keys, so two keys with the same print are one key to it.
+/// A key's two words. The map keeps no keys, so two keys with the same print are one key to it.
 #[derive(Clone, Copy, Debug, PartialEq, Eq)]
 pub(crate) struct Print {
     /// The key in the index.
@@ -31,7 +31,7 @@ const KEY: u64 = 0;
 const CHECK: u64 = 1;
 
 impl<S: BuildHasher> Printer<S> {
-    /// Hashes a key once, by SipHash-1-3 of 128 bits. The hasher must be keyed, as std's is: it makes the secret.
+    /// Hashes a key once, by SipHash-1-3. The hasher must be keyed, as std's is: it makes the secret.
     pub fn once(hasher: S) -> Printer<S> {
         let secret = Some(Secret(hasher.hash_one(KEY), hasher.hash_one(CHECK)));
         Printer { hasher, secret }
@@ -47,9 +47,97 @@ impl<S: BuildHasher> Printer<S> {
         let Some(secret) = self.secret else {
             return Print { key: self.hasher.hash_one((KEY, key)), check: self.hasher.hash_one((CHECK, key)) };
         };
-        let mut state = Sip::new(secret);
+        let mut state = PrintHasher::new(secret);
         key.hash(&mut state);
-        let (key, check) = state.pair();
+        state.print()
+    }
+}
+
+/// Makes the print of what it is given. A single number of up to 64 bits is its own check word, so no two numbers have the same print. Of
+/// anything else, the print is a SipHash of 128 bits.
+#[derive(Clone)]
+pub(crate) struct PrintHasher {
+    secret: Secret,
+    // What all calls gave.
+    sip: Sip,
+    calls: usize,
+    // The number of the last call, and of how many bytes it is. Bytes are no number, and count as two calls.
+    number: u64,
+    size: usize,
+}
+
+impl PrintHasher {
+    #[inline(always)]
+    pub fn new(secret: Secret) -> PrintHasher {
+        PrintHasher { secret, sip: Sip::new(secret), calls: 0, number: 0, size: 0 }
+    }
+
+    #[inline(always)]
+    pub fn print(self) -> Print {
+        if self.calls == 1 {
+            // The same number in another size has the same check word, so the key differs.
+            return Print { key: self.secret.hash(self.number) ^ (8 - self.size) as u64, check: self.number };
+        }
+        let (key, check) = self.sip.pair();
         Print { key, check }
+    }
+
+    // Takes a number of up to 8 bytes.
+    #[inline(always)]
+    fn take(&mut self, number: u64, size: usize) {
+        self.sip.take(number, size);
+        self.calls += 1;
+        (self.number, self.size) = (number, size);
+    }
+
+    // The hash that takes more than a number.
+    #[inline(always)]
+    fn more(&mut self) -> &mut Sip {
+        self.calls += 2;
+        &mut self.sip
+    }
+}
+
+/// Each call takes the same bytes as in std's SipHash.
+impl Hasher for PrintHasher {
+    #[inline(always)]
+    fn write(&mut self, bytes: &[u8]) {
+        self.more().write(bytes);
+    }
+
+    #[inline(always)]
+    fn write_u8(&mut self, number: u8) {
+        self.take(number.into(), 1);
+    }
+
+    #[inline(always)]
+    fn write_u16(&mut self, number: u16) {
+        self.take(number.into(), 2);
+    }
+
+    #[inline(always)]
+    fn write_u32(&mut self, number: u32) {
+        self.take(number.into(), 4);
+    }
+
+    #[inline(always)]
+    fn write_u64(&mut self, number: u64) {
+        self.take(number, 8);
+    }
+
+    #[inline(always)]
+    fn write_u128(&mut self, number: u128) {
+        let sip = self.more();
+        sip.take(number as u64, 8);
+        sip.take((number >> 64) as u64, 8);
+    }
+
+    #[inline(always)]
+    fn write_usize(&mut self, number: usize) {
+        self.take(number as u64, 8);
+    }
+
+    fn finish(&self) -> u64 {
+        self.clone().print().key
     }
 }

@@ -15,6 +15,11 @@ const MOST_SHARDS: usize = 16;
 /// A shard of fewer entries gets four times the buckets. Without them, up to one new key in a hundred finds no place.
 const SMALL: u32 = 256;
 
+/// How many stripes all shards together have, about, and how many a shard has at least. The versions of more stripes would take room from
+/// entries in the processor's caches.
+const STRIPES: u32 = 4096;
+const STRIPES_OF_A_SHARD: u32 = 64;
+
 pub(crate) struct Settings<S> {
     pub capacity: usize,
     pub shards: Option<u32>,
@@ -46,6 +51,7 @@ impl<S> Settings<S> {
         if shape.items < SMALL {
             shape.buckets *= 4;
         }
+        shape.stripes = shape.stripes.min((STRIPES / shards).max(STRIPES_OF_A_SHARD));
         // The index hashes what a hasher of the user's may have spread badly.
         shape.mix = if self.once { Mix::None } else { Mix::Full };
         Ok((shape, shards))

@@ -1,12 +1,23 @@
-//! SipHash-1-3 of 128 bits, by Jean-Philippe Aumasson and Daniel J. Bernstein (2012), with a secret.
+//! SipHash-1-3, by Jean-Philippe Aumasson and Daniel J. Bernstein (2012), with a secret: that of 128 bits, and for a single word that of 64.
 //!
 //! std has only that of 64 bits, and doesn't inline it. It is designed so that nobody who does not know the secret can choose keys whose
 //! hashes meet.
-use std::hash::Hasher;
 
 /// 128 secret bits.
 #[derive(Clone, Copy)]
 pub(crate) struct Secret(pub u64, pub u64);
+
+impl Secret {
+    /// SipHash-1-3 of 64 bits of this word.
+    #[inline(always)]
+    pub fn hash(self, word: u64) -> u64 {
+        let mut state = Sip::beginning(self, 0);
+        state.take_word(word);
+        state.take_word((BYTES_OF_A_WORD as u64) << 56);
+        state.v2 ^= 0xff;
+        state.ended()
+    }
+}
 
 const BYTES_OF_A_WORD: usize = size_of::<u64>();
 
@@ -22,11 +33,18 @@ pub(crate) struct Sip {
 }
 
 impl Sip {
+    /// That of 128 bits.
     #[inline]
     pub fn new(secret: Secret) -> Sip {
+        Sip::beginning(secret, 0xee)
+    }
+
+    // `kind` tells hashes of 128 bits from those of 64.
+    #[inline]
+    fn beginning(secret: Secret, kind: u64) -> Sip {
         Sip {
             v0: secret.0 ^ 0x736f_6d65_7073_6575,
-            v1: secret.1 ^ 0x646f_7261_6e64_6f6d ^ 0xee,
+            v1: secret.1 ^ 0x646f_7261_6e64_6f6d ^ kind,
             v2: secret.0 ^ 0x6c79_6765_6e65_7261,
             v3: secret.1 ^ 0x7465_6462_7974_6573,
             rest: 0,
@@ -57,9 +75,22 @@ impl Sip {
         self.v0 ^= word;
     }
 
-    // Takes 1 to 8 bytes. Those of `bytes` above them are 0.
+    /// Takes these bytes.
     #[inline]
-    fn take(&mut self, bytes: u64, count: usize) {
+    pub fn write(&mut self, bytes: &[u8]) {
+        let mut words = bytes.chunks_exact(BYTES_OF_A_WORD);
+        for word in &mut words {
+            self.take(little(word), BYTES_OF_A_WORD);
+        }
+        let rest = words.remainder();
+        if !rest.is_empty() {
+            self.take(little(rest), rest.len());
+        }
+    }
+
+    /// Takes 1 to 8 bytes, the lowest first. Those of `bytes` above them are 0.
+    #[inline]
+    pub fn take(&mut self, bytes: u64, count: usize) {
         let filled = self.size % BYTES_OF_A_WORD;
         self.size = self.size.wrapping_add(count);
         self.rest |= bytes << (8 * filled);
@@ -80,57 +111,6 @@ impl Sip {
         self.v3 = self.v3.rotate_left(21) ^ self.v0;
         self.v1 = self.v1.rotate_left(17) ^ self.v2;
         self.v2 = self.v2.rotate_left(32);
-    }
-}
-
-/// Each call takes the same bytes as in std's SipHash.
-impl Hasher for Sip {
-    #[inline]
-    fn write(&mut self, bytes: &[u8]) {
-        let mut words = bytes.chunks_exact(BYTES_OF_A_WORD);
-        for word in &mut words {
-            self.take(little(word), BYTES_OF_A_WORD);
-        }
-        let rest = words.remainder();
-        if !rest.is_empty() {
-            self.take(little(rest), rest.len());
-        }
-    }
-
-    #[inline]
-    fn write_u8(&mut self, number: u8) {
-        self.take(number.into(), 1);
-    }
-
-    #[inline]
-    fn write_u16(&mut self, number: u16) {
-        self.take(number.into(), 2);
-    }
-
-    #[inline]
-    fn write_u32(&mut self, number: u32) {
-        self.take(number.into(), 4);
-    }
-
-    #[inline]
-    fn write_u64(&mut self, number: u64) {
-        self.take(number, 8);
-    }
-
-    #[inline]
-    fn write_u128(&mut self, number: u128) {
-        self.take(number as u64, 8);
-        self.take((number >> 64) as u64, 8);
-    }
-
-    #[inline]
-    fn write_usize(&mut self, number: usize) {
-        self.take(number as u64, 8);
-    }
-
-    #[inline]
-    fn finish(&self) -> u64 {
-        self.clone().pair().0
     }
 }
 

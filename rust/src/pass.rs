@@ -79,6 +79,12 @@ impl<const WORDS: usize> Pass<'_, WORDS> {
         Reply::by(|value| self.handle().get_or_desk(key, value))
     }
 
+    /// Like [`get_or_desk`](Pass::get_or_desk), with the answer written to `reply`, which copies less.
+    #[inline]
+    pub fn get_or_desk_into(&mut self, key: u64, reply: &mut Reply<WORDS>) {
+        reply.set(|value| self.handle().get_or_desk(key, value));
+    }
+
     /// Tries once for the turn, and with it looks the key up as [`Writer::peek`](crate::Writer::peek) does. `None`: the try did not win.
     #[must_use]
     pub fn try_peek(&mut self, key: u64) -> Option<Reply<WORDS>> {

@@ -136,19 +136,26 @@ impl<const WORDS: usize> Reply<WORDS> {
         }
     }
 
-    /// The reply to a lookup, which writes the value where it stays: a copy would cost.
+    /// The reply to a lookup.
     #[inline]
     pub(crate) fn by(look: impl FnOnce(&mut [u64; WORDS]) -> Told) -> Reply<WORDS> {
-        let mut reply = Reply::Found { value: [0; WORDS], at: 0, since: 0 };
-        let Reply::Found { value, at, since } = &mut reply else { unreachable!("it was just made") };
+        let mut reply = Reply::Busy;
+        reply.set(look);
+        reply
+    }
+
+    /// Makes it the reply to a lookup, which writes the value where it stays: a copy would cost.
+    #[inline]
+    pub(crate) fn set(&mut self, look: impl FnOnce(&mut [u64; WORDS]) -> Told) {
+        *self = Reply::Found { value: [0; WORDS], at: 0, since: 0 };
+        let Reply::Found { value, at, since } = self else { unreachable!("it was just made") };
         let (status, told) = look(value);
         match status {
             raw::OK => (*at, *since) = (told.at, told.since),
-            raw::ABSENT => reply = Reply::Absent { at: told.at },
-            raw::BUSY => reply = Reply::Busy,
+            raw::ABSENT => *self = Reply::Absent { at: told.at },
+            raw::BUSY => *self = Reply::Busy,
             other => not_told(other),
         }
-        reply
     }
 
     pub(crate) fn of(told: Told, value: [u64; WORDS]) -> Reply<WORDS> {

@@ -1,9 +1,9 @@
-//! A key's two hashes: by default the two words of one SipHash, and with a hasher of the user's own those of two.
-use crate::print::{Print, Printer};
+//! A key's two words: by default a number and its SipHash, or the two words of one SipHash; with a hasher of the user's own two hashes.
+use crate::print::{Print, PrintHasher, Printer};
 use crate::sip::{Secret, Sip};
 use crate::Map;
 use std::cell::Cell;
-use std::collections::hash_map::RandomState;
+use std::collections::hash_map::{DefaultHasher, RandomState};
 use std::collections::HashSet;
 use std::hash::{BuildHasher, Hash, Hasher};
 
@@ -33,12 +33,9 @@ fn the_default_hashes_once_and_a_hasher_of_the_users_twice() {
     assert_eq!((times(&by_default), times(&built), times(&of_the_users)), (1, 1, 2));
 }
 
-// The two words of the SipHash of a text whose secret is that hasher's.
-fn sip_of(hasher: &RandomState, text: impl Hash) -> Print {
-    let mut state = Sip::new(Secret(hasher.hash_one(0_u64), hasher.hash_one(1_u64)));
-    text.hash(&mut state);
-    let (key, check) = state.pair();
-    Print { key, check }
+// What is hashed for a key by the secret of this hasher.
+fn secret_of(hasher: &RandomState) -> Secret {
+    Secret(hasher.hash_one(0_u64), hasher.hash_one(1_u64))
 }
 
 #[test]
@@ -46,10 +43,17 @@ fn the_two_hashes_are_those_of_different_texts() {
     let hasher = RandomState::new();
     let (once, twice) = (Printer::once(hasher.clone()), Printer::twice(hasher.clone()));
     for key in ["", "a", "seven l", "nine letters"] {
-        assert_eq!(once.print(key), sip_of(&hasher, key));
+        let mut sip = Sip::new(secret_of(&hasher));
+        sip.write(key.as_bytes());
+        sip.take(0xff, 1);
+        assert_eq!(once.print(key), print(sip.pair()));
         let (first, second) = (hasher.hash_one((0_u64, key)), hasher.hash_one((1_u64, key)));
         assert_eq!(twice.print(key), Print { key: first, check: second });
     }
+}
+
+fn print((key, check): (u64, u64)) -> Print {
+    Print { key, check }
 }
 
 // The bytes 0, 1, 2 and so on.
@@ -59,11 +63,11 @@ fn bytes<const COUNT: usize>() -> [u8; COUNT] {
 
 const SECRET: Secret = Secret(0x0706_0504_0302_0100, 0x0f0e_0d0c_0b0a_0908);
 
-fn sip(write: impl Fn(&mut Sip)) -> (u64, u64) {
-    let mut state = Sip::new(SECRET);
+fn print_of(write: impl Fn(&mut PrintHasher)) -> Print {
+    let mut state = PrintHasher::new(SECRET);
     write(&mut state);
-    assert_eq!(state.finish(), state.clone().pair().0);
-    state.pair()
+    assert_eq!(state.finish(), state.clone().print().key);
+    state.print()
 }
 
 // Those of c/tests/sip_vectors.h: the hashes of the first bytes, of none to 17.
@@ -94,15 +98,15 @@ fn it_is_the_siphash_of_the_paper_however_the_bytes_come() {
     for (size, vector) in VECTORS.into_iter().enumerate() {
         for (cut, other) in (0..=size).flat_map(|cut| (cut..=size).map(move |other| (cut, other))) {
             let pieces = [&all[..cut], &all[cut..other], &all[other..size]];
-            assert_eq!(sip(|state| pieces.iter().for_each(|piece| state.write(piece))), vector);
+            assert_eq!(print_of(|state| pieces.iter().for_each(|piece| state.write(piece))), print(vector));
         }
     }
 }
 
 #[test]
-fn a_number_is_hashed_as_its_bytes() {
+fn numbers_are_hashed_as_their_bytes() {
     for before in 0..9 {
-        let texts: [fn(&mut Sip); 2] = [
+        let texts: [fn(&mut PrintHasher); 2] = [
             |state| {
                 state.write_u8(0);
                 state.write_u16(0x0201);
@@ -114,7 +118,7 @@ fn a_number_is_hashed_as_its_bytes() {
             |state| state.write(&bytes::<39>()),
         ];
         let [one, other] = texts.map(|text| {
-            sip(|state| {
+            print_of(|state| {
                 state.write(&bytes::<9>()[..before]);
                 text(state);
                 state.write_u8(7);
@@ -124,14 +128,51 @@ fn a_number_is_hashed_as_its_bytes() {
     }
 }
 
+// std's hasher is SipHash-1-3 with the secret 0.
+#[test]
+fn one_number_is_its_own_check_word_beside_its_siphash() {
+    for number in [0, 1, 0xff, 0x0102_0304_0506_0708, u64::MAX] {
+        let mut of_std = DefaultHasher::new();
+        of_std.write_u64(number);
+        let mut state = PrintHasher::new(Secret(0, 0));
+        state.write_u64(number);
+        assert_eq!(state.print(), Print { key: of_std.finish(), check: number });
+    }
+}
+
+// A type may write numbers of several sizes, or a number in some cases and more in others.
+#[test]
+fn numbers_of_all_sizes_and_pairs_of_numbers_have_prints_of_their_own() {
+    let mut prints = HashSet::new();
+    for number in 0..=u8::MAX {
+        let wide = u64::from(number);
+        let all: [&dyn Fn(&mut PrintHasher); 8] = [
+            &|state| state.write_u8(number),
+            &|state| state.write_u16(number.into()),
+            &|state| state.write_u32(number.into()),
+            &|state| state.write_u64(wide),
+            &|state| state.write_u128(wide.into()),
+            &|state| state.write(&[number]),
+            &|state| (number, number).hash(state),
+            &|state| (wide, !wide).hash(state),
+        ];
+        prints.extend(all.map(|write| {
+            let Print { key, check } = print_of(write);
+            (key, check)
+        }));
+    }
+    assert_eq!(prints.len(), 8 * 256);
+}
+
 #[test]
 fn each_hash_depends_on_the_key() {
     const KEYS: u64 = 10_000;
     for printer in [Printer::once(RandomState::new()), Printer::twice(RandomState::new())] {
-        let prints: Vec<Print> = (0..KEYS).map(|key| printer.print(&key)).collect();
+        let prints: Vec<Print> = (0..KEYS).map(|key| printer.print(&key.to_string())).collect();
         let words: HashSet<u64> = prints.iter().flat_map(|print| [print.key, print.check]).collect();
         assert_eq!(words.len() as u64, 2 * KEYS);
     }
     let (one, other) = (Printer::once(RandomState::new()), Printer::once(RandomState::new()));
-    assert!(one.print(&1).key != other.print(&1).key && one.print(&1).check != other.print(&1).check);
+    assert!(one.print("1").key != other.print("1").key && one.print("1").check != other.print("1").check);
+    assert_ne!(one.print(&1).key, other.print(&1).key);
 }
