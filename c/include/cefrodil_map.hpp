@@ -292,7 +292,7 @@ template <class K, class V, class Hash = SipHash<K>> class map {
     }
     // Removes a key. ok or absent: it is gone. Otherwise nothing was done, and the key may still be there. held, busy, changed: other threads were
     // first each time: call again until it is ok or absent. If nobody may get the key until then, keep it in a set of your own and refuse it, as in
-    // map_sessions.cpp. spent: open a new map. If a store is behind the map, change the store first: then no older value is put afterwards by
+    // map_logout.cpp. spent: open a new map. If a store is behind the map, change the store first: then no older value is put afterwards by
     // find_or_compute.
     [[nodiscard]] Status erase(Key key) noexcept(never_throws) {
         return change(key, Status::closed, [&](const auto &known) { return inner_->table.erase(known); });

@@ -167,6 +167,11 @@ fn a_turn_changes_only_the_put_that_it_names() -> Result<(), Box<dyn Error>> {
     assert_eq!(pass.try_put_if(7, 2, &[72])?, 3);
     assert_eq!(pass.get_or_desk(7), Reply::Found { value: [72], at: 3, since: 3 });
     assert_eq!(pass.get_or_desk(2), Reply::Absent { at: 3 });
+    let mut reply = Reply::Busy;
+    pass.get_or_desk_into(7, &mut reply);
+    assert_eq!(reply, Reply::Found { value: [72], at: 3, since: 3 });
+    pass.get_or_desk_into(2, &mut reply);
+    assert_eq!(reply, Reply::Absent { at: 3 });
     Ok(())
 }
 
