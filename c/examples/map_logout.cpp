@@ -1,4 +1,4 @@
-// Sessions as in map_sessions.cpp, with a logout that takes effect at once, also if other threads keep the map from erasing the session.
+// Sessions as in map_sessions.cpp, with a logout that takes effect at once, even if other threads keep the map from erasing the session.
 #include "cefrodil_map.hpp"
 #include <atomic>
 #include <cstdio>

@@ -22,7 +22,7 @@ struct HashSecret {
     uint64_t second;
 };
 
-// A hash of 128 bits.
+// The two words by which a map knows a key.
 struct HashPair {
     uint64_t first;
     uint64_t second;
@@ -110,8 +110,8 @@ template <class Key> inline constexpr bool is_string = std::is_same_v<Key, std::
 } // namespace inside
 
 // The hash of a map, unless the program gives it another: SipHash-1-3 of a string's letters, or of the bytes of any other key. With a secret it
-// has 128 bits. Those of a key of up to 8 bytes are a SipHash of 64 bits and the key itself, so no two such keys have the same. With a seed it has 64
-// bits: for hashes of yours. A key is
+// returns two words. For a key whose type has up to 8 bytes they are a hash of 64 bits and the key itself, so no two such keys have the same pair.
+// For any other key they are a hash of 128 bits. With a seed it returns a hash of 64 bits: for hashes of yours. A key is
 // - a std::string or a std::string_view. A `const char *` as the key's type is a pointer: its address is the key, not its letters.
 // - an integer, an enum or a pointer, or a std::array of them.
 // - a trivially copyable struct without padding, whose bytes are its value. No float is: 0.0 and -0.0 are equal, but have other bytes.

@@ -18,9 +18,10 @@
 // This header is plain C++ and is not proved. The index below it is: a lookup of a 64-bit number returns what was put under it last, at one moment
 // of the call, and never parts of two values.
 //
-// The map stores no keys. It hashes a key to 128 bits, with a secret. Half of them are the key's number in the index. The others are stored with the
-// value. Each lookup compares them, and a mismatch is a miss. So two keys are confused only if all 128 bits agree. With SipHash that is, as far as is
-// known, a chance of 2^-128 for a pair of strings or larger structs. Keys of up to 8 bytes, such as integers, are stored themselves, and never confused.
+// The map knows a key by 128 bits, made with a secret. Half of them are the key's number in the index. The others are a check word, which is stored
+// with the value. A lookup compares it, and a mismatch is a miss. By SipHash, the check word of a key whose type has up to 8 bytes, such as an integer,
+// is the key itself: two such keys are never confused. Any other key, such as a string of any length, has two hashes. Two of those are confused, as far
+// as is known, with a chance of 2^-128.
 //
 // What you promise: no other call runs during open, close, a move or the destructor. All other calls may come from any thread at any time. No call
 // comes from a signal handler or a forked child. malloc, realloc and free belong to one allocator, whose blocks are aligned to 16 bytes. The program
@@ -220,7 +221,8 @@ template <class V> class Table : private Packing<V> {
 } // namespace inside
 
 // A map of K to V. A hash of yours is `HashPair operator()(const K &key, const HashSecret &secret) const`. Several threads call it at once. Two keys
-// are confused if both words agree, so they must be independent. SipHash's are. Here is one of a key's name:
+// are confused if both words agree, so they must be independent. SipHash's are for strings and for types of more than 8 bytes. The second word of a
+// smaller type is the key itself, so don't combine the pairs of two members: hash a struct of both. Here is a hash of a key's name:
 //     return cefrodil::SipHash<std::string_view>()(key.name, secret);
 // Or it has 64 bits: `uint64_t operator()(const K &key, uint64_t seed) const`. Then it is called twice, with two seeds, which must give independent
 // hashes.

@@ -245,8 +245,7 @@ template <size_t Words> class Turns {
             return status;
         }
         shape.mix = mix;
-        // The versions of more stripes would take room from entries in the processor's caches.
-        shape.stripes = std::min(shape.stripes, std::max<uint32_t>(64, 4096 / shards));
+        shape.stripes = std::min(shape.stripes, std::max(stripes_of_a_shard, all_stripes / shards));
         tries_ = tries;
         capacity_ = uint64_t(shape.items) * shards;
         return passes_.open(shape, shards, passes);
@@ -312,6 +311,10 @@ template <size_t Words> class Turns {
         }
         return {Status::busy, 0};
     }
+
+    // The most stripes that all shards have together, but each may have `stripes_of_a_shard`. Each stripe has a version of 8 bytes, and more of them
+    // would leave less room for entries in the processor's caches.
+    static constexpr uint32_t all_stripes = 4096, stripes_of_a_shard = 64;
 
     Passes<Words> passes_{};
     uint32_t tries_ = 0;

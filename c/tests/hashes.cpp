@@ -1,5 +1,5 @@
-// A map knows a key by two words: by default those of SipHash-1-3 of 128 bits, or of a small key one of 64 bits and the key itself. The secret is
-// drawn at the opening.
+// A map knows a key by two words. By default they are a SipHash-1-3 of 128 bits; for a key of up to 8 bytes, one of 64 bits and the key itself. The
+// secret is drawn at the opening.
 #include "cefrodil_map.hpp"
 #include "must.h"
 #include "sip_vectors.h"

@@ -1,4 +1,4 @@
-//! The two words by which the index knows a key.
+//! The two words by which the map knows a key.
 use crate::sip::{Secret, Sip};
 use std::hash::{BuildHasher, Hash, Hasher};
 
@@ -58,10 +58,11 @@ impl<S: BuildHasher> Printer<S> {
 #[derive(Clone)]
 pub(crate) struct PrintHasher {
     secret: Secret,
-    // What all calls gave.
+    // The hash of all that was given.
     sip: Sip,
-    calls: usize,
-    // The number of the last call, and of how many bytes it is. Bytes are no number, and count as two calls.
+    // How many numbers were given. Bytes, and a number of 128 bits, count as two: they are not a single small number.
+    parts: usize,
+    // The last number of up to 64 bits, and its size in bytes.
     number: u64,
     size: usize,
 }
@@ -69,12 +70,12 @@ pub(crate) struct PrintHasher {
 impl PrintHasher {
     #[inline(always)]
     pub fn new(secret: Secret) -> PrintHasher {
-        PrintHasher { secret, sip: Sip::new(secret), calls: 0, number: 0, size: 0 }
+        PrintHasher { secret, sip: Sip::new(secret), parts: 0, number: 0, size: 0 }
     }
 
     #[inline(always)]
     pub fn print(self) -> Print {
-        if self.calls == 1 {
+        if self.parts == 1 {
             // The same number in another size has the same check word, so the key differs.
             return Print { key: self.secret.hash(self.number) ^ (8 - self.size) as u64, check: self.number };
         }
@@ -86,19 +87,19 @@ impl PrintHasher {
     #[inline(always)]
     fn take(&mut self, number: u64, size: usize) {
         self.sip.take(number, size);
-        self.calls += 1;
+        self.parts += 1;
         (self.number, self.size) = (number, size);
     }
 
-    // The hash that takes more than a number.
+    // The hash, for what is not a single small number.
     #[inline(always)]
     fn more(&mut self) -> &mut Sip {
-        self.calls += 2;
+        self.parts += 2;
         &mut self.sip
     }
 }
 
-/// Each call takes the same bytes as in std's SipHash.
+/// Each call gives `sip` the bytes that std's SipHash takes. The print of a single number is not made from them.
 impl Hasher for PrintHasher {
     #[inline(always)]
     fn write(&mut self, bytes: &[u8]) {

@@ -15,8 +15,8 @@ const MOST_SHARDS: usize = 16;
 /// A shard of fewer entries gets four times the buckets. Without them, up to one new key in a hundred finds no place.
 const SMALL: u32 = 256;
 
-/// How many stripes all shards together have, about, and how many a shard has at least. The versions of more stripes would take room from
-/// entries in the processor's caches.
+/// The most stripes that all shards have together, but each may have `STRIPES_OF_A_SHARD`. Each stripe has a version of 8 bytes, and more of
+/// them would leave less room for entries in the processor's caches.
 const STRIPES: u32 = 4096;
 const STRIPES_OF_A_SHARD: u32 = 64;
 
@@ -25,7 +25,7 @@ pub(crate) struct Settings<S> {
     pub shards: Option<u32>,
     pub threads: usize,
     pub hasher: S,
-    /// Whether a key may be hashed once for two hashes: not by a hasher of the user's.
+    /// Whether a key is hashed once for its two words: not by a hasher of the user's.
     pub once: bool,
     pub life: Option<Duration>,
 }

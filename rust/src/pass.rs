@@ -79,7 +79,7 @@ impl<const WORDS: usize> Pass<'_, WORDS> {
         Reply::by(|value| self.handle().get_or_desk(key, value))
     }
 
-    /// Like [`get_or_desk`](Pass::get_or_desk), with the answer written to `reply`, which copies less.
+    /// Like [`get_or_desk`](Pass::get_or_desk), but writes the answer to `reply`. That saves a copy.
     #[inline]
     pub fn get_or_desk_into(&mut self, key: u64, reply: &mut Reply<WORDS>) {
         reply.set(|value| self.handle().get_or_desk(key, value));

@@ -144,7 +144,7 @@ impl<const WORDS: usize> Reply<WORDS> {
         reply
     }
 
-    /// Makes it the reply to a lookup, which writes the value where it stays: a copy would cost.
+    /// Replaces this reply by that of a lookup. The lookup writes the value in place, so it is not copied.
     #[inline]
     pub(crate) fn set(&mut self, look: impl FnOnce(&mut [u64; WORDS]) -> Told) {
         *self = Reply::Found { value: [0; WORDS], at: 0, since: 0 };

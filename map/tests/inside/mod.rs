@@ -7,4 +7,5 @@ mod flights;
 mod objects;
 mod places;
 mod prints;
+mod shapes;
 mod slots;

@@ -33,7 +33,7 @@ fn the_default_hashes_once_and_a_hasher_of_the_users_twice() {
     assert_eq!((times(&by_default), times(&built), times(&of_the_users)), (1, 1, 2));
 }
 
-// What is hashed for a key by the secret of this hasher.
+// The secret that a printer makes from this hasher.
 fn secret_of(hasher: &RandomState) -> Secret {
     Secret(hasher.hash_one(0_u64), hasher.hash_one(1_u64))
 }
@@ -162,6 +162,18 @@ fn numbers_of_all_sizes_and_pairs_of_numbers_have_prints_of_their_own() {
         }));
     }
     assert_eq!(prints.len(), 8 * 256);
+}
+
+// `None` and an empty list both write the number 0 of 64 bits: they are keys of different types.
+#[test]
+fn keys_that_write_other_numbers_or_more_have_prints_of_their_own() {
+    let once = Printer::once(RandomState::new());
+    let (none, some) = (once.print(&None::<u64>), once.print(&Some(0_u64)));
+    let (empty, listed) = (once.print::<[String]>(&[]), once.print(&[String::new()][..]));
+    let prints =
+        [once.print(&-1_i8), once.print(&-1_i64), once.print(&()), none, some, listed].map(|print| (print.key, print.check));
+    assert_eq!(HashSet::from(prints).len(), prints.len());
+    assert_eq!(empty, none);
 }
 
 #[test]

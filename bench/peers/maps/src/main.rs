@@ -1,5 +1,5 @@
 //! Maps of a program's own types, side by side: the same work as in `maps.cpp`. The contestants are in `contestants.rs`. All of them hash by
-//! SipHash-1-3 with a secret (std's default; `cefrodil-map` has its own, of 128 bits), or all by two multiplications.
+//! SipHash-1-3 with a secret (std's default; `cefrodil-map` has its own), or all by two multiplications.
 mod contestants;
 
 use contestants::{Cefrodil, Contestant, Key, Lru, Opens, Quick};
