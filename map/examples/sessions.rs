@@ -25,7 +25,6 @@ fn main() -> Result<(), Box<dyn Error>> {
     assert!(!sessions.contains_key("token of Ann") && sessions.contains_key("token of Bob"));
     // A removal that fails has to be called again.
     while sessions.remove("token of Bob").is_err() {}
-    assert!(!sessions.contains_key("token of Bob"));
     assert_eq!(sessions.modify_for("token of Bob", life, |session| session)?, None);
     Ok(())
 }
