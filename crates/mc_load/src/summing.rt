@@ -87,17 +87,17 @@ fn check_readers<const V: usize>(
 pub(crate) fn report_of<const V: usize>(
     alloc: Global,
     load: Load,
-    writer: WriterThread<'_, V>,
+    writer_thread: WriterThread<'_, V>,
     reader_threads: Vec<ReaderThread<'_, V>>,
 ) -> Report
     requires width { IsWidth V }
-    requires shape { IsShape load.shape × (writer.cache.now.layout.shape ≡ load.shape) }
-    requires writing { IsWriting V writer.cache.now writer }
-    requires written { HasWritten V load load.writes writer }
-    requires journal { vec_len writer.journal ≤ 2 * load.writes }
+    requires shape { IsShape load.shape × (writer_thread.cache.now.layout.shape ≡ load.shape) }
+    requires writing { IsWriting V writer_thread.cache.now writer_thread }
+    requires written { HasWritten V load load.writes writer_thread }
+    requires journal { vec_len writer_thread.journal ≤ 2 * load.writes }
     requires len { vec_len reader_threads ≡ load.readers }
     requires few { vec_len reader_threads ≤ most_readers }
-    requires of { AreReadersOf writer.cache.now reader_threads.items }
+    requires of { AreReadersOf writer_thread.cache.now reader_threads.items }
     requires ended { HaveEnded V load reader_threads.items }
     requires noted { HaveAllNoted load reader_threads.items }
     ensures { Reports V load result }
@@ -106,7 +106,7 @@ pub(crate) fn report_of<const V: usize>(
         mut writer,
         journal,
         ..
-    } = writer;
+    } = writer_thread;
     let checker = Checker::sorted(alloc, journal.as_slice());
     let mut report = answers_of(load, reader_threads.as_slice());
     report.writes = u64::from(load.writes);

@@ -47,15 +47,15 @@ fn run_workers<const V: usize, R: Threads + Sync, G: Gate>(
         return Err(LoadError::NoMemory);
     };
     run_all(rt, gate, load, &mut writer_threads, &mut reader_threads);
-    let Some(writer) = writer_threads.pop() else {
+    let Some(writer_thread) = writer_threads.pop() else {
         unreachable!();
     };
-    if let Some(call) = writer.refused {
+    if let Some(call) = writer_thread.refused {
         return Err(LoadError::Gate { who: 0, call });
     }
     match refused_lookup(reader_threads.as_slice()) {
         Some(refused) => Err(refused),
-        None => Ok(report_of(alloc, load, writer, reader_threads)),
+        None => Ok(report_of(alloc, load, writer_thread, reader_threads)),
     }
 }
 

@@ -13,7 +13,7 @@ use Rattle.mc_load.proofs.summing.report_of.Goals as goal
 pub check_readers-requires : goal.check_readers-requires
 check_readers-requires g c =
     let V = g.row.V in
-    let w : WriterRecord = c.args.writer.writer in
+    let w : WriterRecord = c.args.writer_thread.writer in
     let of = subst (λ (o : Opening). AreReadersOf o c.args.reader_threads.items) (sym c.requires.writing.of) c.requires.of in
     let history = c.sorted-checker.ensures ∙ (c.as_slice.ensures.value ∙ (c.requires.writing.kept ∙ ap (λ (o : Opening). history_after V o.layout.shape w.acts) (sym c.requires.writing.of))) in
     (omega arith, (omega arith, (omega arith, (of, ((λ n d low. (c.requires.ended n d low).told), history)))))
@@ -23,12 +23,12 @@ returns g c =
     let V = g.row.V in
     let load = c.args.load in
     let sh = load.shape in
-    let w : WriterRecord = c.args.writer.writer in
+    let w : WriterRecord = c.args.writer_thread.writer in
     let ls = c.args.reader_threads.items in
     let same = c.requires.shape.1 in
     let shape : w.of.layout.shape ≡ sh = ap (λ (o : Opening). o.layout.shape) c.requires.writing.of ∙ same in
     let h = history_after V sh w.acts in
-    let kept : c.args.writer.journal.items ≡ h = c.requires.writing.kept ∙ ap (λ (s : Shape). history_after V s w.acts) same in
+    let kept : c.args.writer_thread.journal.items ≡ h = c.requires.writing.kept ∙ ap (λ (s : Shape). history_after V s w.acts) same in
     let read : c.as_slice-2.result.now ≡ ls = c.as_slice-2.ensures.value in
     let many : length (answers_of ls) ≡ length ls = length-map ls (λ (l : ReaderThread V). l.records.items) in
     let readers : length c.as_slice-2.result.now ≡ load.readers = c.as_slice-2.ensures.len ∙ c.requires.len in

@@ -21,7 +21,7 @@ returns-in-Some-refused g c =
     let may : ℕ → ℕ → Type 0 = g.G.Gate.may_refuse c.args.gate.now in
     let load = c.args.load in
     let one : length c.in-Ok.writer_threads.items ≡ 1 = omega (arith, c.in-Ok.ensures.one, c.in-Ok.writer_threads.ok.0) in
-    let end = writer_ended may load c.in-Ok.writer_threads.items c.run_all.new.writers.items c.pop.new.self.items c.in-Some.writer one c.in-Some.ensures.items c.run_all.ensures.written in
+    let end = writer_ended may load c.in-Ok.writer_threads.items c.run_all.new.writers.items c.pop.new.self.items c.in-Some.writer_thread one c.in-Some.ensures.items c.run_all.ensures.written in
     let told = subst (λ (o : Option ℕ). IfSome o (λ call. (1 ≤ call) × (call ≤ load.writes) × may 0 call)) c.in-Some-refused.is end.refused in
     (c.requires.keys, c.requires.asked.0, c.requires.asked.1, (told.0, inl (refl, told.1)), told.2)
 
@@ -31,7 +31,7 @@ report_of-requires g c =
     let may : ℕ → ℕ → Type 0 = g.G.Gate.may_refuse c.args.gate.now in
     let load = c.args.load in
     let before = c.in-Ok.writer_threads.items in
-    let x = c.in-Some.writer in
+    let x = c.in-Some.writer_thread in
     let one : length before ≡ 1 = omega (arith, c.in-Ok.ensures.one, c.in-Ok.writer_threads.ok.0) in
     let end = writer_ended may load before c.run_all.new.writers.items c.pop.new.self.items x one c.in-Some.ensures.items c.run_all.ensures.written in
     let low : 0 < length before = omega (arith, one) in
