@@ -1,5 +1,5 @@
 -- Each step keeps the rule of the table.
-use Rattle.std.proofs.Common.{◌≡◌, Bool, ℕ, zero, suc, ◌+◌, ◌<◌, ◌≢◌, eqb, eq-eqb, ne_eqb, List, [], ◌∷◌, ◌++◌, length, get_or, set, refl, ap, sym, ◌∙◌, subst, ⊎_elim, arith, ◌≤◌, length-set, length-append, get_or-set_other, get_or-set_same, Some}
+use Rattle.std.proofs.Common.{◌≡◌, Bool, ℕ, zero, suc, ◌+◌, ◌-◌, ◌^◌, ◌<◌, ◌≢◌, eqb, eq-eqb, ne_eqb, List, [], ◌∷◌, ◌++◌, length, get_or, set, refl, ap, sym, ◌∙◌, subst, ⊎_elim, arith, ◌≤◌, length-set, length-append, get_or-set_other, get_or-set_same, Some}
 use Rattle.std.specs.Prelude.{replicate, if◌then◌else◌}
 use Rattle.std.proofs.lemmas.List.{length-replicate}
 use mathlib.Core.Logic.{dite}
@@ -35,7 +35,7 @@ use Rattle.mc_shared.specs.RecencyTrace.{Trace, new_trace, trace_after, trace_of
 use Rattle.mc_shared.specs.Views.{Note, Tally, new_tally, with_reader, with_note, seated_in, Role, Spent, Writes, Reads, Both, View, IsWriters, view_as, writer_view, reader_view, new_writer_view, acts_of, tally_of, number_of, front_of, done_of, layout_state, with_bit, IsFrontOf}
 use Rattle.mc_shared.specs.ExactFronts.{IsExact}
 use Rattle.mc_shared.specs.TableRule.{word_after, IsRecord, FitsRole, Fits, AllFit, HasWriter, seats_of, marks_of, bit_in, Ruled}
-use Rattle.mc_shared.specs.Steps.{SeatView, bit_of, AddsAct, AddsActIfSet, AddsActIfClear, FetchesWord, reading, ReadsWord, mark_at, AddsMark, AddsMarkIfSet, ComparesMoment}
+use Rattle.mc_shared.specs.Steps.{SeatView, bit_of, item_bit, AddsAct, ClearsBit, AddsActIfSet, AddsActIfClear, FetchesWord, reading, ReadsWord, mark_at, AddsMark, AddsMarkIfSet, ComparesMoment}
 use Rattle.mc_shared.specs.Inside.Steps.{WritesAt, only, all_but}
 use Rattle.mc_shared.specs.Inside.Seats.{MayMake}
 use Rattle.mc_shared.proofs.WrittenPlaces.{act_names_in, place_below, word_written}
@@ -330,11 +330,15 @@ module _ (key l : Layout) (key-is : key ≡ l) (id slots : ℕ) (me : SeatView) 
       (subst (λ (z : SeatView). Allows (Ruled l) slots id z n f (λ r. AddsAct a st z (g r))) (sym is) (makes l id slots [] (acts_of me.0) (tally_of me.0) a n x f g st may w writes bit past))
 
   -- the hand, and the writer's mark
-  pub hands_as : me ≡ (writer_view l (acts_of me.0) (tally_of me.0), []) → (a : Act) (i n m : ℕ) → a ≡ Hand i → MayMake l (acts_of me.0) (Hand i) → m ≡ all_but i → n ≡ recency_place l.width l.shape i → Allows (Ruled key) slots id me n (λ w. bit_and w m) (AddsAct a (step slots n m 0 none) me)
-  hands_as is a i n m act may mask here =
+  pub hands_as : me ≡ (writer_view l (acts_of me.0) (tally_of me.0), []) → (a : Act) (i n m : ℕ) → a ≡ Hand i → MayMake l (acts_of me.0) (Hand i) → m ≡ all_but i → n ≡ recency_place l.width l.shape i → Allows (Ruled key) slots id me n (λ w. bit_and w m) (ClearsBit a (step slots n m 0 none) me)
+  hands_as is a i n m act may mask here s r long at fits =
+      let whole : Allows (Ruled key) slots id me n (λ w. bit_and w m) (AddsAct a (step slots n m 0 none) me) =
       subst (λ (y : Act × ℕ × ℕ). Allows (Ruled key) slots id me y.1 (λ w. bit_and w y.2) (AddsAct y.0 (step slots y.1 y.2 0 none) me)) (λ j. (sym act j, sym here j, sym mask j))
       (makes_as is (Hand i) (recency_place l.width l.shape i) (all_but i) (λ w. bit_and w (all_but i)) (λ w. w) (step slots (recency_place l.width l.shape i) (all_but i) 0 none) may (refl, refl)
       (λ low. absurd (omega arith)) (hand_bits l i) (spared_past l i (λ w. bit_and w (all_but i)) (act_names_in l (acts_of me.0) (Hand i) may) (and_spares (recency_bit i) (bit_low i))))
+      in
+      let x = whole s r long at fits in
+      (x.0, x.1, x.2, x.3, (mask ∙ ap (λ (b : Act). 2 ^ 64 - 1 - 2 ^ item_bit b) (sym act), x.4))
 
   pub touches_as : me ≡ (writer_view l (acts_of me.0) (tally_of me.0), []) → (a : Act) (i n m : ℕ) → a ≡ Mark i → MayMake l (acts_of me.0) (Mark i) → m ≡ only i → n ≡ recency_place l.width l.shape i → Allows (Ruled key) slots id me n (λ w. bit_or w m) (AddsAct a (step slots n m 0 none) me)
   touches_as is a i n m act may mask here =

@@ -1,6 +1,11 @@
 -- The rule of the hand: whatever step adds its act to the writer's record reports the bit that it clears.
-use Rattle.std.proofs.Common.{◌≡◌, Bool, ℕ, ◌<◌, eqb, eq-eqb, ne_eqb, List, [], ◌∷◌, ◌++◌, length, set, refl, ap, sym, ◌∙◌, subst, arith}
+use Rattle.std.proofs.Common.{◌≡◌, Bool, ℕ, ◌-◌, ◌^◌, ◌<◌, get_or, eqb, eq-eqb, ne_eqb, List, [], ◌∷◌, ◌++◌, length, set, refl, ap, sym, ◌∙◌, subst, arith}
 use Rattle.std.specs.Prelude.{if◌then◌else◌}
+use Rattle.std.specs.Int.{bit_at}
+use lib.Bits.{bit_and}
+use Rattle.mc_words.specs.Places.{recency_place}
+use Rattle.mc_words.specs.Recency.{recency_bit}
+use Rattle.mc_shared.proofs.PackedBits.{bit_low, and_here, recency_below, bit_there}
 use mathlib.Core.Option.{some}
 use lib.ListN.{get_elem?}
 use Rattle.atomic_table.specs.Table as table
@@ -11,7 +16,7 @@ use Rattle.mc_shared.specs.declared.layout.Layout.{Layout}
 use Rattle.mc_shared.specs.ExactLaws.{AddsTurn, HandsAreExact, HandsAreEntries}
 use Rattle.mc_shared.specs.RecencyTrace.{Trace, trace_swept, trace_of, new_trace, Coherent}
 use Rattle.mc_shared.specs.Steps.{SeatView}
-use Rattle.mc_shared.specs.TableRule.{Fits, marks_of, bit_in}
+use Rattle.mc_shared.specs.TableRule.{Fits, Ruled, marks_of, bit_in}
 use Rattle.mc_shared.specs.Views.{Tally, View, writer_view, with_bit, with_note}
 use Rattle.mc_shared.proofs.Coherence.{trace-push, swept_is_told, bit_stays}
 use Rattle.mc_shared.proofs.EachStep.{same_marks, got_below}
@@ -69,18 +74,32 @@ hands_are_exact = record {
       (swept_is_told trace (marks_of i s.views) h.note.marks (bit_in l s.words i) bit c.0 (subst (λ (b : ℕ). Coherent (trace_swept trace bit h.note.marks) (marks_of i s.views) b) zero c.1)).0;
 }
 
+-- an `and` with all bits but the item's leaves the item's clear
+cleared_by : (l : Layout) (s : table.State (Unit {0}) View) (r : Ruled l s) (i keeps : ℕ) → i < l.shape.items → keeps ≡ 2 ^ 64 - 1 - 2 ^ recency_bit i →
+    let place = recency_place l.width l.shape i in
+    bit_in l (set s.words place (bit_and (get_or s.words place 0) keeps)) i ≡ 0
+cleared_by l s r i keeps below is =
+    let place : ℕ = recency_place l.width l.shape i in
+    let w : ℕ = get_or s.words place 0 in
+    let inside = recency_below l.width l.shape i below in
+    bit_there l s.words i (bit_and w keeps) (omega (arith, inside, r.wide))
+    ∙ (ap (λ (k : ℕ). bit_at (bit_and w k) (recency_bit i)) is ∙ and_here (recency_bit i) w (bit_low i))
+
 pub hands_are_entries : HandsAreEntries
 hands_are_entries = record {
-  turned = λ l s seat slots acts tally held i st leaves allows rule fits mine small.
-      let next = allows s rule fits mine small in record {
-        before = rule;
-        after = next.3;
-        seat = seat;
-        tally = tally;
-        note = next.4.0;
-        knows = mine;
-        step = ap (λ (me : SeatView). set s.views seat me.0) next.4.1;
-      };
+  turned = λ l s seat slots acts tally held i keeps allows rule fits mine small.
+      let next = allows s rule fits mine small in (
+        record {
+          before = rule;
+          after = next.3;
+          seat = seat;
+          tally = tally;
+          note = next.4.1.0;
+          knows = mine;
+          step = ap (λ (me : SeatView). set s.views seat me.0) next.4.1.1;
+        },
+        λ below. cleared_by l s rule i keeps below next.4.0,
+      );
   seen = λ l s seat slots acts tally held i st allows rule fits mine small zero.
       let next = allows s rule fits mine small in
       let made = next.4.0 zero in record {

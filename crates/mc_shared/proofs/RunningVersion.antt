@@ -1,5 +1,5 @@
 -- The version of the running deed: which acts leave it as it is, what an open makes it, and what a close writes.
-use Rattle.std.proofs.Common.{◌≡◌, ℕ, ◌+◌, ◌≤◌, List, [], ◌∷◌, ◌++◌, length, ap, sym, ◌∙◌, subst, arith, Option, Some}
+use Rattle.std.proofs.Common.{◌≡◌, ℕ, ◌+◌, ◌%◌, ◌<◌, ◌≤◌, Bool, eqb, eq-eqb, ne_eqb, refl, None, List, [], ◌∷◌, ◌++◌, length, ap, sym, ◌∙◌, subst, arith, Option, Some}
 use Rattle.mc_words.specs.Keys.{stripe_of}
 use Rattle.mc_words.specs.Places.{word_count, version_place, version, with_moment, with_slot, with_item}
 use Rattle.mc_words.specs.Shapes.{IsShape}
@@ -8,16 +8,23 @@ use Rattle.mc_words.proofs.Keys.{stripe_of-lt}
 use Rattle.mc_words.proofs.Places.{version-with_moment, version-with_version_same, version-with_slot, version-with_item}
 use Rattle.mc_theory.specs.Acts.{IsAllowed, MayFrom}
 use Rattle.mc_theory.specs.Effects.{phase_after, words_after, with_bump}
-use Rattle.mc_theory.specs.Lists.{Made, state_of}
+use Rattle.mc_theory.specs.Inner.{StateHolds}
+use Rattle.mc_theory.specs.Lists.{IsLawful, Made, state_of}
 use Rattle.mc_theory.specs.Phases.{Phase, Quiet, Filling, Keyed, Placed, Renewing, Removing, Removed, Moving, Moved, Closing, deed_key, first_phase}
-use Rattle.mc_theory.specs.States.{State, opening}
+use Rattle.mc_theory.specs.States.{State}
 use Rattle.mc_theory.specs.Writes.{write_of}
 use Rattle.mc_theory.specs.declared.act.Act.{Act}
 use Rattle.mc_theory.specs.declared.act.Act.TheVariants.{Open, Slot, Item, Moment, Close, Hand, Mark}
 use Rattle.mc_theory.specs.declared.act.Deed.{Deed}
 use Rattle.mc_theory.specs.declared.act.Deed.TheVariants as deed
 use Rattle.mc_theory.proofs.Lists.Bounds.{state_length}
-use Rattle.mc_theory.proofs.Lists.Fronts.{state_none, state_push}
+use Rattle.mc_theory.proofs.Lists.Fronts.{state_push}
+use Rattle.std.specs.Prelude.{if◌then◌else◌, slice_index}
+use mathlib.Core.Logic.{dite}
+use native.Mathlib.Decide.{ℕ_discrete}
+use Rattle.mc_words.specs.Standing.{odd_at}
+use Rattle.mc_theory.proofs.Lists.Fronts.{state_holds}
+use Rattle.mc_shared.specs.SeatFacts.{IsRun}
 use Rattle.mc_shared.specs.Records.{Opening, WriterRecord, HasActed}
 use Rattle.mc_shared.specs.Running.{RunsAt, RunsIn, IsRunning}
 use Rattle.mc_shared.specs.Views.{with_bit}
@@ -74,11 +81,6 @@ opens V sh w k d r s size here next =
     by_deed deed.Evict h = h
     by_deed deed.Move h = h
 
--- a close leaves no running deed
-closes : (V : ℕ) (sh : Shape) (w : List ℕ) (hand : ℕ) (cleared : Option ℕ) (p : Phase) (r : Running) → MayFrom V sh w hand cleared p Close → RunsAt sh (words_after V sh w p Close) (deed_key (phase_after p Close)) r
-closes V sh w hand cleared (Closing k) r may = tt
-closes V sh w hand cleared _ r may = absurd may
-
 -- where a close writes, and what
 pub close_writes : (V : ℕ) (sh : Shape) (w : List ℕ) (hand : ℕ) (cleared : Option ℕ) (p : Phase) (r : Running) → MayFrom V sh w hand cleared p Close → RunsAt sh w (deed_key p) r → write_of V sh w p Close ≡ Some (r.place, r.count + 1)
 close_writes V sh w hand cleared (Closing k) r may h = closing_writes h.0 h.1
@@ -102,25 +104,6 @@ after_acted {V} {before} {after} {a} {b} r h s runs = record {
   runs = subst (λ (y : Opening × List Made). RunsIn y.0.layout.shape (state_of V y.0.layout.shape y.1) r) (λ i. (sym h.of i, sym h.acts i)) runs;
 }
 
--- an act that neither opens nor closes leaves it
-pub inner_acted : {V : ℕ} {before after : WriterRecord} {a : Act} {b : ℕ} (r : Running) → IsInner a → IsAllowed before.of.layout.shape (state_of V before.of.layout.shape before.acts) a → HasActed before after a b → IsRunning V before r → IsRunning V after r
-inner_acted {V} {before} {after} {a} {b} r is may h run = after_acted r h run.shape (inner_runs V before.of.layout.shape before.acts a b r run.shape is may run.runs)
-
--- the same, for a caller that knows which act it is
-pub inner_performed : {V : ℕ} {before after : WriterRecord} {o : Opening} {act a : Act} {b : ℕ} (r : Running) → before.of ≡ o → act ≡ a → IsInner a → IsAllowed o.layout.shape (state_of V o.layout.shape before.acts) act → HasActed before after a b → IsRunning V before r → IsRunning V after r
-inner_performed {V} {before} {after} {o} {act} {a} {b} r of is inner may h run =
-    inner_acted r inner (subst (λ (y : Opening × Act). IsAllowed y.0.layout.shape (state_of V y.0.layout.shape before.acts) y.1) (λ i. (sym of i, is i)) may) h run
-
--- after a close any version will do
-closed_acted : {V : ℕ} {before after : WriterRecord} {b : ℕ} (r : Running) → IsShape before.of.layout.shape → IsAllowed before.of.layout.shape (state_of V before.of.layout.shape before.acts) Close → HasActed before after Close b → IsRunning V after r
-closed_acted {V} {before} {after} {b} r s may h =
-    let sh = before.of.layout.shape in let st = state_of V sh before.acts in
-    after_acted r h s (subst (λ (z : State V). RunsIn sh z r) (sym (state_push V sh before.acts (with_bit Close b))) (closes V sh st.words st.hand st.cleared st.phase r may))
-
-pub close_performed : {V : ℕ} {before after : WriterRecord} {o : Opening} {act : Act} {b : ℕ} (r : Running) → before.of ≡ o → act ≡ Close → IsAllowed o.layout.shape (state_of V o.layout.shape before.acts) act → HasActed before after Close b → IsRunning V before r → IsRunning V after r
-close_performed {V} {before} {after} {o} {act} {b} r of is may h run =
-    closed_acted r run.shape (subst (λ (y : Opening × Act). IsAllowed y.0.layout.shape (state_of V y.0.layout.shape before.acts) y.1) (λ i. (sym of i, is i)) may) h
-
 -- an open
 pub opened_acted : {V : ℕ} {before after : WriterRecord} {k : ℕ} {d : Deed} {b : ℕ} (r : Running) → IsShape before.of.layout.shape → r.place ≡ version_place (stripe_of before.of.layout.shape k) → r.count ≡ version (state_of V before.of.layout.shape before.acts).words (stripe_of before.of.layout.shape k) + 1 → HasActed before after (Open k d) b → IsRunning V after r
 opened_acted {V} {before} {after} {k} {d} {b} r s here next h =
@@ -128,12 +111,45 @@ opened_acted {V} {before} {after} {k} {d} {b} r s here next h =
     let long = state_length V sh before.acts in
     after_acted r h s (subst (λ (z : State V). RunsIn sh z r) (sym (state_push V sh before.acts (with_bit (Open k d) b))) (opens V sh st.words k d r s (omega arith) here next))
 
--- ---- a new table
-none_runs : (V : ℕ) (sh : Shape) (r : Running) → RunsIn sh (opening V sh) r
-unfolding opening
-none_runs V sh r = tt
+-- ---- the odd version
+-- if the version of a stripe is odd, the running deed's key has this stripe
+odd_is : (sh : Shape) (w : List ℕ) (running : Option ℕ) (t : ℕ) (r : Running) → r.place ≡ version_place t → r.count ≡ version w t → r.count % 2 ≡ 1 → version w t % 2 ≡ odd_at sh running t → RunsAt sh w running r
+odd_is sh w None t r here is odd told = tt
+odd_is sh w (Some k) t r here is odd told = dite (ℕ_discrete (stripe_of sh k) t)
+    (λ same. (here ∙ ap version_place (sym same), is ∙ ap (version w) (sym same)))
+    (λ other.
+    let zero : ◌≡◌ {A = ℕ} (if eqb (stripe_of sh k) t then 1 else 0) 0 = ap (λ (b : Bool). if◌then◌else◌ {A = ℕ} b 1 0) (ne_eqb (stripe_of sh k) t other) in
+    absurd (omega (arith, ap (λ (z : ℕ). z % 2) is, odd, told, zero)))
 
-pub none_acted : (V : ℕ) (w : WriterRecord) (r : Running) → IsShape w.of.layout.shape → w.acts ≡ [] → IsRunning V w r
-none_acted V w r s none =
-    let sh = w.of.layout.shape in
-    record { shape = s; runs = subst (λ (acts : List Made). RunsIn sh (state_of V sh acts) r) (sym none) (subst (λ (z : State V). RunsIn sh z r) (sym (state_none V sh)) (none_runs V sh r)) }
+-- if the version of every stripe is even, no deed runs
+even_is : (sh : Shape) (w : List ℕ) (running : Option ℕ) (r : Running) → IsShape sh → ((t : ℕ) → t < sh.stripes → version w t % 2 ≡ 0) → ((t : ℕ) → t < sh.stripes → version w t % 2 ≡ odd_at sh running t) → RunsAt sh w running r
+even_is sh w None r s even told = tt
+even_is sh w (Some k) r s even told =
+    let t = stripe_of sh k in
+    let below = stripe_of-lt sh k s in
+    let one : ◌≡◌ {A = ℕ} (if eqb t t then 1 else 0) 1 = ap (λ (b : Bool). if◌then◌else◌ {A = ℕ} b 1 0) (eq-eqb t t refl) in
+    absurd (omega (arith, even t below, told t below, one))
+
+-- the word that was fetched from the place of a version is that version
+pub fetched : (V : ℕ) (sh : Shape) (w w' : WriterRecord) (t n x : ℕ) → w' ≡ w → n ≡ version_place t → x ≡ slice_index (state_of V sh w'.acts).words n → x ≡ version (state_of V sh w.acts).words t
+unfolding version
+fetched V sh w w' t n x same here is = is ∙ λ i. slice_index (state_of V sh (same i).acts).words (here i)
+
+module _ (V : ℕ) (w : WriterRecord) (o : Opening) (of : w.of ≡ o) (wide : o.layout.width ≡ V) (run : IsRun w.of.layout w.acts) where
+  running_holds : StateHolds o.layout.shape (state_of V o.layout.shape w.acts)
+  running_holds = let r = subst (λ (p : Opening). IsRun p.layout w.acts) of run in state_holds V o.layout.shape w.acts r.shape (subst (λ (v : ℕ). IsLawful v o.layout.shape w.acts) wide r.lawful)
+
+  is_running : (r : Running) → RunsIn o.layout.shape (state_of V o.layout.shape w.acts) r → IsRunning V w r
+  is_running r runs = record { shape = run.shape; runs = subst (λ (p : Opening). RunsIn p.layout.shape (state_of V p.layout.shape w.acts) r) (sym of) runs }
+
+  -- so the odd version is that of the running deed
+  pub odd_runs : (t : ℕ) (r : Running) → t < o.layout.shape.stripes → r.place ≡ version_place t → r.count ≡ version (state_of V o.layout.shape w.acts).words t → r.count % 2 ≡ 1 → IsRunning V w r
+  odd_runs t r below here is odd =
+      let s = state_of V o.layout.shape w.acts in
+      is_running r (odd_is o.layout.shape s.words (deed_key s.phase) t r here is odd (running_holds.agrees.versions t below))
+
+  -- and without one no deed runs
+  pub none_odd : (r : Running) → ((t : ℕ) → t < o.layout.shape.stripes → version (state_of V o.layout.shape w.acts).words t % 2 ≡ 0) → IsRunning V w r
+  none_odd r even =
+      let s = state_of V o.layout.shape w.acts in
+      is_running r (even_is o.layout.shape s.words (deed_key s.phase) r (subst (λ (p : Opening). IsShape p.layout.shape) of run.shape) even running_holds.agrees.versions)

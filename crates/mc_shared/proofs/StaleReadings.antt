@@ -11,14 +11,12 @@ use Rattle.mc_words.specs.declared.shape.Shape.{Shape}
 use Rattle.mc_theory.specs.Acts.{IsAllowed}
 use Rattle.mc_theory.specs.States as states
 use Rattle.mc_theory.specs.States.{State}
-use Rattle.mc_theory.specs.declared.access.Access.{Access}
 use Rattle.mc_theory.specs.declared.act.Act.TheVariants.{Mark}
 use Rattle.mc_theory.proofs.Invariant.EachState.{zeros}
 use Rattle.mc_theory.proofs.Lists.Fronts.{lawful_none, state_none}
 use Rattle.mc_shared.specs.declared.layout.Layout.{Layout}
-use Rattle.mc_shared.specs.Views.{number_of, front_of, done_of, tally_for, View, writer_view, reader_view, with_note, with_bit}
+use Rattle.mc_shared.specs.Views.{tally_for, View, writer_view, reader_view, with_note, with_bit}
 use Rattle.mc_shared.specs.Steps.{SeatView, reading}
-use Rattle.mc_shared.specs.TableRule.{word_after, Ruled}
 use Rattle.mc_shared.specs.Inside.Seats.{MayMake}
 use Rattle.mc_shared.specs.Inside.Steps.{only}
 use Rattle.mc_shared.proofs.PackedBits.{bit_low, or_spares}
@@ -27,7 +25,7 @@ use Rattle.mc_shared.proofs.RecencySteps.{spared_past, touch_bits}
 use Rattle.mc_shared.proofs.EachStep.{makes}
 use Rattle.mc_shared.proofs.FirstTable.{Stands, new_words, new_table, stands_new}
 use Rattle.mc_shared.proofs.ExactReadings.{no_stale_reading}
-use Rattle.mc_shared.specs.ExactFronts.{IsReading}
+use Rattle.mc_shared.specs.ExactLaws.{StaleReadingsAreRefused}
 
 -- a table with no slots has none after any step
 no_slots : (a : Act (Unit {0})) → Valid [] [] a → (homes_after [] [] a ≡ []) × (carried_after [] a ≡ [])
@@ -59,7 +57,7 @@ module _ (l : Layout) (shape : IsShape l.shape) where
   }
 
   -- the writer has marked item 0, and the reader has seen nothing
-  pub stands_acted : (n : ℕ) → n < word_count l.width l.shape → (s : table.State (Unit {0}) View) × (h : Stands l 1 0 [] 0 [] [] s n) × (length h.acts ≡ 1)
+  stands_acted : (n : ℕ) → n < word_count l.width l.shape → (s : table.State (Unit {0}) View) × (h : Stands l 1 0 [] 0 [] [] s n) × (length h.acts ≡ 1)
   unfolding new_table new_words
   stands_acted n low =
       let p : ℕ = recency_place l.width l.shape 0 in
@@ -84,18 +82,7 @@ module _ (l : Layout) (shape : IsShape l.shape) where
         refl,
       )
 
-  -- a reading of any place at the old front, with whatever word: also with the right word of that front
-  pub stale_reading_refused : (a : Access) (n : ℕ) (f : ℕ → ℕ) (told : ℕ → SeatView → Type 0) → IsReading a → n < word_count l.width l.shape
-      → ((found : ℕ) (me : SeatView) → told found me → (x : ℕ) × (me.0 ≡ reader_view l 0 [] ([] ++ reading a x [] ∷ [])))
-      → Allows (Ruled l) 0 1 (reader_view l 0 [] [], []) n f told → ⊥
-  stale_reading_refused a n f told load low is allows =
-      let s = stands_acted n low in
-      no_stale_reading l 1 0 [] 0 [] [] n f told s.0 s.1 (λ me t. let x = is _ me t in ([], reading a x.0 [], load, omega (arith, s.2), (0, x.1))) allows
-
-  -- the step of a reader that looks at nothing: it enters the word that the place had at its old front, which is the right word of that front
-  abbrev pub KeepsWord : Access → Step (Unit {0}) → SeatView → ℕ → SeatView → Type 0
-  KeepsWord a st me found me' = me' ≡ (reader_view me.0.layout (number_of me.0) (front_of me.0) (done_of me.0 ++ reading a (word_after me.0.layout (front_of me.0) st.word) (front_of me.0) ∷ []), me.1)
-
-  pub kept_word_refused : (a : Access) (n : ℕ) (f : ℕ → ℕ) → IsReading a → n < word_count l.width l.shape → Allows (Ruled l) 0 1 (reader_view l 0 [] [], []) n f (KeepsWord a (step 0 n 0 0 none) (reader_view l 0 [] [], [])) → ⊥
-  kept_word_refused a n f load low allows =
-      stale_reading_refused a n f (KeepsWord a (step 0 n 0 0 none) (reader_view l 0 [] [], [])) load low (λ found me t. (word_after l [] n, ap (λ (x : SeatView). x.0) t)) allows
+pub stale_readings_are_refused : StaleReadingsAreRefused
+stale_readings_are_refused l a n leaves enters shape load low allows =
+    let s = stands_acted l shape n low in
+    no_stale_reading l 1 0 [] 0 [] [] n leaves (λ found me. me ≡ (reader_view l 0 [] (reading a (enters found) [] ∷ []), [])) s.0 s.1 (λ me t. ([], reading a (enters (get_or s.0.words n 0)) [], load, omega (arith, s.2), (0, λ i. (t i).0))) allows

@@ -1,7 +1,8 @@
 -- What the rule says of each reading, that it is of the newest words, and what follows for a lookup.
 use Rattle.std.specs.Prelude.{◌≡◌, ◌≢◌, ℕ, ◌+◌, ◌-◌, ◌^◌, ◌<◌, ◌≤◌, ◌==◌, if◌then◌else◌, List, [], ◌∷◌, ◌++◌, length, slice_index, slice_set, Some}
 use Rattle.std.specs.Int.{bit_at}
-use mathlib.Core.Option.{some}
+use lib.Bits.{bit_and}
+use mathlib.Core.Option.{some, none}
 use lib.ListN.{get_elem?}
 use Rattle.atomic_table.specs.Table as table
 use Rattle.mc_words.specs.History.{IsTrueAnswer}
@@ -21,7 +22,7 @@ use Rattle.mc_theory.specs.declared.act.Act.TheVariants.{Hand}
 use Rattle.mc_shared.specs.ExactFronts.{steps_by, made_by, IsReading, StandsAt, IsExact, InOneOrder}
 use Rattle.mc_shared.specs.TableRule.{IsRecord, Ruled, bit_in}
 use Rattle.mc_shared.specs.Views.{Note, Tally, View, reader_view, writer_view, with_bit, with_note, front_of, layout_of, layout_state, IsFrontOf}
-use Rattle.mc_shared.specs.Steps.{reading, mark_at, ReadsWord, AddsMark, AddsMarkIfSet, AddsAct, AddsActIfClear}
+use Rattle.mc_shared.specs.Steps.{reading, mark_at, ReadsWord, AddsMark, AddsMarkIfSet, AddsActIfClear, ClearsBit}
 use Rattle.mc_shared.specs.declared.layout.Layout.{Layout}
 
 -- two states of a table under its rule, one step of a reader apart: of the views only this reader's has changed, and its record
@@ -45,6 +46,13 @@ ReadingsAreNewest =
     (l : Layout) (s t : table.State (Unit {0}) View) (acts : List Made) (e : Reading) → AddsEntry l s t acts e →
     StandsAt e.access e.front (length acts) × IsWordOf l.width l.shape (layout_state l acts).words e.access e.word ×
     ((n : ℕ) → place_read l.width l.shape e.access ≡ Some n → n < word_count l.width l.shape → e.word ≡ slice_index s.words n)
+
+-- There is a table with one reader whose writer has made an act that the reader has not seen. There the rule allows no step, whatever it
+-- writes, that enters a reading at the reader's old front, whatever word it enters: not even the right word of that front
+abbrev pub StaleReadingsAreRefused : Type 0
+StaleReadingsAreRefused =
+    (l : Layout) (a : Access) (place : ℕ) (leaves enters : ℕ → ℕ) → IsShape l.shape → IsReading a → place < word_count l.width l.shape →
+    table.Allows (Ruled l) 0 1 (reader_view l 0 [] [], []) place leaves (λ found me. me ≡ (reader_view l 0 [] (reading a (enters found) [] ∷ []), [])) → ⊥
 
 -- a running read is such a step. Its caller has some proof that the rule allows a load that returns a reading. Whatever that proof is, the
 -- load leads from each state that it meets to one with that reading more, of the word that it found
@@ -101,14 +109,15 @@ pub record HandsAreExact : Type 0 where
       bit ≡ bit_in l s.words i
 
 -- a running turn of the hand is such a step, and the bit that it records is the one that the item's recency word had at that instant:
--- the `fetch_and`, whatever it leaves of the word, and the load that finds the bit clear
+-- the `fetch_and`, after which the bit is clear, and the load that finds the bit clear
 pub record HandsAreEntries : Type 0 where
-  pub turned : (l : Layout) (s : table.State (Unit {0}) View) (seat slots : ℕ) (acts : List Made) (tally : Tally) (held : List (ℕ × Unit {0})) (i : ℕ) (st : table.Step (Unit {0})) (leaves : ℕ → ℕ) →
+  pub turned : (l : Layout) (s : table.State (Unit {0}) View) (seat slots : ℕ) (acts : List Made) (tally : Tally) (held : List (ℕ × Unit {0})) (i keeps : ℕ) →
       let place = recency_place l.width l.shape i in
-      (allows : table.Allows (Ruled l) slots seat (writer_view l acts tally, held) place leaves (AddsAct (Hand i) st (writer_view l acts tally, held))) →
+      (allows : table.Allows (Ruled l) slots seat (writer_view l acts tally, held) place (λ found. bit_and found keeps) (ClearsBit (Hand i) (table.step slots place keeps 0 none) (writer_view l acts tally, held))) →
       (rule : Ruled l s) (fits : length s.homes ≡ slots) (mine : get_elem? s.views seat ≡ some (writer_view l acts tally)) (small : slice_index s.words place < 18446744073709551616) →
       let next = allows s rule fits mine small in
-      AddsTurn l s (table.stepped s place (leaves (slice_index s.words place)) seat held next.0 next.1) acts i (bit_in l s.words i)
+      let t = table.stepped s place (bit_and (slice_index s.words place) keeps) seat held next.0 next.1 in
+      AddsTurn l s t acts i (bit_in l s.words i) × (i < l.shape.items → bit_in l t.words i ≡ 0)
   pub seen : (l : Layout) (s : table.State (Unit {0}) View) (seat slots : ℕ) (acts : List Made) (tally : Tally) (held : List (ℕ × Unit {0})) (i : ℕ) (st : table.Step (Unit {0})) →
       let place = recency_place l.width l.shape i in
       (allows : table.Allows (Ruled l) slots seat (writer_view l acts tally, held) place (λ found. found) (AddsActIfClear (Hand i) st (writer_view l acts tally, held))) →

@@ -1,5 +1,5 @@
 -- What each step on a seat ensures: what is written where, and what the seat's view is after it.
-use Rattle.std.specs.Prelude.{◌≡◌, ℕ, List, [], ◌∷◌, ◌++◌, length, Some}
+use Rattle.std.specs.Prelude.{◌≡◌, ℕ, ◌-◌, ◌^◌, List, [], ◌∷◌, ◌++◌, length, Some}
 use Rattle.std.specs.Int.{bit_at}
 use Rattle.atomic_table.specs.Table.{Me, Step}
 use Rattle.mc_words.specs.Recency.{recency_bit}
@@ -39,6 +39,10 @@ abbrev pub item_bit : Act → ℕ
 item_bit (Mark i) = recency_bit i
 item_bit (Hand i) = recency_bit i
 item_bit _ = 0
+
+-- the hand's step keeps all bits of the word but its item's: so many an `and` has as its operand
+abbrev pub ClearsBit : Act → Step (Unit {0}) → SeatView → ℕ → SeatView → Type 0
+ClearsBit a st me found me' = (st.first ≡ 2 ^ 64 - 1 - 2 ^ item_bit a) × AddsAct a st me found me'
 
 -- a load that finds the bit of its item set is that mark, and one that finds it clear adds nothing
 abbrev pub AddsActIfSet : Act → Step (Unit {0}) → SeatView → ℕ → SeatView → Type 0

@@ -1,9 +1,15 @@
 //! The laws of the rule and of exact records, one function each. A body does nothing: what it ensures is the law.
-ghost use Rattle.mc_shared.specs.ExactLaws.{ReadingsAreNewest, ReadsAreEntries, MarksAreExact, MarksAreEntries, HandsAreExact, HandsAreEntries, LookupsAreInTime, LookupsStandInOrder, MeetingsAgree, IdleActsAreNoted};
+ghost use Rattle.mc_shared.specs.ExactLaws.{ReadingsAreNewest, ReadsAreEntries, MarksAreExact, MarksAreEntries, HandsAreExact, HandsAreEntries, LookupsAreInTime, LookupsStandInOrder, MeetingsAgree, IdleActsAreNoted, StaleReadingsAreRefused};
 
 /// Whatever step enters a reading in a reader's record, it is of the newest words: a reader that does not look breaks the rule.
 pub fn readings_are_newest()
     ensures { ReadingsAreNewest }
+{}
+
+/// There is a table in which no step of its reader can enter a reading at the front that the reader saw last, not even with the right word
+/// of that front: the writer has made an act since.
+pub fn stale_readings_are_refused()
+    ensures { StaleReadingsAreRefused }
 {}
 
 /// A running read is a step that enters a reading, of the word that its load found.
@@ -26,8 +32,8 @@ pub fn hands_are_exact()
     ensures { HandsAreExact }
 {}
 
-/// A running turn of the hand is such a step, and records the bit that its item's recency word had: the step that clears the bit, or the
-/// load that finds it clear.
+/// A running turn of the hand is such a step, and records the bit that its item's recency word had: the step that leaves the bit clear, or
+/// the load that finds it clear.
 pub fn hands_are_entries()
     ensures { HandsAreEntries }
 {}

@@ -76,6 +76,17 @@ impl<J: NamesAct> Play<(), Known> for Makes<J> {
     ghost then = { AddsAct J.act };
 }
 
+/// The hand's step, by which the writer clears the bit of an item.
+pub struct TurnsHand<J> {
+    of: PhantomData<J>,
+}
+
+impl<J: NamesAct> Play<(), Known> for TurnsHand<J> {
+    ghost use Rattle.mc_shared.specs.Steps.{ClearsBit};
+
+    ghost then = { ClearsBit J.act };
+}
+
 /// A load by the writer that marks the item if it finds its bit set.
 pub struct MakesMarkIfSet<J> {
     of: PhantomData<J>,

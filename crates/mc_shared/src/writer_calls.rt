@@ -197,29 +197,44 @@ pub fn turn_hand_unless_clear<const V: usize>(
     turn_hand_unless_clear_as_writer::<Brand>(&cells.ruled, &mut writer.seat, i, place, bit)
 }
 
-/// Makes one act. Returns the bit that the hand read, or 0.
-/// Condition: the seat is that of these words, the act is allowed now, an opening leaves room for its close within the limit, and the
-/// version is that of the running deed.
-pub fn perform<const V: usize>(
-    cells: &Cells<V>,
-    writer: &mut WriterSeat,
-    running: &mut Running,
-    act: Act,
-) -> u64
+// The version of the running deed: the odd one.
+fn running_deed<const V: usize>(cells: &Cells<V>, writer: &mut WriterSeat) -> Running
     requires of { writer.old.of ≡ cells.now }
-    requires running { IsRunning V writer.old running.old }
+    ensures writer { writer.new ≡ writer.old }
+    ensures running { IsRunning V writer.old result }
+{
+    writer.known();
+    for stripe in 0..cells.checked.shape().stripes {
+        let place = cells.checked.version_place(stripe);
+        let count = fetch(cells, writer, place);
+        if count % 2 == 1 {
+            return Running { place, count };
+        }
+    }
+    Running { place: 0, count: 0 }
+}
+
+/// Makes one act. Returns the bit that the hand read, or 0. A close first looks for the version that is odd: who makes many deeds calls
+/// `open_deed` and `close_deed`.
+/// Condition: the seat is that of these words, the act is allowed now, and an opening leaves room for its close within the limit.
+pub fn perform<const V: usize>(cells: &Cells<V>, writer: &mut WriterSeat, act: Act) -> u64
+    requires of { writer.old.of ≡ cells.now }
     requires allowed { IsAllowed cells.now.layout.shape (state_of V cells.now.layout.shape writer.old.acts) act }
     requires limit { HasVersionSteps cells.now.layout.shape.limit (state_of V cells.now.layout.shape writer.old.acts).version_steps act }
     ensures acted { HasActed writer.old writer.new act result }
-    ensures running { IsRunning V writer.new running.new }
     ensures bit { IsStored act → result ≡ 0 }
 {
     match act {
-        Act::Open(key, deed) => *running = open_deed(cells, writer, key, deed),
+        Act::Open(key, deed) => {
+            open_deed(cells, writer, key, deed);
+        }
         Act::Slot(place, word) => write_slot(cells, writer, place, word),
         Act::Item(i, j, word) => write_item(cells, writer, i, j, word),
         Act::Moment => count_moment(cells, writer),
-        Act::Close => close_deed(cells, writer, *running),
+        Act::Close => {
+            let running = running_deed(cells, writer);
+            close_deed(cells, writer, running);
+        }
         Act::Mark(i) => set_mark(cells, writer, i),
         Act::Hand(i) => return turn_hand(cells, writer, i),
     }

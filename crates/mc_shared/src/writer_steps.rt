@@ -8,7 +8,9 @@ ghost use Rattle.mc_shared.specs.TableRule.{word_after};
 ghost use Rattle.mc_shared.specs.Inside.Steps.{WritesAt, IsOffBits, AddsNote};
 ghost use Rattle.mc_shared.specs.Inside.Seats.{MayMake, opening_of};
 
-use crate::plays::{Fetches, Known, Makes, MakesMarkIfSet, MakesReadingIfClear, NamesAct};
+use crate::plays::{
+    Fetches, Known, Makes, MakesMarkIfSet, MakesReadingIfClear, NamesAct, TurnsHand,
+};
 use crate::ruled_words::RuledWords;
 use atomic_table::Seat;
 use mc_theory::Act;
@@ -68,7 +70,7 @@ pub(crate) fn turn_hand_as_writer<J: NamesAct>(
     let found = ruled
         .table
         .shared
-        .fetch_and::<Makes<J>>(seat, place, !(1u64 << bit));
+        .fetch_and::<TurnsHand<J>>(seat, place, !(1u64 << bit));
     (found >> bit) & 1
 }
 

@@ -6,7 +6,7 @@ use mc_core::{
     Access, Act, Change, Event, Lookup, Reply, Run, Stepped, Unlawful, World, WorldError,
 };
 use mc_plan::{Answer, Clerk, Finder, IfError, Path, Peek, Put, PutError, Remove, Spent, Sweep};
-use mc_shared::{Cells, ReaderSeat, Running, Words, WriterSeat};
+use mc_shared::{Cells, ReaderSeat, Words, WriterSeat};
 use mc_words::{Checked, NoMemory, Place, Shape, ShapeError};
 use std::alloc::Global;
 
@@ -85,7 +85,7 @@ pub fn calls_of_shared() {
         &Checked,
         u32,
     ) -> Result<(Cells<1>, WriterSeat, Vec<ReaderSeat>), NoMemory> = mc_shared::open;
-    const _: fn(&Cells<1>, &mut WriterSeat, &mut Running, Act) -> u64 = mc_shared::perform;
+    const _: fn(&Cells<1>, &mut WriterSeat, Act) -> u64 = mc_shared::perform;
     const _: fn(&Cells<1>, &mut WriterSeat, usize) -> u64 = mc_shared::fetch;
     const _: fn(&Cells<1>, &mut ReaderSeat, Access) -> u64 = mc_shared::read;
     const _: fn(&Cells<1>, &mut ReaderSeat, u32) = mc_shared::mark;

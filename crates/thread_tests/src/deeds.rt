@@ -1,7 +1,6 @@
 //! Deeds of a writer beside a reader's lookups in another thread, made by `get` and by single reads. Each answer is what the map held
 //! at its moment, and the last ones see all deeds.
 ghost use Rattle.std.specs.Prelude.{◌≡◌};
-ghost use Rattle.mc_shared.specs.Running.{IsRunning};
 ghost use Rattle.thread_tests.specs.Twins.{IsTwinOf};
 
 use crate::single_reads::look_up;
@@ -10,7 +9,7 @@ use crate::twin::{make_all, small_shape};
 use crate::waiting::is_set;
 use mc_core::World;
 use mc_reader::get;
-use mc_shared::{Cells, ReaderSeat, Running, WriterSeat, open};
+use mc_shared::{Cells, ReaderSeat, WriterSeat, open};
 use mc_theory::{Act, Deed};
 use mc_words::{Change, Place, Reply};
 use std::alloc::Global;
@@ -34,16 +33,13 @@ fn key_of(n: u64) -> u64 {
 fn make_deed(
     cells: &Cells<1>,
     writer: &mut WriterSeat,
-    running: &mut Running,
     world: &mut World<1>,
     n: u64,
     deed: Deed,
 ) -> bool
     requires of { writer.old.of ≡ cells.now }
-    requires running { IsRunning 1 writer.old running.old }
     requires twin { IsTwinOf 1 world.old writer.old }
     ensures of { writer.new.of ≡ writer.old.of }
-    ensures running { IsRunning 1 writer.new running.new }
     ensures twin { IsTwinOf 1 world.new writer.new }
 {
     let key = key_of(n);
@@ -70,15 +66,15 @@ fn make_deed(
                 Act::Close,
                 mark,
             ];
-            make_all(cells, writer, running, world, &acts)
+            make_all(cells, writer, world, &acts)
         }
         Deed::Renew => {
             let acts = [open, value, stamp, Act::Moment, Act::Close, mark];
-            make_all(cells, writer, running, world, &acts)
+            make_all(cells, writer, world, &acts)
         }
         _ => {
             let acts = [open, Act::Slot(place, 0), Act::Moment, Act::Close];
-            make_all(cells, writer, running, world, &acts)
+            make_all(cells, writer, world, &acts)
         }
     }
 }
@@ -87,15 +83,12 @@ fn make_deed(
 fn write_deeds(
     cells: &Cells<1>,
     writer: &mut WriterSeat,
-    running: &mut Running,
     world: &mut World<1>,
     ended: &AtomicBool,
 ) -> bool
     requires of { writer.old.of ≡ cells.now }
-    requires running { IsRunning 1 writer.old running.old }
     requires twin { IsTwinOf 1 world.old writer.old }
     ensures of { writer.new.of ≡ writer.old.of }
-    ensures running { IsRunning 1 writer.new running.new }
     ensures twin { IsTwinOf 1 world.new writer.new }
 {
     let mut there = [false; 8];
@@ -109,7 +102,7 @@ fn write_deeds(
             Deed::Renew
         };
         there[here] = deed != Deed::Remove;
-        if !make_deed(cells, writer, running, world, n, deed) {
+        if !make_deed(cells, writer, world, n, deed) {
             return false;
         }
     }
@@ -149,19 +142,17 @@ fn look_beside<R: Threads + Sync>(
     rt: &R,
     cells: &Cells<1>,
     writer: &mut WriterSeat,
-    running: &mut Running,
     world: &mut World<1>,
     reader: &mut ReaderSeat,
     replies: &mut [Reply<1>],
 ) -> bool
     requires of { (writer.old.of ≡ cells.now) × (reader.old.of ≡ cells.now) }
-    requires running { IsRunning 1 writer.old running.old }
     requires twin { IsTwinOf 1 world.old writer.old }
 {
     let ended = AtomicBool::new(false);
     let (made, ()) = join(
         rt,
-        || write_deeds(cells, writer, running, world, &ended),
+        || write_deeds(cells, writer, world, &ended),
         || look_all(cells, reader, &ended, replies),
     );
     made
@@ -184,17 +175,8 @@ fn are_answers_true<R: Threads + Sync>(rt: &R, alloc: Global, stripes: u32) -> R
     let mut world = World::<1>::new(alloc, &checked, 1)?;
     let (cells, mut writer, mut readers) = open::<1>(alloc, &checked, 1)?;
     let told = replies.as_mut_slice();
-    let mut running = Running::none(&writer);
     let made = match readers.pop() {
-        Some(mut reader) => look_beside(
-            rt,
-            &cells,
-            &mut writer,
-            &mut running,
-            &mut world,
-            &mut reader,
-            told,
-        ),
+        Some(mut reader) => look_beside(rt, &cells, &mut writer, &mut world, &mut reader, told),
         None => false,
     };
     Ok(made && are_true(world.history(), replies.as_slice()))

@@ -1,11 +1,10 @@
 //! The acts of a put, read back word by word by a reader, and the words when the table is closed.
 ghost use Rattle.std.specs.Prelude.{◌≡◌, ◌<◌};
-ghost use Rattle.mc_shared.specs.Running.{IsRunning};
 ghost use Rattle.thread_tests.specs.Twins.{IsTwinOf};
 
 use crate::twin::{make_all, small_shape};
 use mc_core::World;
-use mc_shared::{Cells, ReaderSeat, Running, WriterSeat, catch, close, open, read};
+use mc_shared::{Cells, ReaderSeat, WriterSeat, catch, close, open, read};
 use mc_theory::{Access, Act, Deed};
 use mc_words::Place;
 use std::alloc::Global;
@@ -24,18 +23,12 @@ const ACTS: [Act; 7] = [
 ];
 
 // Makes the acts of the put. Whether all were made.
-fn put(
-    cells: &Cells<1>,
-    writer: &mut WriterSeat,
-    running: &mut Running,
-    world: &mut World<1>,
-) -> bool
+fn put(cells: &Cells<1>, writer: &mut WriterSeat, world: &mut World<1>) -> bool
     requires of { writer.old.of ≡ cells.now }
-    requires running { IsRunning 1 writer.old running.old }
     requires twin { IsTwinOf 1 world.old writer.old }
     ensures of { writer.new.of ≡ writer.old.of }
 {
-    make_all(cells, writer, running, world, &ACTS)
+    make_all(cells, writer, world, &ACTS)
 }
 
 // What the reader reads where the put wrote, and the moment that it catches up with.
@@ -77,8 +70,7 @@ fn put_and_read(alloc: Global) -> Result<(bool, [u64; 8], [u64; 2]), Fail> {
     let Some(mut reader) = readers.pop() else {
         return Err(Fail::new("no reader"));
     };
-    let mut running = Running::none(&writer);
-    let made = put(&cells, &mut writer, &mut running, &mut world);
+    let made = put(&cells, &mut writer, &mut world);
     let told = read_back(&cells, &mut reader, &mut writer);
     Ok((made, told, first_words(cells, writer, readers)))
 }

@@ -1,11 +1,10 @@
 //! A world in memory beside the writer of shared words. It makes each act first, and so shows that the act is allowed.
 ghost use Rattle.std.specs.Prelude.{◌≡◌};
-ghost use Rattle.mc_shared.specs.Running.{IsRunning};
 ghost use Rattle.mc_shared.specs.Steps.{IsStored};
 ghost use Rattle.thread_tests.specs.Twins.{IsTwinOf};
 
 use mc_core::World;
-use mc_shared::{Cells, Running, WriterSeat, perform};
+use mc_shared::{Cells, WriterSeat, perform};
 use mc_theory::{Act, Event};
 use mc_words::{Mix, Shape};
 
@@ -23,24 +22,16 @@ pub fn small_shape(stripes: u32) -> Shape {
 }
 
 // Makes an act that isn't the hand's, if the world does.
-fn make(
-    cells: &Cells<1>,
-    writer: &mut WriterSeat,
-    running: &mut Running,
-    world: &mut World<1>,
-    act: Act,
-) -> bool
+fn make(cells: &Cells<1>, writer: &mut WriterSeat, world: &mut World<1>, act: Act) -> bool
     requires of { writer.old.of ≡ cells.now }
-    requires running { IsRunning 1 writer.old running.old }
     requires stored { IsStored act }
     requires twin { IsTwinOf 1 world.old writer.old }
     ensures of { writer.new.of ≡ writer.old.of }
-    ensures running { IsRunning 1 writer.new running.new }
     ensures twin { IsTwinOf 1 world.new writer.new }
 {
     match world.step(Event::Write(act)) {
         Ok(_) => {
-            perform(cells, writer, running, act);
+            perform(cells, writer, act);
             true
         }
         Err(_) => false,
@@ -51,22 +42,19 @@ fn make(
 pub fn make_all(
     cells: &Cells<1>,
     writer: &mut WriterSeat,
-    running: &mut Running,
     world: &mut World<1>,
     acts: &[Act],
 ) -> bool
     requires of { writer.old.of ≡ cells.now }
-    requires running { IsRunning 1 writer.old running.old }
     requires twin { IsTwinOf 1 world.old writer.old }
     ensures of { writer.new.of ≡ writer.old.of }
-    ensures running { IsRunning 1 writer.new running.new }
     ensures twin { IsTwinOf 1 world.new writer.new }
 {
     for i in 0..acts.len() {
         let act = acts[i];
         let made = match act {
             Act::Hand(_) => false,
-            _ => make(cells, writer, running, world, act),
+            _ => make(cells, writer, world, act),
         };
         if !made {
             return false;

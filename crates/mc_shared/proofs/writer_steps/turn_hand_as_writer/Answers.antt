@@ -29,7 +29,7 @@ fetch_and-found-requires g c =
 
 pub returns-clause-acts : goal.returns-clause-acts
 returns-clause-acts g c =
-    take_is c.args.ruled.now.layout c.args.seat.now.me _ g.J.NamesAct.act c.args.item c.fetch_and-found.result _ c.requires.act (shr_and_one c.fetch_and-found.result c.args.bit ∙ ap (λ (b : ℕ). bit_at c.fetch_and-found.result b) c.requires.bit.0) c.requires.seat c.fetch_and-found.ensures.2
+    take_is c.args.ruled.now.layout c.args.seat.now.me _ g.J.NamesAct.act c.args.item c.fetch_and-found.result _ c.requires.act (shr_and_one c.fetch_and-found.result c.args.bit ∙ ap (λ (b : ℕ). bit_at c.fetch_and-found.result b) c.requires.bit.0) c.requires.seat c.fetch_and-found.ensures.2.1
 
 pub returns-clause-noted : goal.returns-clause-noted
-returns-clause-noted g c = note_of g.J.NamesAct.act c.args.seat.now.me _ _ c.fetch_and-found.ensures.2
+returns-clause-noted g c = note_of g.J.NamesAct.act c.args.seat.now.me _ _ c.fetch_and-found.ensures.2.1

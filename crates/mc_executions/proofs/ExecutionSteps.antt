@@ -1,0 +1,374 @@
+-- What one step of an execution does to the list of acts, and to the record of a reader.
+use Rattle.std.specs.Prelude.{if◌then◌else◌}
+use Rattle.std.specs.Int.{bit_at}
+use mathlib.Core.Logic.{dite}
+use native.Mathlib.Decide.{ℕ_discrete, dec_le}
+use Rattle.std.proofs.Common.{◌≡◌, ◌≢◌, ◌⊎◌, ⊎_elim, inl, inr, Bool, eqb, eq-eqb, ℕ, ◌+◌, ◌<◌, ◌≤◌, List, [], ◌∷◌, ◌++◌, length, get_or, set, refl, ap, sym, ◌∙◌, subst, arith}
+use Rattle.std.proofs.lemmas.Nat.Bits.{bit_at-lt}
+use mathlib.Core.Option.{some, some-injective}
+use lib.ListN.{get_elem?}
+use Rattle.atomic_table.proofs.Lists.{set_else, set_here, at_longer, at_last}
+use Rattle.mc_words.specs.Places.{recency_place}
+use Rattle.mc_words.specs.Recency.{recency_bit}
+use Rattle.mc_theory.specs.Lists.{Made}
+use Rattle.mc_theory.specs.Readings.{Reading}
+use Rattle.mc_theory.specs.declared.access.Access.{Access}
+use Rattle.mc_theory.specs.declared.act.Act.{Act}
+use Rattle.mc_theory.specs.declared.act.Act.TheVariants.{Hand}
+use Rattle.mc_shared.specs.ExactLaws.{AddsEntry}
+use Rattle.mc_shared.specs.Steps.{SeatView, IsStored, bit_of, item_bit, reading, mark_at, AddsAct, AddsActIfSet, AddsActIfClear, FetchesWord, ReadsWord, AddsMark, AddsMarkIfSet, ComparesMoment, with_reader_view, new_reader_view, writer_part, reader_part}
+use Rattle.mc_shared.specs.TableRule.{FitsRole, Ruled, bit_in, seats_of}
+use Rattle.mc_shared.specs.Views.{Note, Tally, Role, Spent, Writes, Reads, Both, View, IsWriters, view_as, writer_view, reader_view, spent_view, acts_in, tally_in, acts_of, tally_of, number_of, front_of, done_of, done_in, with_note, with_reader, with_bit, seated_in}
+use Rattle.mc_shared.specs.declared.layout.Layout.{Layout}
+use Rattle.mc_shared.proofs.Coherence.{total_set}
+use Rattle.mc_shared.proofs.EachStep.{got_below}
+use Rattle.mc_shared.proofs.ExactSteps.{seat_counts}
+use Rattle.mc_executions.specs.Executions.{TableState, Tells, IsPlayed, IsCut, IsJoined, IsStep, touches, fetches, makes, marks_if_set, turns, turns_if_clear, reads, marks, notices, seats, joins, compares, parts, HasRecord}
+use Rattle.mc_executions.specs.ExecutionLaws.{LogIsOne}
+
+-- the writer's seat knows all acts and their tally, and stands where the rule says
+pub knows_all : (l own : Layout) (log : List Made) (all : Tally) (at seat : ℕ) (r : Role) → IsWriters r → FitsRole l own log all at seat r → (acts_in r ≡ log) × (tally_in r ≡ all) × (seat ≡ at)
+knows_all l own log all at seat Spent w f = absurd w
+knows_all l own log all at seat (Writes acts tally) w f = (f.2, f.3, f.1)
+knows_all l own log all at seat (Reads number front done) w f = absurd w
+knows_all l own log all at seat (Both acts tally number front done) w f = (f.2, f.3, f.1)
+
+pub log_is_one : LogIsOne
+log_is_one l s r r' =
+    let w = r.writer in
+    let k = knows_all l w.0.layout r.log r.tally r.at r.at w.0.role w.2 (r.views r.at w.0 w.1) in
+    let k' = knows_all l w.0.layout r'.log r'.tally r'.at r.at w.0.role w.2 (r'.views r.at w.0 w.1) in
+    (sym k.0 ∙ k'.0, sym k.1 ∙ k'.1)
+
+-- a reader counts for 1 at its own number
+pub hit : (a : ℕ) → ◌≡◌ {A = ℕ} (if eqb a a then 1 else 0) 1
+hit a = ap (λ (b : Bool). if◌then◌else◌ {A = ℕ} b 1 0) (eq-eqb a a refl)
+
+is_hit : (n a : ℕ) → ◌≡◌ {A = ℕ} (if eqb n a then 1 else 0) 1 → n ≡ a
+is_hit n a e = dite (ℕ_discrete n a) (λ y. y) (λ ne. absurd (grind (arith, e, ne)))
+
+-- the writer's view is that of all acts, unless a reader is joined to it
+writer_is : (l own : Layout) (log : List Made) (all : Tally) (at seat : ℕ) (r : Role) → IsWriters r → FitsRole l own log all at seat r → (view_as own r ≡ writer_view l log all) ⊎ ((a : ℕ) × (seated_in a r ≡ 1))
+writer_is l own log all at seat Spent w f = absurd w
+writer_is l own log all at seat (Writes acts tally) w f = inl (λ i. view_as (f.0 i) (Writes (f.2 i) (f.3 i)))
+writer_is l own log all at seat (Reads number front done) w f = absurd w
+writer_is l own log all at seat (Both acts tally number front done) w f = inr (number, hit number)
+
+-- a seat with a reader is a reader's, or the writer's with the reader joined to it
+reader_is : (l own : Layout) (log : List Made) (all : Tally) (at seat a : ℕ) (r : Role) → seated_in a r ≡ 1 → FitsRole l own log all at seat r → ((number : ℕ) × (front : List Made) × (view_as own r ≡ reader_view l number front (done_in r)) × (number ≡ a)) ⊎ IsWriters r
+reader_is l own log all at seat a Spent here f = absurd (omega (arith, here))
+reader_is l own log all at seat a (Writes acts tally) here f = absurd (omega (arith, here))
+reader_is l own log all at seat a (Reads number front done) here f = inl (number, front, (λ i. view_as (f.0 i) (Reads number front done)), is_hit number a here)
+reader_is l own log all at seat a (Both acts tally number front done) here f = inr tt
+
+-- ---- what a step makes of the view of its seat
+-- an act of the hand has the bit of its item
+abbrev pub IsHonest : Layout → TableState → Made → Type 0
+IsHonest l s m = (i : ℕ) → m.act ≡ Hand i → m.bit ≡ bit_in l s.words i
+
+-- nothing, one act more, or one entry more
+pub data Turn (l : Layout) (s : TableState) (v w : View) : Type 0 where
+  stays : w ≡ v → Turn l s v w
+  made : (m : Made) (note : Note) → w ≡ writer_view v.layout (acts_of v ++ m ∷ []) (with_note (tally_of v) note) → IsHonest l s m → Turn l s v w
+  entered : (new : List Made) (e : Reading) → w ≡ reader_view v.layout (number_of v) new (done_of v ++ e ∷ []) → Turn l s v w
+
+bit_cases : (n i : ℕ) → (bit_at n i ≡ 0) ⊎ (bit_at n i ≡ 1)
+bit_cases n i = let low = bit_at-lt n i in dite (ℕ_discrete (bit_at n i) 0) (λ z. inl z) (λ nz. inr (omega (arith, low, nz)))
+
+-- an act that is stored is none of the hand
+no_hand : (a : Act) (i : ℕ) → IsStored a → a ≡ Hand i → ⊥
+no_hand a i st e = subst IsStored e st
+
+abbrev item_in : Act → ℕ
+item_in (Hand i) = i
+item_in _ = 0
+
+module _ (l : Layout) (s t : TableState) where
+  turn_act : (a : Act) (p : IsPlayed (AddsAct a) s t) → IsHonest l s (with_bit a (bit_of a (get_or s.words p.place 0))) → Turn l s p.v p.w
+  turn_act a p h = made (with_bit a (bit_of a (get_or s.words p.place 0))) p.told.0 (ap (λ (x : SeatView). x.0) p.told.1) h
+
+  turn_if_set : (a : Act) (p : IsPlayed (AddsActIfSet a) s t) → IsHonest l s (with_bit a (bit_of a (get_or s.words p.place 0))) → Turn l s p.v p.w
+  turn_if_set a p h = ⊎_elim
+      (λ zero. stays (ap (λ (x : SeatView). x.0) (p.told.1 zero)))
+      (λ one. let x = p.told.0 one in made (with_bit a (bit_of a (get_or s.words p.place 0))) x.0 (ap (λ (x : SeatView). x.0) x.1) h)
+      (bit_cases (get_or s.words p.place 0) (item_bit a))
+
+  turn_if_clear : (a : Act) (p : IsPlayed (AddsActIfClear a) s t) → IsHonest l s (with_bit a (bit_of a (get_or s.words p.place 0))) → Turn l s p.v p.w
+  turn_if_clear a p h = ⊎_elim
+      (λ zero. let x = p.told.0 zero in made (with_bit a (bit_of a (get_or s.words p.place 0))) x.0 (ap (λ (x : SeatView). x.0) x.1) h)
+      (λ one. stays (ap (λ (x : SeatView). x.0) (p.told.1 one)))
+      (bit_cases (get_or s.words p.place 0) (item_bit a))
+
+  turn_fetch : (p : IsPlayed FetchesWord s t) → Turn l s p.v p.w
+  turn_fetch p = stays (ap (λ (x : SeatView). x.0) p.told.0)
+
+  turn_compare : (p : IsPlayed ComparesMoment s t) → Turn l s p.v p.w
+  turn_compare p = stays (ap (λ (x : SeatView). x.0) p.told.0)
+
+  turn_read : (a : Access) (p : IsPlayed (ReadsWord a) s t) → Turn l s p.v p.w
+  turn_read a p = entered (front_of p.w) (reading a (get_or s.words p.place 0) (front_of p.w)) (ap (λ (x : SeatView). x.0) p.told.1 ∙ ap (λ (z : List Reading). reader_view p.v.layout (number_of p.v) (front_of p.w) z) p.told.2.adds)
+
+  turn_mark : (i : ℕ) (p : IsPlayed (AddsMark i) s t) → Turn l s p.v p.w
+  turn_mark i p = entered (front_of p.v) (mark_at i (front_of p.v)) (ap (λ (x : SeatView). x.0) p.told)
+
+  turn_notice : (i : ℕ) (p : IsPlayed (AddsMarkIfSet i) s t) → Turn l s p.v p.w
+  turn_notice i p = ⊎_elim
+      (λ zero. stays (ap (λ (x : SeatView). x.0) (p.told.1 zero)))
+      (λ one. entered (front_of p.v) (mark_at i (front_of p.v)) (ap (λ (x : SeatView). x.0) (p.told.0 one)))
+      (bit_cases (get_or s.words p.place 0) (recency_bit i))
+
+  -- no act that is stored is one of the hand, and the hand's has the bit of its item's place
+  stored_honest : (a : Act) (bit : ℕ) → IsStored a → IsHonest l s (with_bit a bit)
+  stored_honest a bit st = λ i e. absurd (no_hand a i st e)
+
+  hand_honest : (i place : ℕ) → place ≡ recency_place l.width l.shape i → IsHonest l s (with_bit (Hand i) (bit_of (Hand i) (get_or s.words place 0)))
+  hand_honest i place at = λ k e.
+      let same : i ≡ k = ap item_in e in
+      ap (λ (n : ℕ). bit_at (get_or s.words n 0) (recency_bit i)) at ∙ ap (bit_in l s.words) same
+
+-- ---- what a step does to the list of acts
+-- it leaves it, or adds one act, in the writer's view
+pub data LogStep (l : Layout) (s t : TableState) (r : Ruled l s) (r' : Ruled l t) : Type 0 where
+  rests : r'.log ≡ r.log → LogStep l s t r r'
+  grows : (m : Made) (seat : ℕ) (note : Note) → get_elem? s.views seat ≡ some (writer_view l r.log r.tally) → t.views ≡ set s.views seat (writer_view l (r.log ++ m ∷ []) (with_note r.tally note)) → r'.log ≡ r.log ++ m ∷ [] → IsHonest l s m → LogStep l s t r r'
+
+-- a seat of the writer knows what the rule knows
+pub log_is : (l : Layout) (s : TableState) (r : Ruled l s) (j : ℕ) (u : View) → get_elem? s.views j ≡ some u → IsWriters u.role → (acts_of u ≡ r.log) × (tally_of u ≡ r.tally) × (j ≡ r.at)
+log_is l s r j u at is = knows_all l u.layout r.log r.tally r.at j u.role is (r.views j u at)
+
+-- a reader that has a seat is one of the readers
+pub is_reader : (l : Layout) (s : TableState) (r : Ruled l s) (j a : ℕ) (u : View) → get_elem? s.views j ≡ some u → seated_in a u.role ≡ 1 → a < r.tally.readers
+is_reader l s r j a u at here = dite (dec_le r.tally.readers a)
+    (λ over. let none = r.unseated a over in let some' = seat_counts a s.views j u at in absurd (omega (arith, none, some', here)))
+    (λ under. omega (arith, under))
+
+-- ---- and to the record of a reader
+-- it leaves it, or adds one entry
+pub data RecordStep (l : Layout) (s t : TableState) (r : Ruled l s) (a : ℕ) (done : List Reading) : Type 0 where
+  keeps : HasRecord a t done → RecordStep l s t r a done
+  enters : (e : Reading) (x : AddsEntry l s t r.log e) → x.done ≡ done → x.number ≡ a → HasRecord a t (done ++ e ∷ []) → RecordStep l s t r a done
+
+module _ (l : Layout) (s t : TableState) (r : Ruled l s) (r' : Ruled l t) (k : ℕ) (v w : View) (mine : get_elem? s.views k ≡ some v) (next : t.views ≡ set s.views k w) where
+  here : get_elem? t.views k ≡ some w
+  here = ap (λ (vs : List View). get_elem? vs k) next ∙ set_here s.views k w (got_below s.views k v mine)
+
+  there : (j : ℕ) → j ≢ k → get_elem? t.views j ≡ get_elem? s.views j
+  there j n = ap (λ (vs : List View). get_elem? vs j) next ∙ set_else s.views k j w n
+
+  seats_change : (a : ℕ) → seats_of a t.views + seated_in a v.role ≡ seats_of a s.views + seated_in a w.role
+  seats_change a = ap (λ (vs : List View). seats_of a vs + seated_in a v.role) next ∙ total_set (λ (u : View). seated_in a u.role) s.views k v w mine
+
+  knew : (acts_of r.writer.0 ≡ r.log) × (tally_of r.writer.0 ≡ r.tally) × (r.at ≡ r.at)
+  knew = log_is l s r r.at r.writer.0 r.writer.1 r.writer.2
+
+  -- where the writer's view stays, all acts do
+  unchanged : get_elem? t.views r.at ≡ some r.writer.0 → (r'.log ≡ r.log) × (r'.tally ≡ r.tally) × (r.at ≡ r'.at)
+  unchanged e = let x = log_is l t r' r.at r.writer.0 e r.writer.2 in (sym x.0 ∙ knew.0, sym x.1 ∙ knew.1, x.2)
+
+  away : r.at ≢ k → (r'.log ≡ r.log) × (r'.tally ≡ r.tally) × (r.at ≡ r'.at)
+  away n = unchanged (there r.at n ∙ r.writer.1)
+
+  writer_here : r.at ≡ k → r.writer.0 ≡ v
+  writer_here e = some-injective _ _ (sym r.writer.1 ∙ (ap (λ (n : ℕ). get_elem? s.views n) e ∙ mine))
+
+  -- the writer's seat stays the writer's
+  not_lost : r.at ≡ k → (IsWriters w.role → ⊥) → ⊥
+  not_lost e none = dite (ℕ_discrete r'.at k)
+      (λ same. none (subst (λ (x : View). IsWriters x.role) (some-injective _ _ (sym r'.writer.1 ∙ (ap (λ (n : ℕ). get_elem? t.views n) same ∙ here))) r'.writer.2))
+      (λ other. other ((log_is l s r r'.at r'.writer.0 (sym (there r'.at other) ∙ r'.writer.1) r'.writer.2).2 ∙ e))
+
+  -- no reader is dropped
+  not_dropped : (a : ℕ) → r'.tally.readers ≡ r.tally.readers → seated_in a v.role ≡ 1 → seated_in a w.role ≡ 0 → ⊥
+  not_dropped a same was none =
+      let below = is_reader l s r k a v mine was in
+      let one = r.single a below in
+      let one' = r'.single a (omega (arith, below, same)) in
+      omega (arith, one, one', seats_change a, was, none)
+
+  -- the writer's view after an act
+  acted : (m : Made) (note : Note) → w ≡ writer_view v.layout (acts_of v ++ m ∷ []) (with_note (tally_of v) note) → (v.layout ≡ l) × (k ≡ r'.at) × (acts_of v ++ m ∷ [] ≡ r'.log) × (with_note (tally_of v) note ≡ r'.tally)
+  acted m note e = subst (λ (x : View). FitsRole l x.layout r'.log r'.tally r'.at k x.role) e (r'.views k w here)
+
+  acted_at : (m : Made) (note : Note) → w ≡ writer_view v.layout (acts_of v ++ m ∷ []) (with_note (tally_of v) note) → r.at ≡ k
+  acted_at m note e = dite (ℕ_discrete r.at k) (λ y. y) (λ n. (away n).2 ∙ sym (acted m note e).1)
+
+  readers_turn : Turn l s v w → r'.tally.readers ≡ r.tally.readers
+  readers_turn (stays e) = dite (ℕ_discrete r.at k)
+      (λ y. ap (λ (x : Tally). x.readers) (unchanged (ap (λ (n : ℕ). get_elem? t.views n) y ∙ (here ∙ ap some (e ∙ sym (writer_here y))))).1)
+      (λ n. ap (λ (x : Tally). x.readers) (away n).1)
+  readers_turn (made m note e honest) =
+      let y = acted_at m note e in
+      let was : tally_of v ≡ r.tally = ap tally_of (sym (writer_here y)) ∙ knew.1 in
+      ap (λ (x : Tally). x.readers) (sym (acted m note e).3) ∙ ap (λ (x : Tally). x.readers) was
+  readers_turn (entered new x e) = dite (ℕ_discrete r.at k)
+      (λ y. absurd (not_lost y (λ is. subst (λ (u : View). IsWriters u.role) e is)))
+      (λ n. ap (λ (x : Tally). x.readers) (away n).1)
+
+  log_turn : Turn l s v w → LogStep l s t r r'
+  log_turn (stays e) = dite (ℕ_discrete r.at k)
+      (λ y. rests (unchanged (ap (λ (n : ℕ). get_elem? t.views n) y ∙ (here ∙ ap some (e ∙ sym (writer_here y))))).0)
+      (λ n. rests (away n).0)
+  log_turn (made m note e honest) =
+      let y = acted_at m note e in
+      let same : r.writer.0 ≡ v = writer_here y in
+      let a = acted m note e in
+      let acts_was : acts_of v ≡ r.log = ap acts_of (sym same) ∙ knew.0 in
+      let tally_was : tally_of v ≡ r.tally = ap tally_of (sym same) ∙ knew.1 in
+      let is : IsWriters v.role = subst (λ (x : View). IsWriters x.role) same r.writer.2 in
+      ⊎_elim
+      (λ (plain : v ≡ writer_view l r.log r.tally).
+      grows m k note (mine ∙ ap some plain)
+      (next ∙ ap (λ (x : View). set s.views k x) (e ∙ (λ i. writer_view (a.0 i) (acts_was i ++ m ∷ []) (with_note (tally_was i) note))))
+      (sym a.2 ∙ ap (λ (x : List Made). x ++ m ∷ []) acts_was)
+      honest)
+      (λ (joined : (n : ℕ) × (seated_in n v.role ≡ 1)). absurd (not_dropped joined.0 (readers_turn (made m note e honest)) joined.1 (ap (λ (x : View). seated_in joined.0 x.role) e)))
+      (writer_is l v.layout r.log r.tally r.at k v.role is (r.views k v mine))
+  log_turn (entered new x e) = dite (ℕ_discrete r.at k)
+      (λ y. absurd (not_lost y (λ is. subst (λ (u : View). IsWriters u.role) e is)))
+      (λ n. rests (away n).0)
+
+  -- a reader that is on another seat stays there
+  record_away : (a : ℕ) (done : List Reading) (h : HasRecord a s done) → h.seat ≢ k → HasRecord a t done
+  record_away a done h n = record { seat = h.seat; view = h.view; mine = there h.seat n ∙ h.mine; reader = h.reader; is = h.is }
+
+  record_turn : (a : ℕ) (done : List Reading) → Turn l s v w → HasRecord a s done → RecordStep l s t r a done
+  record_turn a done turn h = dite (ℕ_discrete h.seat k)
+      (λ y.
+      let same : h.view ≡ v = some-injective _ _ (sym h.mine ∙ (ap (λ (n : ℕ). get_elem? s.views n) y ∙ mine)) in
+      own a done turn (ap (λ (x : View). seated_in a x.role) (sym same) ∙ h.reader) (ap done_of (sym same) ∙ h.is))
+      (λ n. keeps (record_away a done h n))
+    where
+      own : (a : ℕ) (done : List Reading) → Turn l s v w → seated_in a v.role ≡ 1 → done_of v ≡ done → RecordStep l s t r a done
+      own a done (stays e) seated is = keeps (record { seat = k; view = w; mine = here; reader = ap (λ (x : View). seated_in a x.role) e ∙ seated; is = ap done_of e ∙ is })
+      own a done (made m note e honest) seated is = absurd (not_dropped a (readers_turn (made m note e honest)) seated (ap (λ (x : View). seated_in a x.role) e))
+      own a done (entered new x e) seated is = ⊎_elim
+          (λ (one : (number : ℕ) × (front : List Made) × (v ≡ reader_view l number front (done_of v)) × (number ≡ a)).
+          let layout : v.layout ≡ l = ap (λ (u : View). u.layout) one.2 in
+          let number : number_of v ≡ one.0 = ap number_of one.2 in
+          let after : w ≡ reader_view l a new (done ++ x ∷ []) = e ∙ (λ i. reader_view (layout i) ((number ∙ one.3) i) new (is i ++ x ∷ [])) in
+          let before : v ≡ reader_view l a one.1 done = one.2 ∙ (λ i. reader_view l (one.3 i) one.1 (is i)) in
+          enters x (record {
+            before = r;
+            after = r';
+            made = refl;
+            seat = k;
+            number = a;
+            number' = a;
+            old = one.1;
+            new = new;
+            done = done;
+            reads = mine ∙ ap some before;
+            step = next ∙ ap (λ (u : View). set s.views k u) after;
+          }) refl refl (record { seat = k; view = w; mine = here; reader = ap (λ (u : View). seated_in a u.role) after ∙ hit a; is = ap done_of after }))
+          (λ (is : IsWriters v.role).
+          let y : k ≡ r.at = (log_is l s r k v mine is).2 in
+          absurd (not_lost (sym y) (λ is. subst (λ (u : View). IsWriters u.role) e is)))
+          (reader_is l v.layout r.log r.tally r.at k a v.role seated (r.views k v mine))
+
+-- ---- seats that are split off and joined
+-- the parts of what a step does: readers are no fewer, the acts are the same or one more, and each record is the same or has one entry more
+pub record Moves (l : Layout) (s t : TableState) (r : Ruled l s) (r' : Ruled l t) : Type 0 where
+  pub readers : r.tally.readers ≤ r'.tally.readers
+  pub log : LogStep l s t r r'
+  pub records : (a : ℕ) (done : List Reading) → HasRecord a s done → RecordStep l s t r a done
+
+-- no reader has the writer's seat
+not_writers : (a k : ℕ) (s : TableState) (done : List Reading) (v : View) (h : HasRecord a s done) → get_elem? s.views k ≡ some v → seated_in a v.role ≡ 0 → h.seat ≢ k
+not_writers a k s done v h at none same =
+    let is : h.view ≡ v = some-injective _ _ (sym h.mine ∙ (ap (λ (n : ℕ). get_elem? s.views n) same ∙ at)) in
+    let one = ap (λ (x : View). seated_in a x.role) is in
+    absurd (omega (arith, h.reader, none, one))
+
+module _ (l : Layout) (s t : TableState) (r : Ruled l s) (r' : Ruled l t) where
+  moves_played : (k : ℕ) (v w : View) → get_elem? s.views k ≡ some v → t.views ≡ set s.views k w → Turn l s v w → Moves l s t r r'
+  moves_played k v w mine next turn =
+      let same = readers_turn l s t r r' k v w mine next turn in
+      record { readers = omega (arith, same); log = log_turn l s t r r' k v w mine next turn; records = λ a done h. record_turn l s t r r' k v w mine next a done turn h }
+
+  moves_touched : t ≡ s → Moves l s t r r'
+  moves_touched e =
+      let w = r.writer in
+      let x = log_is l s r r.at w.0 w.1 w.2 in
+      let y = log_is l t r' r.at w.0 (ap (λ (z : TableState). get_elem? z.views r.at) e ∙ w.1) w.2 in
+      let same : r'.tally.readers ≡ r.tally.readers = ap (λ (z : Tally). z.readers) (sym y.1 ∙ x.1) in
+      record { readers = omega (arith, same); log = rests (sym y.0 ∙ x.0); records = λ a done h. keeps (subst (λ (z : TableState). HasRecord a z done) (sym e) h) }
+
+  moves_seated : (acts : List Made) (tally : Tally) → IsCut (writer_view l acts tally) with_reader_view new_reader_view s t → Moves l s t r r'
+  moves_seated acts tally p =
+      let v : View = writer_view l acts tally in
+      let left : View = writer_view l acts (with_reader tally) in
+      let new : View = reader_view l tally.readers [] [] in
+      let views : t.views ≡ set s.views p.seat left ++ new ∷ [] = ap (λ (z : TableState). z.views) p.next in
+      let x = log_is l s r p.seat v p.mine tt in
+      let here : get_elem? t.views p.seat ≡ some left = ap (λ (vs : List View). get_elem? vs p.seat) views ∙ at_longer (set s.views p.seat left) (new ∷ []) p.seat left (set_here s.views p.seat left (got_below s.views p.seat v p.mine)) in
+      let y = log_is l t r' p.seat left here tt in
+      let more : r'.tally.readers ≡ r.tally.readers + 1 = ap (λ (z : Tally). z.readers) (sym y.1) ∙ ap (λ (z : Tally). z.readers + 1) x.1 in
+      record {
+        readers = omega (arith, more);
+        log = rests (sym y.0 ∙ x.0);
+        records = λ a done h.
+            let other = not_writers a p.seat s done v h p.mine refl in
+            keeps (record { seat = h.seat; view = h.view; mine = ap (λ (vs : List View). get_elem? vs h.seat) views ∙ at_longer (set s.views p.seat left) (new ∷ []) h.seat h.view (set_else s.views p.seat h.seat left other ∙ h.mine); reader = h.reader; is = h.is });
+      }
+
+  moves_joined : (acts : List Made) (tally : Tally) (number : ℕ) (front : List Made) (done : List Reading) → IsJoined (writer_view l acts tally) (reader_view l number front done) s t → Moves l s t r r'
+  moves_joined acts tally number front done p =
+      let v : View = writer_view l acts tally in
+      let w : View = reader_view l number front done in
+      let both : View = view_as l (Both acts tally number front done) in
+      let views : t.views ≡ set (set s.views p.seat both) p.other spent_view = ap (λ (z : TableState). z.views) p.next in
+      let x = log_is l s r p.seat v p.mine tt in
+      let here : get_elem? t.views p.seat ≡ some both = ap (λ (vs : List View). get_elem? vs p.seat) views ∙ (set_else (set s.views p.seat both) p.other p.seat spent_view (λ e. p.apart (sym e)) ∙ set_here s.views p.seat both (got_below s.views p.seat v p.mine)) in
+      let y = log_is l t r' p.seat both here tt in
+      let same : r'.tally.readers ≡ r.tally.readers = ap (λ (z : Tally). z.readers) (sym y.1 ∙ x.1) in
+      record {
+        readers = omega (arith, same);
+        log = rests (sym y.0 ∙ x.0);
+        records = λ a rs h.
+            let apart = not_writers a p.seat s rs v h p.mine refl in
+            dite (ℕ_discrete h.seat p.other)
+            (λ e.
+            let is : h.view ≡ w = some-injective _ _ (sym h.mine ∙ (ap (λ (n : ℕ). get_elem? s.views n) e ∙ p.yours)) in
+            keeps (record { seat = p.seat; view = both; mine = here; reader = ap (λ (u : View). seated_in a u.role) (sym is) ∙ h.reader; is = ap done_of (sym is) ∙ h.is }))
+            (λ n. keeps (record { seat = h.seat; view = h.view; mine = ap (λ (vs : List View). get_elem? vs h.seat) views ∙ (set_else (set s.views p.seat both) p.other h.seat spent_view n ∙ (set_else s.views p.seat h.seat both apart ∙ h.mine)); reader = h.reader; is = h.is }));
+      }
+
+  moves_parted : (acts : List Made) (tally : Tally) (number : ℕ) (front : List Made) (done : List Reading) → IsCut (view_as l (Both acts tally number front done)) writer_part reader_part s t → Moves l s t r r'
+  moves_parted acts tally number front done p =
+      let v : View = view_as l (Both acts tally number front done) in
+      let left : View = writer_view l acts tally in
+      let new : View = reader_view l number acts done in
+      let views : t.views ≡ set s.views p.seat left ++ new ∷ [] = ap (λ (z : TableState). z.views) p.next in
+      let x = log_is l s r p.seat v p.mine tt in
+      let here : get_elem? t.views p.seat ≡ some left = ap (λ (vs : List View). get_elem? vs p.seat) views ∙ at_longer (set s.views p.seat left) (new ∷ []) p.seat left (set_here s.views p.seat left (got_below s.views p.seat v p.mine)) in
+      let y = log_is l t r' p.seat left here tt in
+      let same : r'.tally.readers ≡ r.tally.readers = ap (λ (z : Tally). z.readers) (sym y.1 ∙ x.1) in
+      record {
+        readers = omega (arith, same);
+        log = rests (sym y.0 ∙ x.0);
+        records = λ a rs h. dite (ℕ_discrete h.seat p.seat)
+            (λ e.
+            let is : h.view ≡ v = some-injective _ _ (sym h.mine ∙ (ap (λ (n : ℕ). get_elem? s.views n) e ∙ p.mine)) in
+            let at : get_elem? t.views (length (set s.views p.seat left)) ≡ some new = ap (λ (vs : List View). get_elem? vs (length (set s.views p.seat left))) views ∙ at_last (set s.views p.seat left) new (length (set s.views p.seat left)) refl in
+            keeps (record { seat = length (set s.views p.seat left); view = new; mine = at; reader = ap (λ (u : View). seated_in a u.role) (sym is) ∙ h.reader; is = ap done_of (sym is) ∙ h.is }))
+            (λ n. keeps (record { seat = h.seat; view = h.view; mine = ap (λ (vs : List View). get_elem? vs h.seat) views ∙ at_longer (set s.views p.seat left) (new ∷ []) h.seat h.view (set_else s.views p.seat h.seat left n ∙ h.mine); reader = h.reader; is = h.is }));
+      }
+
+  -- whatever the step is
+  moves_by : (play : Tells) (p : IsPlayed play s t) → Turn l s p.v p.w → Moves l s t r r'
+  moves_by play p turn = moves_played p.seat p.v p.w p.mine (ap (λ (z : TableState). z.views) p.next) turn
+
+  pub moves : IsStep l s t → Moves l s t r r'
+  moves (touches e) = moves_touched e
+  moves (fetches p) = moves_by FetchesWord p (turn_fetch l s t p)
+  moves (makes a st p) = moves_by (AddsAct a) p (turn_act l s t a p (stored_honest l s t a _ st))
+  moves (marks_if_set a st p) = moves_by (AddsActIfSet a) p (turn_if_set l s t a p (stored_honest l s t a _ st))
+  moves (turns i p at) = moves_by (AddsAct (Hand i)) p (turn_act l s t (Hand i) p (hand_honest l s t i p.place at))
+  moves (turns_if_clear i p at) = moves_by (AddsActIfClear (Hand i)) p (turn_if_clear l s t (Hand i) p (hand_honest l s t i p.place at))
+  moves (reads a p) = moves_by (ReadsWord a) p (turn_read l s t a p)
+  moves (marks i p) = moves_by (AddsMark i) p (turn_mark l s t i p)
+  moves (notices i p) = moves_by (AddsMarkIfSet i) p (turn_notice l s t i p)
+  moves (seats acts tally p) = moves_seated acts tally p
+  moves (joins acts tally number front done p) = moves_joined acts tally number front done p
+  moves (compares p) = moves_by ComparesMoment p (turn_compare l s t p)
+  moves (parts acts tally number front done p) = moves_parted acts tally number front done p

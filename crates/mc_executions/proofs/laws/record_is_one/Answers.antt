@@ -1,0 +1,5 @@
+use Rattle.mc_executions.proofs.ExecutionRuns.{record_is_one}
+use Rattle.mc_executions.proofs.laws.record_is_one.Goals as goal
+
+pub returns : goal.returns
+returns c = record_is_one

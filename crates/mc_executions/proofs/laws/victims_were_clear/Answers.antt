@@ -1,0 +1,5 @@
+use Rattle.mc_executions.proofs.ExecutionRuns.{victims_were_clear}
+use Rattle.mc_executions.proofs.laws.victims_were_clear.Goals as goal
+
+pub returns : goal.returns
+returns g c = victims_were_clear g.row.V
