@@ -2,36 +2,24 @@
 use mathlib.Core.Logic.{dite}
 use native.Mathlib.Decide.{ℕ_discrete, dec_le}
 use Rattle.std.specs.Prelude.{slice_get}
-use Rattle.std.proofs.Common.{◌≡◌, ⊎_elim, ℕ, zero, suc, ◌+◌, ◌-◌, ◌<◌, ◌≤◌, ◌^◌, List, [], ◌∷◌, ◌++◌, length, set, get_or, drop, refl, ap, sym, ◌∙◌, subst, arith, append_assoc, append-nil, length-append, Some}
+use Rattle.std.proofs.Common.{◌≡◌, ℕ, zero, suc, ◌+◌, ◌-◌, ◌<◌, ◌≤◌, List, [], ◌∷◌, ◌++◌, length, set, get_or, drop, refl, ap, sym, ◌∙◌, subst, arith, append_assoc, append-nil, length-append, Some}
 use mathlib.Core.Option.{some, some-injective}
 use lib.ListN.{get_elem?}
 use Rattle.atomic_table.proofs.Lists.{set_else}
-use Rattle.mc_words.specs.declared.history.Reply.{Reply}
-use Rattle.mc_words.specs.declared.shape.Shape.{Shape}
-use Rattle.mc_theory.specs.Laws.{OpensOrSweeps}
-use Rattle.mc_theory.specs.Lists.{Made, after_all, front, state_of}
-use Rattle.mc_words.specs.Shapes.{IsShape}
-use Rattle.mc_words.specs.Standing.{Stands}
-use Rattle.mc_theory.specs.States.{State}
-use Rattle.mc_theory.specs.Plain.{IsBetween}
-use Rattle.mc_theory.proofs.Lists.Fronts.{state_append}
-use Rattle.mc_theory.proofs.Lists.Histories.{history_all}
-use Rattle.mc_words.specs.declared.history.Reply.TheVariants.{Found, Absent, Busy}
-use Rattle.mc_theory.specs.Lookups.{IsLookup}
+use Rattle.mc_theory.specs.Lists.{Made}
 use Rattle.mc_theory.specs.Readings.{Reading}
-use Rattle.mc_theory.specs.declared.act.Act.TheVariants.{Hand, Open}
-use Rattle.mc_theory.specs.declared.act.Deed.TheVariants as deed
-use Rattle.mc_theory.proofs.Lists.ClearReadings.{evicts_are_clear}
-use Rattle.mc_shared.specs.ExactLaws.{AddsEntry, IsLookedUp}
-use Rattle.mc_shared.specs.Views.{Note, View, spent_view, writer_view, reader_view, new_writer_view, seated_in, done_of, with_note, with_bit, layout_of, IsFrontOf}
+use Rattle.mc_shared.specs.ExactLaws.{AddsEntry}
+use Rattle.mc_shared.specs.TableRule.{Ruled}
+use Rattle.mc_shared.specs.Views.{Note, View, spent_view, writer_view, reader_view, new_writer_view, seated_in, done_of, with_note, IsFrontOf}
 use Rattle.mc_shared.specs.declared.layout.Layout.{Layout}
 use Rattle.mc_shared.proofs.Coherence.{total_set}
 use Rattle.mc_shared.proofs.ExactSteps.{seat_counts}
-use Rattle.mc_shared.proofs.OrderedLookups.{lookups_are_in_time}
 use Rattle.mc_shared.proofs.ReaderRecords.{front_self, front_trans, front_length}
-use Rattle.mc_executions.specs.Executions.{TableState, IsExecution, HasRecord}
-use Rattle.mc_executions.specs.ExecutionLaws.{RecordIsOne, LooksBetween, LookupsAreTimed, IsAt, MomentsKeepOrder, WritesAreSeen, WasClear, VictimsWereClear}
-use Rattle.mc_executions.proofs.ExecutionSteps.{hit, log_is, is_reader, LogStep, rests, grows, keeps, enters, Moves, moves, IsHonest}
+use Rattle.mc_executions.specs.Executions.{TableState, IsExecution, HasRecord, HasActs}
+use Rattle.mc_executions.specs.TimeOrder.{RecordIsOne, RecordsPass}
+use Rattle.mc_executions.proofs.ExecutionSteps.{hit, log_is, is_reader, LogStep, rests, grows, keeps, enters, IsHonest}
+use Rattle.mc_executions.proofs.SeatMoves.{Moves}
+use Rattle.mc_executions.proofs.StepMoves.{moves}
 
 -- a reader has one record
 pub record_is_one : RecordIsOne
@@ -59,19 +47,19 @@ got_at_end : (xs ys : List Made) (m : Made) → slice_get ((xs ++ m ∷ []) ++ y
 got_at_end [] ys m = refl
 got_at_end (x ∷ xs) ys m = got_at_end xs ys m
 
-got_short : (xs : List Made) (n : ℕ) (m : Made) → slice_get xs n ≡ Some m → n < length xs
+pub got_short : (xs : List Made) (n : ℕ) (m : Made) → slice_get xs n ≡ Some m → n < length xs
 got_short [] n m e = absurd (cc)
 got_short (x ∷ xs) zero m e = omega arith
 got_short (x ∷ xs) (suc n) m e = let h = got_short xs n m e in omega (arith, h)
 
-one_made : (x y : Made) → Some x ≡ Some y → x ≡ y
+pub one_made : (x y : Made) → Some x ≡ Some y → x ≡ y
 one_made x y e = cc
 
 module _ (l : Layout) (states : ℕ → TableState) (run : IsExecution l states) where
   abbrev log : ℕ → List Made
   log n = (run.ruled n).log
 
-  move : (n : ℕ) → Moves l (states n) (states (suc n)) (run.ruled n) (run.ruled (suc n))
+  pub move : (n : ℕ) → Moves l (states n) (states (suc n)) (run.ruled n) (run.ruled (suc n))
   move n = moves l (states n) (states (suc n)) (run.ruled n) (run.ruled (suc n)) (run.steps n)
 
   log_grows_by : (n : ℕ) → LogStep l (states n) (states (suc n)) (run.ruled n) (run.ruled (suc n)) → IsFrontOf (log n) (log (suc n))
@@ -164,7 +152,7 @@ module _ (l : Layout) (states : ℕ → TableState) (run : IsExecution l states)
       ]
 
   -- the same between any two states
-  front_between : (m n : ℕ) → m ≤ n → IsFrontOf (log m) (log n)
+  pub front_between : (m n : ℕ) → m ≤ n → IsFrontOf (log m) (log n)
   front_between m n le = subst (λ (k : ℕ). IsFrontOf (log m) (log k)) (omega (arith, le)) (logs_grow (n - m) m)
 
   pub entry_between : (i j n a : ℕ) (d e : List Reading) → i ≤ j → HasRecord a (states i) d → HasRecord a (states j) e → length d ≤ n → n < length e → FoundEntry i j a n e
@@ -172,7 +160,7 @@ module _ (l : Layout) (states : ℕ → TableState) (run : IsExecution l states)
       let same : i + (j - i) ≡ j = omega (arith, le) in
       subst (λ (k : ℕ). FoundEntry i k a n e) same (find_entry (j - i) i n a d e h (subst (λ (k : ℕ). HasRecord a (states k) e) (sym same) h') low high)
 
-  act_before : (j n : ℕ) → n < length (log j) → FoundAct 0 j n
+  pub act_before : (j n : ℕ) → n < length (log j) → FoundAct 0 j n
   act_before j n high =
       let none : [] ≡ log 0 = (log_is l (states 0) (run.ruled 0) 0 (new_writer_view l) (ap (λ (vs : List View). get_elem? vs 0) run.opened) tt).0 in
       let same : 0 + j ≡ j = omega arith in
@@ -189,159 +177,27 @@ module _ (l : Layout) (states : ℕ → TableState) (run : IsExecution l states)
   }
 
   -- the act that was found is one of the later list
-  act_there : (i j n : ℕ) (f : FoundAct i j n) → slice_get (log j) n ≡ Some f.m
+  pub act_there : (i j n : ℕ) (f : FoundAct i j n) → slice_get (log j) n ≡ Some f.m
   act_there i j n f =
       let begun = front_between (suc f.p) j f.until in
       ap (λ (z : List Made). slice_get z n) (begun.1 ∙ ap (λ (z : List Made). z ++ begun.0) f.more)
       ∙ (ap (slice_get ((log f.p ++ f.m ∷ []) ++ begun.0)) (sym f.place) ∙ got_at_end (log f.p) begun.0 f.m)
 
   -- acts are made in their order
-  acts_in_order : (i j m n : ℕ) (f : FoundAct i j m) (g : FoundAct i j n) → m < n → f.p < g.p
+  pub acts_in_order : (i j m n : ℕ) (f : FoundAct i j m) (g : FoundAct i j n) → m < n → f.p < g.p
   acts_in_order i j m n f g lt = dite (dec_le (suc f.p) g.p) (λ y. y) (λ no.
       absurd (omega (arith, front_length (log g.p) (log f.p) (front_between g.p f.p (omega (arith, no))), f.place, g.place, lt)))
 
--- a lookup with a try left reads something
-starts : (V : ℕ) (sh : Shape) (k t : ℕ) (rs : List Reading) (reply : Reply V) → 0 < t → IsLookup V sh k t rs reply → 0 < length rs
-starts V sh k zero rs reply some' h = absurd (omega (arith, some'))
-starts V sh k (suc t) rs reply some' h = ⊎_elim
-    (λ x. ⊎_elim
-    (λ y. omega (arith, ap length (x.2 ∙ ap (λ (z : List Reading). z ++ x.1) y.1)))
-    (λ y. omega (arith, ap length (x.2 ∙ ap (λ (z : List Reading). z ++ x.1) y.6.parts)))
-    x.3)
-    (λ x. omega (arith, ap length (x.6 ∙ ap (λ (z : List Reading). z ++ x.1) x.7.parts)))
-    h
+  -- the acts that were made are those of the writer's record
+  pub acts_are : (n : ℕ) (acts : List Made) → HasActs (states n) acts → log n ≡ acts
+  acts_are n acts h = sym (log_is l (states n) (run.ruled n) h.seat h.view h.mine h.writer).0 ∙ h.is
 
-no_more : (xs : List Reading) → length xs ≡ 0 → xs ≡ []
-no_more [] e = refl
-no_more (x ∷ xs) e = absurd (omega (arith, e))
-
--- a lookup whose first entry was entered at f, and its last at g
-module _ (V : ℕ) (sh : Shape) (states : ℕ → TableState) (run : IsExecution (layout_of V sh) states) (i j a k tries : ℕ) (done rs : List Reading) (reply : Reply V) (f : FoundEntry (layout_of V sh) states run i j a (length done) (done ++ rs)) (g : FoundEntry (layout_of V sh) states run f.p j a (length done + length rs - 1) (done ++ rs)) where
-  at_first : (done ≡ f.entry.done) × (rs ≡ f.x ∷ f.rest)
-  at_first = same_parts done rs f.entry.done (f.x ∷ f.rest) (sym f.place) f.parts
-
-  at_last : g.entry.done ++ g.x ∷ [] ≡ f.entry.done ++ rs
-  at_last =
-      let sum : length (done ++ rs) ≡ length g.entry.done + suc (length g.rest) = ap length g.parts ∙ length-append g.entry.done (g.x ∷ g.rest) in
-      let none : g.rest ≡ [] = no_more g.rest (omega (arith, sum, length-append done rs, g.place, ap length at_first.1)) in
-      ap (λ (z : List Reading). g.entry.done ++ g.x ∷ z) (sym none) ∙ (sym g.parts ∙ ap (λ (z : List Reading). z ++ rs) at_first.0)
-
-  looks : IsShape sh → k < 2 ^ 64 → IsLookup V sh k tries rs reply → LooksBetween V sh states run i j a k tries done rs reply
-  looks shape small looked =
-      let acts : ℕ → List Made = λ n. (run.ruled n).log in
-      let whole : IsLookedUp V sh k tries (acts f.p) (acts g.p) reply = record {
-        rs = rs;
-        looked = looked;
-        s = states f.p;
-        t = states (suc f.p);
-        first = f.x;
-        more = f.rest;
-        from = at_first.1;
-        begins = f.entry;
-        s' = states g.p;
-        t' = states (suc g.p);
-        last = g.x;
-        ends = g.entry;
-        whole = at_last;
-        later = front_between (layout_of V sh) states run f.p g.p g.from;
-      } in
-      let true' = lookups_are_in_time V sh k tries (acts f.p) (acts g.p) reply shape small whole in
-      record {
-        first = f.p;
-        last = g.p;
-        begins = f.from;
-        in_order = g.from;
-        ends = g.until;
-        looked = whole;
-        is = (refl, f.number, sym at_first.0);
-        first_step = (refl, refl);
-        last_step = (refl, refl);
-        timed = record { truth = true'.0; between = true'.1 };
-      }
-
-pub lookups_are_timed : (V : ℕ) → LookupsAreTimed V
-lookups_are_timed V sh states run i j a k tries done rs reply shape small some' le h h' looked =
-    let l : Layout = layout_of V sh in
-    let long : length (done ++ rs) ≡ length done + length rs = length-append done rs in
-    let more = starts V sh k tries rs reply some' looked in
-    let f = entry_between l states run i j (length done) a done (done ++ rs) le h h' (omega arith) (omega (arith, long, more)) in
-    let g = entry_between l states run f.p j (length done + length rs - 1) a f.entry.done (done ++ rs) (omega (arith, f.until)) (record_there l states run i j a (length done) (done ++ rs) f) h' (omega (arith, f.place, more)) (omega (arith, long, more)) in
-    looks V sh states run i j a k tries done rs reply f g shape small looked
-
--- the eviction of the key that was opened by the step found at g, after the turn of the hand at f
-module _ (V : ℕ) (sh : Shape) (states : ℕ → TableState) (run : IsExecution (layout_of V sh) states) (j n k slot item turn : ℕ) (f : FoundAct (layout_of V sh) states run 0 j turn) (g : FoundAct (layout_of V sh) states run 0 j n) where
-  was_clear : Stands V sh (front V sh ((run.ruled j).log) n).words k slot item → turn < n → slice_get ((run.ruled j).log) turn ≡ Some (with_bit (Hand item) 0)
-      → ((m : ℕ) (d : Made) → turn < m → m < n → slice_get ((run.ruled j).log) m ≡ Some d → OpensOrSweeps d.act → ⊥) → WasClear V sh states run j n k
-  was_clear stands before act alone =
-      let l : Layout = layout_of V sh in
-      let is : f.m ≡ with_bit (Hand item) 0 = one_made f.m (with_bit (Hand item) 0) (sym (act_there l states run 0 j turn f) ∙ act) in
-      let clear = f.honest item (ap (λ (z : Made). z.act) is) in
-      record {
-        slot = slot;
-        item = item;
-        turn = turn;
-        at = f.p;
-        opens = g.p;
-        stands = stands;
-        turned = before;
-        act = act;
-        in_order = acts_in_order l states run 0 j turn n f g before;
-        ends = g.until;
-        counted = f.place;
-        opened = g.place;
-        step = record {
-          before = run.ruled f.p;
-          after = run.ruled (suc f.p);
-          seat = f.seat;
-          tally = (run.ruled f.p).tally;
-          note = f.note;
-          knows = f.knows;
-          step = f.step ∙ ap (λ (m : Made). set (states f.p).views f.seat (writer_view l ((run.ruled f.p).log ++ m ∷ []) (with_note (run.ruled f.p).tally f.note))) is;
-        };
-        clear = sym clear ∙ ap (λ (z : Made). z.bit) is;
-        alone = alone;
-      }
-
-pub victims_were_clear : (V : ℕ) → VictimsWereClear V
-victims_were_clear V sh states run j n k b at =
-    let l : Layout = layout_of V sh in
-    let c = evicts_are_clear V sh ((run.ruled j).log) n k b (run.ruled j).lawful at in
-    let below : n < length ((run.ruled j).log) = got_short ((run.ruled j).log) n (with_bit (Open k deed.Evict) b) at in
-    was_clear V sh states run j n k c.0 c.1 c.2 (act_before l states run j c.2 (omega (arith, below, c.4))) (act_before l states run j n below) c.3 c.4 c.5 c.6
-
--- ---- the order of time
--- the history grows with the acts
-longer : (V : ℕ) (sh : Shape) (xs ys : List Made) → IsFrontOf xs ys → length (state_of V sh xs).history ≤ length (state_of V sh ys).history
-longer V sh xs ys p =
-    let h = history_all sh (state_of V sh xs) p.0 in
-    let same : state_of V sh ys ≡ after_all sh (state_of V sh xs) p.0 = ap (state_of V sh) p.1 ∙ state_append V sh xs p.0 in
-    omega (arith, ap (λ (s : State V). length s.history) same, ap length h.1, length-append (state_of V sh xs).history h.0)
-
-moment_high : {V : ℕ} (reply : Reply V) (m lo hi : ℕ) → IsAt reply m → IsBetween lo hi reply → m ≤ hi
-moment_high (Found v at since) m lo hi e b = omega (arith, e, b.1)
-moment_high (Absent at) m lo hi e b = omega (arith, e, b.1)
-moment_high Busy m lo hi e b = absurd e
-
-moment_low : {V : ℕ} (reply : Reply V) (m lo hi : ℕ) → IsAt reply m → IsBetween lo hi reply → lo ≤ m
-moment_low (Found v at since) m lo hi e b = omega (arith, e, b.0)
-moment_low (Absent at) m lo hi e b = omega (arith, e, b.0)
-moment_low Busy m lo hi e b = absurd e
-
--- a later state has no shorter history
-later_longer : (V : ℕ) (sh : Shape) (states : ℕ → TableState) (run : IsExecution (layout_of V sh) states) (m n : ℕ) → m ≤ n → length (state_of V sh ((run.ruled m).log)).history ≤ length (state_of V sh ((run.ruled n).log)).history
-later_longer V sh states run m n le = longer V sh ((run.ruled m).log) ((run.ruled n).log)
-    (front_between (layout_of V sh) states run m n le)
-
-pub moments_keep_order : (V : ℕ) → MomentsKeepOrder V
-moments_keep_order V sh states run k first last k' first' last' m m' reply reply' one two order at at' =
-    let high = moment_high reply m _ _ at one.between in
-    let low = moment_low reply' m' _ _ at' two.between in
-    omega (arith, high, later_longer V sh states run last first' order, low)
-
-pub writes_are_seen : (V : ℕ) → WritesAreSeen V
-writes_are_seen V sh states run k first last m n seat reply acts tally one at mine =
-    let is = (log_is (layout_of V sh) (states n) (run.ruled n) seat (writer_view (layout_of V sh) acts tally) mine tt).0 in
-    let same = ap (λ (z : List Made). length (state_of V sh z).history) is in (
-      (λ le. omega (arith, moment_low reply m _ _ at one.between, later_longer V sh states run n first le, same)),
-      (λ le. omega (arith, moment_high reply m _ _ at one.between, later_longer V sh states run last n le, same)),
-    )
+  pub records_pass : (i j a : ℕ) (done xs ys : List Reading) → i ≤ j → HasRecord a (states i) done → HasRecord a (states j) (done ++ xs ++ ys) → (m : ℕ) × (i ≤ m) × (m ≤ j) × HasRecord a (states m) (done ++ xs)
+  records_pass i j a done xs [] le h h' = (j, le, omega arith, subst (HasRecord a (states j)) (append-nil (done ++ xs)) h')
+  records_pass i j a done xs (y ∷ ys) le h h' =
+      let e : List Reading = done ++ xs ++ y ∷ ys in
+      let n : ℕ = length (done ++ xs) in
+      let long : length e ≡ n + suc (length ys) = length-append (done ++ xs) (y ∷ ys) in
+      let f = entry_between i j n a done e le h h' (omega (arith, length-append done xs)) (omega (arith, long)) in
+      let cut = same_parts (done ++ xs) (y ∷ ys) f.entry.done (f.x ∷ f.rest) (sym f.place) f.parts in
+      (f.p, f.from, omega (arith, f.until), subst (HasRecord a (states f.p)) (sym cut.0) (record_there i j a n e f))

@@ -1,4 +1,4 @@
--- What one step of an execution does to the list of acts, and to the record of a reader.
+-- What a step of one seat does to the list of acts, and to the record of a reader.
 use Rattle.std.specs.Prelude.{if◌then◌else◌}
 use Rattle.std.specs.Int.{bit_at}
 use mathlib.Core.Logic.{dite}
@@ -16,15 +16,15 @@ use Rattle.mc_theory.specs.declared.access.Access.{Access}
 use Rattle.mc_theory.specs.declared.act.Act.{Act}
 use Rattle.mc_theory.specs.declared.act.Act.TheVariants.{Hand}
 use Rattle.mc_shared.specs.ExactLaws.{AddsEntry}
-use Rattle.mc_shared.specs.Steps.{SeatView, IsStored, bit_of, item_bit, reading, mark_at, AddsAct, AddsActIfSet, AddsActIfClear, FetchesWord, ReadsWord, AddsMark, AddsMarkIfSet, ComparesMoment, with_reader_view, new_reader_view, writer_part, reader_part}
+use Rattle.mc_shared.specs.Steps.{SeatView, IsStored, bit_of, item_bit, reading, mark_at, AddsAct, AddsActIfSet, AddsActIfClear, ClearsBit, FetchesWord, ReadsWord, AddsMark, AddsMarkIfSet, ComparesMoment, with_reader_view, new_reader_view, writer_part, reader_part}
 use Rattle.mc_shared.specs.TableRule.{FitsRole, Ruled, bit_in, seats_of}
 use Rattle.mc_shared.specs.Views.{Note, Tally, Role, Spent, Writes, Reads, Both, View, IsWriters, view_as, writer_view, reader_view, spent_view, acts_in, tally_in, acts_of, tally_of, number_of, front_of, done_of, done_in, with_note, with_reader, with_bit, seated_in}
 use Rattle.mc_shared.specs.declared.layout.Layout.{Layout}
 use Rattle.mc_shared.proofs.Coherence.{total_set}
 use Rattle.mc_shared.proofs.EachStep.{got_below}
 use Rattle.mc_shared.proofs.ExactSteps.{seat_counts}
-use Rattle.mc_executions.specs.Executions.{TableState, Tells, IsPlayed, IsCut, IsJoined, IsStep, touches, fetches, makes, marks_if_set, turns, turns_if_clear, reads, marks, notices, seats, joins, compares, parts, HasRecord}
-use Rattle.mc_executions.specs.ExecutionLaws.{LogIsOne}
+use Rattle.mc_executions.specs.Executions.{TableState, IsPlayed, HasRecord}
+use Rattle.mc_executions.specs.TimeOrder.{LogIsOne}
 
 -- the writer's seat knows all acts and their tally, and stands where the rule says
 pub knows_all : (l own : Layout) (log : List Made) (all : Tally) (at seat : ℕ) (r : Role) → IsWriters r → FitsRole l own log all at seat r → (acts_in r ≡ log) × (tally_in r ≡ all) × (seat ≡ at)
@@ -84,44 +84,47 @@ item_in (Hand i) = i
 item_in _ = 0
 
 module _ (l : Layout) (s t : TableState) where
-  turn_act : (a : Act) (p : IsPlayed (AddsAct a) s t) → IsHonest l s (with_bit a (bit_of a (get_or s.words p.place 0))) → Turn l s p.v p.w
+  pub turn_act : (a : Act) (p : IsPlayed (AddsAct a) s t) → IsHonest l s (with_bit a (bit_of a (get_or s.words p.place 0))) → Turn l s p.v p.w
   turn_act a p h = made (with_bit a (bit_of a (get_or s.words p.place 0))) p.told.0 (ap (λ (x : SeatView). x.0) p.told.1) h
 
-  turn_if_set : (a : Act) (p : IsPlayed (AddsActIfSet a) s t) → IsHonest l s (with_bit a (bit_of a (get_or s.words p.place 0))) → Turn l s p.v p.w
+  pub turn_if_set : (a : Act) (p : IsPlayed (AddsActIfSet a) s t) → IsHonest l s (with_bit a (bit_of a (get_or s.words p.place 0))) → Turn l s p.v p.w
   turn_if_set a p h = ⊎_elim
       (λ zero. stays (ap (λ (x : SeatView). x.0) (p.told.1 zero)))
       (λ one. let x = p.told.0 one in made (with_bit a (bit_of a (get_or s.words p.place 0))) x.0 (ap (λ (x : SeatView). x.0) x.1) h)
       (bit_cases (get_or s.words p.place 0) (item_bit a))
 
-  turn_if_clear : (a : Act) (p : IsPlayed (AddsActIfClear a) s t) → IsHonest l s (with_bit a (bit_of a (get_or s.words p.place 0))) → Turn l s p.v p.w
+  pub turn_if_clear : (a : Act) (p : IsPlayed (AddsActIfClear a) s t) → IsHonest l s (with_bit a (bit_of a (get_or s.words p.place 0))) → Turn l s p.v p.w
   turn_if_clear a p h = ⊎_elim
       (λ zero. let x = p.told.0 zero in made (with_bit a (bit_of a (get_or s.words p.place 0))) x.0 (ap (λ (x : SeatView). x.0) x.1) h)
       (λ one. stays (ap (λ (x : SeatView). x.0) (p.told.1 one)))
       (bit_cases (get_or s.words p.place 0) (item_bit a))
 
-  turn_fetch : (p : IsPlayed FetchesWord s t) → Turn l s p.v p.w
+  pub turn_hand : (a : Act) (p : IsPlayed (ClearsBit a) s t) → IsHonest l s (with_bit a (bit_of a (get_or s.words p.place 0))) → Turn l s p.v p.w
+  turn_hand a p h = made (with_bit a (bit_of a (get_or s.words p.place 0))) p.told.1.0 (ap (λ (x : SeatView). x.0) p.told.1.1) h
+
+  pub turn_fetch : (p : IsPlayed FetchesWord s t) → Turn l s p.v p.w
   turn_fetch p = stays (ap (λ (x : SeatView). x.0) p.told.0)
 
-  turn_compare : (p : IsPlayed ComparesMoment s t) → Turn l s p.v p.w
+  pub turn_compare : (p : IsPlayed ComparesMoment s t) → Turn l s p.v p.w
   turn_compare p = stays (ap (λ (x : SeatView). x.0) p.told.0)
 
-  turn_read : (a : Access) (p : IsPlayed (ReadsWord a) s t) → Turn l s p.v p.w
+  pub turn_read : (a : Access) (p : IsPlayed (ReadsWord a) s t) → Turn l s p.v p.w
   turn_read a p = entered (front_of p.w) (reading a (get_or s.words p.place 0) (front_of p.w)) (ap (λ (x : SeatView). x.0) p.told.1 ∙ ap (λ (z : List Reading). reader_view p.v.layout (number_of p.v) (front_of p.w) z) p.told.2.adds)
 
-  turn_mark : (i : ℕ) (p : IsPlayed (AddsMark i) s t) → Turn l s p.v p.w
+  pub turn_mark : (i : ℕ) (p : IsPlayed (AddsMark i) s t) → Turn l s p.v p.w
   turn_mark i p = entered (front_of p.v) (mark_at i (front_of p.v)) (ap (λ (x : SeatView). x.0) p.told)
 
-  turn_notice : (i : ℕ) (p : IsPlayed (AddsMarkIfSet i) s t) → Turn l s p.v p.w
+  pub turn_notice : (i : ℕ) (p : IsPlayed (AddsMarkIfSet i) s t) → Turn l s p.v p.w
   turn_notice i p = ⊎_elim
       (λ zero. stays (ap (λ (x : SeatView). x.0) (p.told.1 zero)))
       (λ one. entered (front_of p.v) (mark_at i (front_of p.v)) (ap (λ (x : SeatView). x.0) (p.told.0 one)))
       (bit_cases (get_or s.words p.place 0) (recency_bit i))
 
   -- no act that is stored is one of the hand, and the hand's has the bit of its item's place
-  stored_honest : (a : Act) (bit : ℕ) → IsStored a → IsHonest l s (with_bit a bit)
+  pub stored_honest : (a : Act) (bit : ℕ) → IsStored a → IsHonest l s (with_bit a bit)
   stored_honest a bit st = λ i e. absurd (no_hand a i st e)
 
-  hand_honest : (i place : ℕ) → place ≡ recency_place l.width l.shape i → IsHonest l s (with_bit (Hand i) (bit_of (Hand i) (get_or s.words place 0)))
+  pub hand_honest : (i place : ℕ) → place ≡ recency_place l.width l.shape i → IsHonest l s (with_bit (Hand i) (bit_of (Hand i) (get_or s.words place 0)))
   hand_honest i place at = λ k e.
       let same : i ≡ k = ap item_in e in
       ap (λ (n : ℕ). bit_at (get_or s.words n 0) (recency_bit i)) at ∙ ap (bit_in l s.words) same
@@ -192,7 +195,7 @@ module _ (l : Layout) (s t : TableState) (r : Ruled l s) (r' : Ruled l t) (k : �
   acted_at : (m : Made) (note : Note) → w ≡ writer_view v.layout (acts_of v ++ m ∷ []) (with_note (tally_of v) note) → r.at ≡ k
   acted_at m note e = dite (ℕ_discrete r.at k) (λ y. y) (λ n. (away n).2 ∙ sym (acted m note e).1)
 
-  readers_turn : Turn l s v w → r'.tally.readers ≡ r.tally.readers
+  pub readers_turn : Turn l s v w → r'.tally.readers ≡ r.tally.readers
   readers_turn (stays e) = dite (ℕ_discrete r.at k)
       (λ y. ap (λ (x : Tally). x.readers) (unchanged (ap (λ (n : ℕ). get_elem? t.views n) y ∙ (here ∙ ap some (e ∙ sym (writer_here y))))).1)
       (λ n. ap (λ (x : Tally). x.readers) (away n).1)
@@ -204,7 +207,7 @@ module _ (l : Layout) (s t : TableState) (r : Ruled l s) (r' : Ruled l t) (k : �
       (λ y. absurd (not_lost y (λ is. subst (λ (u : View). IsWriters u.role) e is)))
       (λ n. ap (λ (x : Tally). x.readers) (away n).1)
 
-  log_turn : Turn l s v w → LogStep l s t r r'
+  pub log_turn : Turn l s v w → LogStep l s t r r'
   log_turn (stays e) = dite (ℕ_discrete r.at k)
       (λ y. rests (unchanged (ap (λ (n : ℕ). get_elem? t.views n) y ∙ (here ∙ ap some (e ∙ sym (writer_here y))))).0)
       (λ n. rests (away n).0)
@@ -231,7 +234,7 @@ module _ (l : Layout) (s t : TableState) (r : Ruled l s) (r' : Ruled l t) (k : �
   record_away : (a : ℕ) (done : List Reading) (h : HasRecord a s done) → h.seat ≢ k → HasRecord a t done
   record_away a done h n = record { seat = h.seat; view = h.view; mine = there h.seat n ∙ h.mine; reader = h.reader; is = h.is }
 
-  record_turn : (a : ℕ) (done : List Reading) → Turn l s v w → HasRecord a s done → RecordStep l s t r a done
+  pub record_turn : (a : ℕ) (done : List Reading) → Turn l s v w → HasRecord a s done → RecordStep l s t r a done
   record_turn a done turn h = dite (ℕ_discrete h.seat k)
       (λ y.
       let same : h.view ≡ v = some-injective _ _ (sym h.mine ∙ (ap (λ (n : ℕ). get_elem? s.views n) y ∙ mine)) in
@@ -264,111 +267,3 @@ module _ (l : Layout) (s t : TableState) (r : Ruled l s) (r' : Ruled l t) (k : �
           let y : k ≡ r.at = (log_is l s r k v mine is).2 in
           absurd (not_lost (sym y) (λ is. subst (λ (u : View). IsWriters u.role) e is)))
           (reader_is l v.layout r.log r.tally r.at k a v.role seated (r.views k v mine))
-
--- ---- seats that are split off and joined
--- the parts of what a step does: readers are no fewer, the acts are the same or one more, and each record is the same or has one entry more
-pub record Moves (l : Layout) (s t : TableState) (r : Ruled l s) (r' : Ruled l t) : Type 0 where
-  pub readers : r.tally.readers ≤ r'.tally.readers
-  pub log : LogStep l s t r r'
-  pub records : (a : ℕ) (done : List Reading) → HasRecord a s done → RecordStep l s t r a done
-
--- no reader has the writer's seat
-not_writers : (a k : ℕ) (s : TableState) (done : List Reading) (v : View) (h : HasRecord a s done) → get_elem? s.views k ≡ some v → seated_in a v.role ≡ 0 → h.seat ≢ k
-not_writers a k s done v h at none same =
-    let is : h.view ≡ v = some-injective _ _ (sym h.mine ∙ (ap (λ (n : ℕ). get_elem? s.views n) same ∙ at)) in
-    let one = ap (λ (x : View). seated_in a x.role) is in
-    absurd (omega (arith, h.reader, none, one))
-
-module _ (l : Layout) (s t : TableState) (r : Ruled l s) (r' : Ruled l t) where
-  moves_played : (k : ℕ) (v w : View) → get_elem? s.views k ≡ some v → t.views ≡ set s.views k w → Turn l s v w → Moves l s t r r'
-  moves_played k v w mine next turn =
-      let same = readers_turn l s t r r' k v w mine next turn in
-      record { readers = omega (arith, same); log = log_turn l s t r r' k v w mine next turn; records = λ a done h. record_turn l s t r r' k v w mine next a done turn h }
-
-  moves_touched : t ≡ s → Moves l s t r r'
-  moves_touched e =
-      let w = r.writer in
-      let x = log_is l s r r.at w.0 w.1 w.2 in
-      let y = log_is l t r' r.at w.0 (ap (λ (z : TableState). get_elem? z.views r.at) e ∙ w.1) w.2 in
-      let same : r'.tally.readers ≡ r.tally.readers = ap (λ (z : Tally). z.readers) (sym y.1 ∙ x.1) in
-      record { readers = omega (arith, same); log = rests (sym y.0 ∙ x.0); records = λ a done h. keeps (subst (λ (z : TableState). HasRecord a z done) (sym e) h) }
-
-  moves_seated : (acts : List Made) (tally : Tally) → IsCut (writer_view l acts tally) with_reader_view new_reader_view s t → Moves l s t r r'
-  moves_seated acts tally p =
-      let v : View = writer_view l acts tally in
-      let left : View = writer_view l acts (with_reader tally) in
-      let new : View = reader_view l tally.readers [] [] in
-      let views : t.views ≡ set s.views p.seat left ++ new ∷ [] = ap (λ (z : TableState). z.views) p.next in
-      let x = log_is l s r p.seat v p.mine tt in
-      let here : get_elem? t.views p.seat ≡ some left = ap (λ (vs : List View). get_elem? vs p.seat) views ∙ at_longer (set s.views p.seat left) (new ∷ []) p.seat left (set_here s.views p.seat left (got_below s.views p.seat v p.mine)) in
-      let y = log_is l t r' p.seat left here tt in
-      let more : r'.tally.readers ≡ r.tally.readers + 1 = ap (λ (z : Tally). z.readers) (sym y.1) ∙ ap (λ (z : Tally). z.readers + 1) x.1 in
-      record {
-        readers = omega (arith, more);
-        log = rests (sym y.0 ∙ x.0);
-        records = λ a done h.
-            let other = not_writers a p.seat s done v h p.mine refl in
-            keeps (record { seat = h.seat; view = h.view; mine = ap (λ (vs : List View). get_elem? vs h.seat) views ∙ at_longer (set s.views p.seat left) (new ∷ []) h.seat h.view (set_else s.views p.seat h.seat left other ∙ h.mine); reader = h.reader; is = h.is });
-      }
-
-  moves_joined : (acts : List Made) (tally : Tally) (number : ℕ) (front : List Made) (done : List Reading) → IsJoined (writer_view l acts tally) (reader_view l number front done) s t → Moves l s t r r'
-  moves_joined acts tally number front done p =
-      let v : View = writer_view l acts tally in
-      let w : View = reader_view l number front done in
-      let both : View = view_as l (Both acts tally number front done) in
-      let views : t.views ≡ set (set s.views p.seat both) p.other spent_view = ap (λ (z : TableState). z.views) p.next in
-      let x = log_is l s r p.seat v p.mine tt in
-      let here : get_elem? t.views p.seat ≡ some both = ap (λ (vs : List View). get_elem? vs p.seat) views ∙ (set_else (set s.views p.seat both) p.other p.seat spent_view (λ e. p.apart (sym e)) ∙ set_here s.views p.seat both (got_below s.views p.seat v p.mine)) in
-      let y = log_is l t r' p.seat both here tt in
-      let same : r'.tally.readers ≡ r.tally.readers = ap (λ (z : Tally). z.readers) (sym y.1 ∙ x.1) in
-      record {
-        readers = omega (arith, same);
-        log = rests (sym y.0 ∙ x.0);
-        records = λ a rs h.
-            let apart = not_writers a p.seat s rs v h p.mine refl in
-            dite (ℕ_discrete h.seat p.other)
-            (λ e.
-            let is : h.view ≡ w = some-injective _ _ (sym h.mine ∙ (ap (λ (n : ℕ). get_elem? s.views n) e ∙ p.yours)) in
-            keeps (record { seat = p.seat; view = both; mine = here; reader = ap (λ (u : View). seated_in a u.role) (sym is) ∙ h.reader; is = ap done_of (sym is) ∙ h.is }))
-            (λ n. keeps (record { seat = h.seat; view = h.view; mine = ap (λ (vs : List View). get_elem? vs h.seat) views ∙ (set_else (set s.views p.seat both) p.other h.seat spent_view n ∙ (set_else s.views p.seat h.seat both apart ∙ h.mine)); reader = h.reader; is = h.is }));
-      }
-
-  moves_parted : (acts : List Made) (tally : Tally) (number : ℕ) (front : List Made) (done : List Reading) → IsCut (view_as l (Both acts tally number front done)) writer_part reader_part s t → Moves l s t r r'
-  moves_parted acts tally number front done p =
-      let v : View = view_as l (Both acts tally number front done) in
-      let left : View = writer_view l acts tally in
-      let new : View = reader_view l number acts done in
-      let views : t.views ≡ set s.views p.seat left ++ new ∷ [] = ap (λ (z : TableState). z.views) p.next in
-      let x = log_is l s r p.seat v p.mine tt in
-      let here : get_elem? t.views p.seat ≡ some left = ap (λ (vs : List View). get_elem? vs p.seat) views ∙ at_longer (set s.views p.seat left) (new ∷ []) p.seat left (set_here s.views p.seat left (got_below s.views p.seat v p.mine)) in
-      let y = log_is l t r' p.seat left here tt in
-      let same : r'.tally.readers ≡ r.tally.readers = ap (λ (z : Tally). z.readers) (sym y.1 ∙ x.1) in
-      record {
-        readers = omega (arith, same);
-        log = rests (sym y.0 ∙ x.0);
-        records = λ a rs h. dite (ℕ_discrete h.seat p.seat)
-            (λ e.
-            let is : h.view ≡ v = some-injective _ _ (sym h.mine ∙ (ap (λ (n : ℕ). get_elem? s.views n) e ∙ p.mine)) in
-            let at : get_elem? t.views (length (set s.views p.seat left)) ≡ some new = ap (λ (vs : List View). get_elem? vs (length (set s.views p.seat left))) views ∙ at_last (set s.views p.seat left) new (length (set s.views p.seat left)) refl in
-            keeps (record { seat = length (set s.views p.seat left); view = new; mine = at; reader = ap (λ (u : View). seated_in a u.role) (sym is) ∙ h.reader; is = ap done_of (sym is) ∙ h.is }))
-            (λ n. keeps (record { seat = h.seat; view = h.view; mine = ap (λ (vs : List View). get_elem? vs h.seat) views ∙ at_longer (set s.views p.seat left) (new ∷ []) h.seat h.view (set_else s.views p.seat h.seat left n ∙ h.mine); reader = h.reader; is = h.is }));
-      }
-
-  -- whatever the step is
-  moves_by : (play : Tells) (p : IsPlayed play s t) → Turn l s p.v p.w → Moves l s t r r'
-  moves_by play p turn = moves_played p.seat p.v p.w p.mine (ap (λ (z : TableState). z.views) p.next) turn
-
-  pub moves : IsStep l s t → Moves l s t r r'
-  moves (touches e) = moves_touched e
-  moves (fetches p) = moves_by FetchesWord p (turn_fetch l s t p)
-  moves (makes a st p) = moves_by (AddsAct a) p (turn_act l s t a p (stored_honest l s t a _ st))
-  moves (marks_if_set a st p) = moves_by (AddsActIfSet a) p (turn_if_set l s t a p (stored_honest l s t a _ st))
-  moves (turns i p at) = moves_by (AddsAct (Hand i)) p (turn_act l s t (Hand i) p (hand_honest l s t i p.place at))
-  moves (turns_if_clear i p at) = moves_by (AddsActIfClear (Hand i)) p (turn_if_clear l s t (Hand i) p (hand_honest l s t i p.place at))
-  moves (reads a p) = moves_by (ReadsWord a) p (turn_read l s t a p)
-  moves (marks i p) = moves_by (AddsMark i) p (turn_mark l s t i p)
-  moves (notices i p) = moves_by (AddsMarkIfSet i) p (turn_notice l s t i p)
-  moves (seats acts tally p) = moves_seated acts tally p
-  moves (joins acts tally number front done p) = moves_joined acts tally number front done p
-  moves (compares p) = moves_by ComparesMoment p (turn_compare l s t p)
-  moves (parts acts tally number front done p) = moves_parted acts tally number front done p

@@ -15,7 +15,7 @@ use Rattle.mc_shared.proofs.EachStep.{begins, got_below, reads_one}
 use Rattle.mc_shared.specs.TableRule.{Ruled}
 use Rattle.mc_shared.specs.declared.layout.Layout.{Layout}
 use Rattle.mc_executions.specs.Executions.{TableState, IsStep, touches, HasRecord}
-use Rattle.mc_executions.specs.ExecutionLaws.{grown, AllExecutionsGrow, AllReadersMayCome}
+use Rattle.mc_executions.specs.GrownExecutions.{grown, AllExecutionsGrow, AllReadersMayCome}
 
 first_stays : (states : ℕ → TableState) (n : ℕ) (t : TableState) → grown states n t 0 ≡ states 0
 first_stays states zero t = refl
@@ -68,7 +68,7 @@ readers_may_come l = record {
       let new : View = reader_view l readers [] [] in
       let views : List View = set (states n).views seat left ++ new ∷ [] in
       let t : TableState = record { words = (states n).words; homes = (states n).homes; views = views } in
-      let x = (each_is_a_step l).seats (states n) seat [] (tally_for readers) (splits_new l seat readers) (run.ruled n) mine in
+      let x = (each_is_a_step l).seats (states n) seat v (splits_new l seat readers) (run.ruled n) mine in
       let g = (executions_grow l).grow states n t run x.0 x.1 in (
         grown states n t,
         g.0,

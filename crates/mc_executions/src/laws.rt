@@ -1,14 +1,17 @@
 //! The laws of executions, one function each. A body does nothing: what it ensures is the law.
-ghost use Rattle.mc_executions.specs.ExecutionLaws.{LogIsOne, RecordIsOne, AllExecutionsGrow, AllReadersMayCome, LookupsAreTimed, RecordsPass, GetsAreTimed, ManyAreTimed, MomentsKeepOrder, WritesAreSeen, VictimsWereClear, EachIsAStep};
+ghost use Rattle.mc_executions.specs.Headline.{Headline};
+ghost use Rattle.mc_executions.specs.GrownExecutions.{AllExecutionsGrow, AllReadersMayCome};
+ghost use Rattle.mc_executions.specs.TimedLookups.{LookupsAreTimed, GetsAreTimed, ManyAreTimed, WritersGetsAreTimed, BesideIsTimed, FallbacksAreTimed};
+ghost use Rattle.mc_executions.specs.ShardedTime.{ShardsAreTimed};
+ghost use Rattle.mc_executions.specs.TimeOrder.{MomentsKeepOrder, WritesAreSeen, ChangesAreSteps, LogIsOne, RecordIsOne, RecordsPass};
+ghost use Rattle.mc_executions.specs.ClearVictims.{VictimsWereClear};
+ghost use Rattle.mc_executions.specs.RunningSteps.{EachIsAStep};
 
-/// The acts that were made are a function of the state: whatever proof there is that a state keeps the rule, its list of acts is the same.
-pub fn log_is_one()
-    ensures { LogIsOne }
-{}
-
-/// A reader has one record.
-pub fn record_is_one()
-    ensures { RecordIsOne }
+/// For every order of a lawful writer's and any readers' atomic steps, each completed lookup answers what the map of the writer's changes held
+/// of its key at one moment between the lookup's first and last step; every victim's recency bit was clear when the hand read it; each
+/// atomic step of the running cache is one of these steps.
+pub fn headline<const V: usize>()
+    ensures { Headline V }
 {}
 
 /// A new table is an execution, and each step that keeps the rule may come next.
@@ -21,15 +24,10 @@ pub fn readers_may_come()
     ensures { AllReadersMayCome }
 {}
 
-/// In every execution, each lookup of each reader has a true reply, at a moment between the step that entered its first entry and the step
-/// that entered its last.
+/// In every execution each lookup of each reader is true at a moment between the step that entered its first entry and the step that
+/// entered its last.
 pub fn lookups_are_timed<const V: usize>()
     ensures { LookupsAreTimed V }
-{}
-
-/// A record passes through each of its parts.
-pub fn records_pass()
-    ensures { RecordsPass }
 {}
 
 /// What `get` ensures of a reader's record makes its reply true at a moment between two steps of that call.
@@ -42,6 +40,26 @@ pub fn many_are_timed<const V: usize>()
     ensures { ManyAreTimed V }
 {}
 
+/// The reply of the writer's own `get` is true at each moment of the call.
+pub fn writers_gets_are_timed<const V: usize>()
+    ensures { WritersGetsAreTimed V }
+{}
+
+/// So is the reply of `get_beside`.
+pub fn beside_is_timed<const V: usize>()
+    ensures { BesideIsTimed V }
+{}
+
+/// And so is that of `get_or_desk` if it looked the key up in a turn: at each moment of the turn.
+pub fn fallbacks_are_timed<const V: usize>()
+    ensures { FallbacksAreTimed V }
+{}
+
+/// A lookup of shards answers what the one map of all shards held at a moment between two steps of the key's shard.
+pub fn shards_are_timed<const V: usize>()
+    ensures { ShardsAreTimed V }
+{}
+
 /// Lookups of any two readers keep the order of time: if one's last step comes no later than the other's first, so does its moment.
 pub fn moments_keep_order<const V: usize>()
     ensures { MomentsKeepOrder V }
@@ -52,13 +70,33 @@ pub fn writes_are_seen<const V: usize>()
     ensures { WritesAreSeen V }
 {}
 
-/// In every execution, the recency bit of each victim's item was 0 when the hand's step read it, and nothing was opened or swept between.
+/// Each change of a call of the writer takes effect at one step of that call.
+pub fn changes_are_steps<const V: usize>()
+    ensures { ChangesAreSteps V }
+{}
+
+/// In every execution the recency bit of each victim's item was 0 when the hand's step read it, and nothing was opened or swept between.
 pub fn victims_were_clear<const V: usize>()
     ensures { VictimsWereClear V }
 {}
 
-/// Each operation on a seat is a step: whatever proof its caller has that the rule allows it, the state that it leads to is a step from
+/// Each operation on a seat is a step: whatever proof its caller has that the rule allows it, the state to which it leads is a step from
 /// the one that it meets.
 pub fn each_is_a_step()
     ensures { EachIsAStep }
+{}
+
+/// The acts that were made are a function of the state: whatever proof there is that a state keeps the rule, its list of acts is the same.
+pub fn log_is_one()
+    ensures { LogIsOne }
+{}
+
+/// A reader has one record.
+pub fn record_is_one()
+    ensures { RecordIsOne }
+{}
+
+/// A record passes through each of its parts.
+pub fn records_pass()
+    ensures { RecordsPass }
 {}

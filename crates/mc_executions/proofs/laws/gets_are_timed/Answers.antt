@@ -1,4 +1,4 @@
-use Rattle.mc_executions.proofs.TimedCalls.{gets_are_timed}
+use Rattle.mc_executions.proofs.TimedLookups.{gets_are_timed}
 use Rattle.mc_executions.proofs.laws.gets_are_timed.Goals as goal
 
 pub returns : goal.returns

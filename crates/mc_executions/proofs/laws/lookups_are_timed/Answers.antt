@@ -1,4 +1,4 @@
-use Rattle.mc_executions.proofs.ExecutionRuns.{lookups_are_timed}
+use Rattle.mc_executions.proofs.TimedLookups.{lookups_are_timed}
 use Rattle.mc_executions.proofs.laws.lookups_are_timed.Goals as goal
 
 pub returns : goal.returns

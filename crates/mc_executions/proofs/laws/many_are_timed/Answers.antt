@@ -1,4 +1,4 @@
-use Rattle.mc_executions.proofs.TimedCalls.{many_are_timed}
+use Rattle.mc_executions.proofs.TimedLookups.{many_are_timed}
 use Rattle.mc_executions.proofs.laws.many_are_timed.Goals as goal
 
 pub returns : goal.returns

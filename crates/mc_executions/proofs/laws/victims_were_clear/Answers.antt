@@ -1,4 +1,4 @@
-use Rattle.mc_executions.proofs.ExecutionRuns.{victims_were_clear}
+use Rattle.mc_executions.proofs.ClearVictims.{victims_were_clear}
 use Rattle.mc_executions.proofs.laws.victims_were_clear.Goals as goal
 
 pub returns : goal.returns

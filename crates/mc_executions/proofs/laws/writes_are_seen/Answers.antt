@@ -1,4 +1,4 @@
-use Rattle.mc_executions.proofs.ExecutionRuns.{writes_are_seen}
+use Rattle.mc_executions.proofs.TimeOrder.{writes_are_seen}
 use Rattle.mc_executions.proofs.laws.writes_are_seen.Goals as goal
 
 pub returns : goal.returns

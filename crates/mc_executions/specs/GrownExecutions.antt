@@ -1,0 +1,43 @@
+-- Which executions there are: every order of steps that keep the rule.
+use Rattle.std.specs.Prelude.{◌≡◌, ℕ, zero, suc, ◌^◌, ◌<◌, ◌≤◌, List, [], ◌∷◌, ◌++◌, slice_index, replicate, Some}
+use mathlib.Core.Option.{some}
+use lib.ListN.{get_elem?}
+use Rattle.atomic_table.specs.Table as table
+use Rattle.mc_words.specs.Places.{all_words, word_count}
+use Rattle.mc_theory.specs.Lists.{Made}
+use Rattle.mc_theory.specs.Readings.{Reading}
+use Rattle.mc_theory.specs.Writes.{place_read}
+use Rattle.mc_theory.specs.declared.access.Access.{Access}
+use Rattle.mc_shared.specs.TableRule.{Ruled}
+use Rattle.mc_shared.specs.Views.{tally_for, writer_view, reader_view, new_writer_view}
+use Rattle.mc_shared.specs.declared.layout.Layout.{Layout}
+use Rattle.mc_executions.specs.Executions.{TableState, IsStep, IsExecution, HasRecord}
+
+-- the states up to n, and this one from there on
+abbrev pub grown : (ℕ → TableState) → ℕ → TableState → ℕ → TableState
+grown states zero t zero = states zero
+grown states zero t (suc k) = t
+grown states (suc n) t zero = states zero
+grown states (suc n) t (suc k) = grown (λ m. states (suc m)) n t k
+
+-- a new table is an execution, and after any state of one each step that keeps the rule may come next. So each finite run of steps from the
+-- opening on begins an execution
+pub record ExecutionsGrow (l : Layout) : Type 0 where
+  pub begin : (words : List ℕ) → words ≡ replicate (all_words l.width l.shape) 0 → IsExecution l (λ n. table.opening words [] (new_writer_view l))
+  pub grow : (states : ℕ → TableState) (n : ℕ) (t : TableState) → IsExecution l states → IsStep l (states n) t → Ruled l t →
+      IsExecution l (grown states n t) × ((k : ℕ) → k ≤ n → grown states n t k ≡ states k) × ((k : ℕ) → n < k → grown states n t k ≡ t)
+
+abbrev pub AllExecutionsGrow : Type 0
+AllExecutionsGrow = (l : Layout) → ExecutionsGrow l
+
+-- in particular a reader may be seated on a new table, and may read any word next
+pub record ReadersMayCome (l : Layout) : Type 0 where
+  pub seated : (states : ℕ → TableState) (n seat readers : ℕ) → IsExecution l states → get_elem? (states n).views seat ≡ some (writer_view l [] (tally_for readers)) →
+      (states' : ℕ → TableState) × IsExecution l states' × ((k : ℕ) → k ≤ n → states' k ≡ states k) × HasRecord readers (states' (suc n)) []
+  pub read : (states : ℕ → TableState) (n seat number place : ℕ) (front : List Made) (done : List Reading) (a : Access) → IsExecution l states → get_elem? (states n).views seat ≡ some (reader_view l number front done) →
+      place_read l.width l.shape a ≡ Some place → place < word_count l.width l.shape → slice_index (states n).words place < 2 ^ 64 →
+      (states' : ℕ → TableState) × (e : Reading) × IsExecution l states' × ((k : ℕ) → k ≤ n → states' k ≡ states k) ×
+      HasRecord number (states' (suc n)) (done ++ e ∷ []) × (e.access ≡ a) × (e.word ≡ slice_index (states n).words place)
+
+abbrev pub AllReadersMayCome : Type 0
+AllReadersMayCome = (l : Layout) → ReadersMayCome l
