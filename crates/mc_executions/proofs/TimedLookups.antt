@@ -14,7 +14,8 @@ use Rattle.mc_theory.specs.States.{State}
 use Rattle.mc_theory.specs.declared.act.Act.TheVariants.{Mark}
 use Rattle.mc_theory.proofs.Lists.Fronts.{state_push}
 use Rattle.mc_shared.specs.ExactLaws.{IsLookedUp}
-use Rattle.mc_shared.specs.Records.{ReaderRecord, WriterRecord}
+use Rattle.mc_shared.specs.Records.{ReaderRecord}
+use Rattle.mc_shared.specs.Steps.{mark_at}
 use Rattle.mc_shared.specs.Views.{IsFrontOf, layout_of, with_bit}
 use Rattle.mc_shared.specs.declared.layout.Layout.{Layout}
 use Rattle.mc_shared.proofs.OrderedLookups.{lookups_are_in_time}
@@ -176,11 +177,11 @@ pub writers_gets_are_timed : (V : ℕ) → WritersGetsAreTimed V
 writers_gets_are_timed V sh states run i j k before after reply h h' got n le le' =
     let was = history_of V sh states run i before.acts h in
     let is = history_of V sh states run j after.acts h' ∙ replies_keep V sh k before.acts after.acts reply got.replies in
-    now_timed V sh states run n k _ reply (still V sh states run i j n _ was is le le') (replies_hold V sh k _ _ _ _ reply got.replies)
+    now_timed V sh states run n k _ reply (still V sh states run i j n _ was is le le') (replies_hold V sh k (state_of V sh before.acts) (λ i. with_bit (Mark i) 0) before.acts after.acts reply got.replies)
 
 pub beside_is_timed : (V : ℕ) → BesideIsTimed V
 beside_is_timed V sh states run i j k acts before after reply h h' looked n le le' =
-    now_timed V sh states run n k _ reply (still V sh states run i j n _ (history_of V sh states run i acts h) (history_of V sh states run j acts h') le le') (replies_hold V sh k _ _ _ _ reply looked.replies)
+    now_timed V sh states run n k _ reply (still V sh states run i j n _ (history_of V sh states run i acts h) (history_of V sh states run j acts h') le le') (replies_hold V sh k (state_of V sh acts) (λ i. mark_at i acts) before.done after.done reply looked.replies)
 
 pub fallbacks_are_timed : (V : ℕ) → FallbacksAreTimed V
 fallbacks_are_timed V sh states run i j k old new reply fallen h h' = beside_is_timed V sh states run i j k fallen.writer.acts fallen.mid new reply h h' fallen.looked
