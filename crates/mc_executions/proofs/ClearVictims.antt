@@ -1,6 +1,6 @@
 -- In every execution the recency bit of each victim was 0 when the hand's step read it.
 use Rattle.std.specs.Prelude.{slice_get}
-use Rattle.std.proofs.Common.{◌≡◌, ℕ, suc, ◌<◌, List, ◌∷◌, [], ◌++◌, length, set, ap, sym, ◌∙◌, arith, Some}
+use Rattle.std.proofs.Common.{◌≡◌, ℕ, suc, ◌<◌, ◌∷◌, [], ◌++◌, length, set, ap, sym, ◌∙◌, arith, Some}
 use Rattle.mc_words.specs.Standing.{Stands}
 use Rattle.mc_words.specs.declared.shape.Shape.{Shape}
 use Rattle.mc_theory.specs.Laws.{OpensOrSweeps}

@@ -9,14 +9,13 @@ use Rattle.atomic_table.proofs.Lists.{set_else}
 use Rattle.mc_theory.specs.Lists.{Made}
 use Rattle.mc_theory.specs.Readings.{Reading}
 use Rattle.mc_shared.specs.ExactLaws.{AddsEntry}
-use Rattle.mc_shared.specs.TableRule.{Ruled}
 use Rattle.mc_shared.specs.Views.{Note, View, spent_view, writer_view, reader_view, new_writer_view, seated_in, done_of, with_note, IsFrontOf}
 use Rattle.mc_shared.specs.declared.layout.Layout.{Layout}
 use Rattle.mc_shared.proofs.Coherence.{total_set}
 use Rattle.mc_shared.proofs.ExactSteps.{seat_counts}
 use Rattle.mc_shared.proofs.ReaderRecords.{front_self, front_trans, front_length}
 use Rattle.mc_executions.specs.Executions.{TableState, IsExecution, HasRecord, HasActs}
-use Rattle.mc_executions.specs.TimeOrder.{RecordIsOne, RecordsPass}
+use Rattle.mc_executions.specs.TimeOrder.{RecordIsOne}
 use Rattle.mc_executions.proofs.ExecutionSteps.{hit, log_is, is_reader, LogStep, rests, grows, keeps, enters, IsHonest}
 use Rattle.mc_executions.proofs.SeatMoves.{Moves}
 use Rattle.mc_executions.proofs.StepMoves.{moves}

@@ -3,11 +3,11 @@ use Rattle.std.specs.Prelude.{if◌then◌else◌}
 use Rattle.std.specs.Int.{bit_at}
 use mathlib.Core.Logic.{dite}
 use native.Mathlib.Decide.{ℕ_discrete, dec_le}
-use Rattle.std.proofs.Common.{◌≡◌, ◌≢◌, ◌⊎◌, ⊎_elim, inl, inr, Bool, eqb, eq-eqb, ℕ, ◌+◌, ◌<◌, ◌≤◌, List, [], ◌∷◌, ◌++◌, length, get_or, set, refl, ap, sym, ◌∙◌, subst, arith}
+use Rattle.std.proofs.Common.{◌≡◌, ◌≢◌, ◌⊎◌, ⊎_elim, inl, inr, Bool, eqb, eq-eqb, ℕ, ◌+◌, ◌<◌, List, [], ◌∷◌, ◌++◌, get_or, set, refl, ap, sym, ◌∙◌, subst, arith}
 use Rattle.std.proofs.lemmas.Nat.Bits.{bit_at-lt}
 use mathlib.Core.Option.{some, some-injective}
 use lib.ListN.{get_elem?}
-use Rattle.atomic_table.proofs.Lists.{set_else, set_here, at_longer, at_last}
+use Rattle.atomic_table.proofs.Lists.{set_else, set_here}
 use Rattle.mc_words.specs.Places.{recency_place}
 use Rattle.mc_words.specs.Recency.{recency_bit}
 use Rattle.mc_theory.specs.Lists.{Made}
@@ -16,9 +16,9 @@ use Rattle.mc_theory.specs.declared.access.Access.{Access}
 use Rattle.mc_theory.specs.declared.act.Act.{Act}
 use Rattle.mc_theory.specs.declared.act.Act.TheVariants.{Hand}
 use Rattle.mc_shared.specs.ExactLaws.{AddsEntry}
-use Rattle.mc_shared.specs.Steps.{SeatView, IsStored, bit_of, item_bit, reading, mark_at, AddsAct, AddsActIfSet, AddsActIfClear, ClearsBit, FetchesWord, ReadsWord, AddsMark, AddsMarkIfSet, ComparesMoment, with_reader_view, new_reader_view, writer_part, reader_part}
+use Rattle.mc_shared.specs.Steps.{SeatView, IsStored, bit_of, item_bit, reading, mark_at, AddsAct, AddsActIfSet, AddsActIfClear, ClearsBit, FetchesWord, ReadsWord, AddsMark, AddsMarkIfSet, ComparesMoment}
 use Rattle.mc_shared.specs.TableRule.{FitsRole, Ruled, bit_in, seats_of}
-use Rattle.mc_shared.specs.Views.{Note, Tally, Role, Spent, Writes, Reads, Both, View, IsWriters, view_as, writer_view, reader_view, spent_view, acts_in, tally_in, acts_of, tally_of, number_of, front_of, done_of, done_in, with_note, with_reader, with_bit, seated_in}
+use Rattle.mc_shared.specs.Views.{Note, Tally, Role, Spent, Writes, Reads, Both, View, IsWriters, view_as, writer_view, reader_view, acts_in, tally_in, acts_of, tally_of, number_of, front_of, done_of, done_in, with_note, with_bit, seated_in}
 use Rattle.mc_shared.specs.declared.layout.Layout.{Layout}
 use Rattle.mc_shared.proofs.Coherence.{total_set}
 use Rattle.mc_shared.proofs.EachStep.{got_below}

@@ -1,7 +1,7 @@
 -- What cutting a seat and joining two does to the list of acts and to the records: nothing. Which seats they may be follows from the rule.
 use mathlib.Core.Logic.{dite}
 use native.Mathlib.Decide.{ℕ_discrete}
-use Rattle.std.proofs.Common.{◌≡◌, ◌≢◌, ◌⊎◌, ⊎_elim, inl, inr, Bool, eqb, ne_eqb, ℕ, ◌+◌, ◌<◌, ◌≤◌, List, [], ◌∷◌, ◌++◌, length, set, refl, ap, sym, ◌∙◌, subst, arith}
+use Rattle.std.proofs.Common.{◌≡◌, ◌≢◌, ◌⊎◌, ⊎_elim, inl, inr, Bool, eqb, ne_eqb, ℕ, ◌+◌, ◌≤◌, List, [], ◌∷◌, ◌++◌, length, set, refl, ap, sym, ◌∙◌, subst, arith}
 use Rattle.std.specs.Prelude.{if◌then◌else◌}
 use mathlib.Core.Option.{some, some-injective}
 use lib.ListN.{get_elem?}
@@ -10,7 +10,7 @@ use Rattle.mc_theory.specs.Lists.{Made}
 use Rattle.mc_theory.specs.Readings.{Reading}
 use Rattle.mc_shared.specs.Steps.{with_reader_view, new_reader_view, joined_view, writer_part, reader_part}
 use Rattle.mc_shared.specs.TableRule.{FitsRole, Ruled, seats_of}
-use Rattle.mc_shared.specs.Views.{Tally, Role, Spent, Writes, Reads, Both, View, IsWriters, view_as, writer_view, reader_view, spent_view, acts_of, tally_of, number_of, front_of, done_of, with_reader, seated_in}
+use Rattle.mc_shared.specs.Views.{Tally, Role, Spent, Writes, Reads, Both, View, IsWriters, view_as, writer_view, reader_view, spent_view, acts_of, tally_of, number_of, done_of, seated_in}
 use Rattle.mc_shared.specs.declared.layout.Layout.{Layout}
 use Rattle.mc_shared.proofs.Coherence.{total_set, total_push}
 use Rattle.mc_shared.proofs.EachStep.{got_below}

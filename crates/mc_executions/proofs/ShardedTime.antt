@@ -1,7 +1,7 @@
 -- Lookups of shards in time.
 use mathlib.Core.Logic.{dite}
 use native.Mathlib.Decide.{ℕ_discrete}
-use Rattle.std.proofs.Common.{◌≡◌, ⊎_elim, ℕ, zero, suc, ◌+◌, ◌-◌, ◌<◌, ◌≤◌, List, [], length, ap, sym, ◌∙◌, subst, arith}
+use Rattle.std.proofs.Common.{◌≡◌, ⊎_elim, ℕ, zero, suc, ◌+◌, ◌-◌, ◌≤◌, List, [], ap, sym, ◌∙◌, subst, arith}
 use Rattle.std.specs.Prelude.{slice_index_or}
 use Rattle.mc_words.specs.History.{map_value}
 use Rattle.mc_words.specs.Keys.{shard_of}
@@ -33,7 +33,9 @@ pub shards_are_timed : (V : ℕ) → ShardsAreTimed V
 shards_are_timed V sh count states runs steps hs i j k first last reply are histories le inside begins ends timed =
     let s = shard_of sh.mix count k in
     let m = timed.held in
-    let x = meets steps s are (j - i) i m.0 (omega (arith, begins, m.1)) (subst (λ (n : ℕ). m.0 ≤ steps n s) (omega (arith, le)) (omega (arith, ends, m.2))) in
+    let whole : i + (j - i) ≡ j = omega (arith, le) in
+    let high : m.0 ≤ steps j s = omega (arith, ends, m.2) in
+    let x = meets steps s are (j - i) i m.0 (omega (arith, begins, m.1)) (subst (λ (n : ℕ). m.0 ≤ steps n s) (sym whole) high) in
     let here : history_of sh.mix (hs x.0) k ≡ history_at V sh (states s) (runs s) m.0 =
     ap (λ (n : ℕ). slice_index_or (hs x.0) (shard_of sh.mix n k) []) (histories.many x.0) ∙ (histories.each x.0 s inside ∙ ap (history_at V sh (states s) (runs s)) x.3) in
     (x.0, x.1, omega (arith, x.2, le), omega (arith, x.3, m.1), omega (arith, x.3, m.2), tells sh.mix (hs x.0) _ k reply here m.3)

@@ -1,10 +1,9 @@
 -- What each step of an execution does to the list of acts and to the records.
-use Rattle.std.proofs.Common.{◌≡◌, ◌+◌, ◌≤◌, List, set, ap, sym, ◌∙◌, subst, get_or, refl, ℕ, arith}
+use Rattle.std.proofs.Common.{◌≡◌, set, ap, sym, ◌∙◌, subst, ℕ, arith}
 use mathlib.Core.Option.{some}
 use lib.ListN.{get_elem?}
-use Rattle.mc_theory.specs.Readings.{Reading}
 use Rattle.mc_theory.specs.declared.act.Act.TheVariants.{Hand}
-use Rattle.mc_shared.specs.Steps.{bit_of, AddsAct, AddsActIfSet, AddsActIfClear, ClearsBit, FetchesWord, ReadsWord, AddsMark, AddsMarkIfSet, ComparesMoment}
+use Rattle.mc_shared.specs.Steps.{AddsAct, AddsActIfSet, AddsActIfClear, ClearsBit, FetchesWord, ReadsWord, AddsMark, AddsMarkIfSet, ComparesMoment}
 use Rattle.mc_shared.specs.TableRule.{Ruled}
 use Rattle.mc_shared.specs.Views.{Tally, View}
 use Rattle.mc_shared.specs.declared.layout.Layout.{Layout}

@@ -1,7 +1,7 @@
 -- Along an execution each step makes at most one change of the map. So a number of changes that is reached is that of some state.
 use mathlib.Core.Logic.{dite}
 use native.Mathlib.Decide.{ℕ_discrete, dec_le}
-use Rattle.std.proofs.Common.{◌≡◌, ◌⊎◌, ⊎_elim, inl, inr, ℕ, zero, suc, ◌+◌, ◌-◌, ◌<◌, ◌≤◌, List, [], ◌∷◌, ◌++◌, length, take, refl, ap, sym, ◌∙◌, subst, arith, length-append}
+use Rattle.std.proofs.Common.{◌≡◌, ℕ, zero, suc, ◌+◌, ◌-◌, ◌<◌, ◌≤◌, List, ◌++◌, length, take, ap, sym, ◌∙◌, subst, arith, length-append}
 use Rattle.std.proofs.Math.Seq.{take-append_seam}
 use Rattle.mc_words.specs.History.{IsTrueAnswer, map_value}
 use Rattle.mc_words.specs.declared.history.Change.{Change}
@@ -9,7 +9,7 @@ use Rattle.mc_words.specs.declared.history.Reply.{Reply}
 use Rattle.mc_words.specs.declared.history.Reply.TheVariants.{Found, Absent, Busy}
 use Rattle.mc_words.specs.declared.shape.Shape.{Shape}
 use Rattle.mc_theory.specs.Effects.{change_of, history_after}
-use Rattle.mc_theory.specs.Lists.{Made, after_all, state_of}
+use Rattle.mc_theory.specs.Lists.{Made, state_of}
 use Rattle.mc_theory.specs.Phases.{Phase, Placed, Renewing, Removed}
 use Rattle.mc_theory.specs.Plain.{IsBetween}
 use Rattle.mc_theory.specs.States.{State}
@@ -17,7 +17,6 @@ use Rattle.mc_theory.specs.declared.act.Act.{Act}
 use Rattle.mc_theory.specs.declared.act.Act.TheVariants as act
 use Rattle.mc_theory.proofs.Lists.Fronts.{state_append, state_push}
 use Rattle.mc_theory.proofs.Lists.Histories.{history_all}
-use Rattle.mc_shared.specs.TableRule.{Ruled}
 use Rattle.mc_shared.specs.Views.{IsFrontOf, layout_of}
 use Rattle.mc_executions.specs.Executions.{TableState, IsExecution}
 use Rattle.mc_executions.specs.TimedLookups.{HoldsNow, history_at}

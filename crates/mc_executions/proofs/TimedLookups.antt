@@ -1,5 +1,5 @@
 -- In every execution the reply of a lookup is true between its first step and its last.
-use Rattle.std.proofs.Common.{◌≡◌, ⊎_elim, ℕ, zero, suc, ◌+◌, ◌-◌, ◌<◌, ◌≤◌, ◌^◌, List, [], ◌∷◌, ◌++◌, length, take, refl, ap, sym, ◌∙◌, subst, arith, append_assoc, append-nil, length-append, Some, None}
+use Rattle.std.proofs.Common.{◌≡◌, ⊎_elim, ℕ, zero, suc, ◌+◌, ◌-◌, ◌<◌, ◌≤◌, ◌^◌, List, [], ◌∷◌, ◌++◌, length, take, refl, ap, sym, ◌∙◌, subst, arith, append_assoc, append-nil, length-append}
 use Rattle.std.proofs.Math.Seq.{take-length}
 use Rattle.mc_words.specs.History.{IsTrueAnswer, map_value}
 use Rattle.mc_words.specs.Shapes.{IsShape}
@@ -16,14 +16,13 @@ use Rattle.mc_theory.proofs.Lists.Fronts.{state_push}
 use Rattle.mc_shared.specs.ExactLaws.{IsLookedUp}
 use Rattle.mc_shared.specs.Records.{ReaderRecord}
 use Rattle.mc_shared.specs.Steps.{mark_at}
-use Rattle.mc_shared.specs.Views.{IsFrontOf, layout_of, with_bit}
+use Rattle.mc_shared.specs.Views.{layout_of, with_bit}
 use Rattle.mc_shared.specs.declared.layout.Layout.{Layout}
 use Rattle.mc_shared.proofs.OrderedLookups.{lookups_are_in_time}
-use Rattle.mc_shared.proofs.ReaderRecords.{front_length}
 use Rattle.mc_reader.specs.Records.{HaveLooked}
 use Rattle.mc_writer.specs.WriterCalls.{RepliesNow}
 use Rattle.mc_executions.specs.Executions.{TableState, IsExecution, HasRecord, HasActs}
-use Rattle.mc_executions.specs.TimedLookups.{HoldsNow, history_at, IsTimed, IsTimedAt, LooksBetween, LookupsAreTimed, GetsAreTimed, ManyAreTimed, WritersGetsAreTimed, BesideIsTimed, FallbacksAreTimed}
+use Rattle.mc_executions.specs.TimedLookups.{HoldsNow, history_at, IsTimed, LooksBetween, LookupsAreTimed, GetsAreTimed, ManyAreTimed, WritersGetsAreTimed, BesideIsTimed, FallbacksAreTimed}
 use Rattle.mc_executions.proofs.ExecutionRuns.{FoundEntry, same_parts, entry_between, record_there, front_between, acts_are, records_pass}
 use Rattle.mc_executions.proofs.TimedChanges.{begins_all, holds_between, many_rise}
 
