@@ -7,6 +7,8 @@
 #[cfg(test)]
 mod answers_checked;
 #[cfg(test)]
+mod batches;
+#[cfg(test)]
 mod calls;
 #[cfg(test)]
 mod deeds;
@@ -20,6 +22,8 @@ mod desk_gate;
 mod evictions;
 #[cfg(test)]
 mod journal;
+#[cfg(test)]
+mod large;
 #[cfg(test)]
 mod late_gate;
 #[cfg(test)]

@@ -1,5 +1,5 @@
 //! The texts of what is refused.
-use mc_cache::OpenError;
+use mc_cache::{AbsentError, OpenError, PutError};
 use mc_core::WorldError;
 use mc_load::LoadError;
 use mc_words::ShapeError;
@@ -34,5 +34,8 @@ fn refusals_are_told_in_these_words(rt: HostRuntime) -> Result<(), AllocError> {
     }
     let told = format!(in alloc; "{}, {}", WorldError::Readers, WorldError::NoMemory)?;
     assert!(rt; told.as_str() == "readers must be from 1 to 1024, no memory");
+    let present = AbsentError::Present { since: 3 };
+    let told = format!(in alloc; "{present}, {}", AbsentError::Put(PutError::NoPath))?;
+    assert!(rt; told.as_str() == "present since 3, no path");
     Ok(())
 }
