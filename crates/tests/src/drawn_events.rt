@@ -5,6 +5,7 @@ use mc_words::{Checked, Shape};
 use rand_core::Rng;
 use rand_pcg::Lcg64Xsh32;
 use std::alloc::Global;
+use std::ops::Range;
 use std::test::Fail;
 
 /// How many worlds are drawn for a seed: five for each limit.
@@ -133,21 +134,42 @@ fn lawful_in_worlds(
     Ok(Some((all, drawn)))
 }
 
+// The first of these seeds by which a refused event changed a world, too few or too many events were lawful, or not every limit refused one.
+fn first_wrong(alloc: Global, seeds: Range<u64>) -> Result<Option<u64>, Fail> {
+    for seed in seeds {
+        let mut reached = [false; LIMITS];
+        let Some((all, drawn)) = lawful_in_worlds(alloc, seed, &mut reached)? else {
+            return Ok(Some(seed));
+        };
+        let some_were = (drawn / 4 + 1..drawn / 10 * 9).contains(&all);
+        if !some_were || drawn < 100_000 || reached.contains(&false) {
+            return Ok(Some(seed));
+        }
+    }
+    Ok(None)
+}
+
+// Each test takes five seeds, so that it ends in time.
 #[test]
 fn refused_events_leave_the_world_as_it_was(rt: HostRuntime) -> Result<(), Fail> {
-    let mut reached = [false; LIMITS];
-    for seed in 1..21 {
-        let Some((all, drawn)) = lawful_in_worlds(rt.alloc(), seed, &mut reached)? else {
-            assert!(rt; false, "seed {seed}");
-            return Ok(());
-        };
-        assert!(rt;
-            (drawn / 4 + 1..drawn / 10 * 9).contains(&all),
-            "seed {seed}: {all} of {drawn} events were lawful"
-        );
-    }
-    for limit in 0..LIMITS {
-        assert!(rt; reached[limit], "limit {limit}");
-    }
+    assert_eq!(rt; first_wrong(rt.alloc(), 1..6)?, None);
+    Ok(())
+}
+
+#[test]
+fn refused_events_leave_a_second_world_as_it_was(rt: HostRuntime) -> Result<(), Fail> {
+    assert_eq!(rt; first_wrong(rt.alloc(), 6..11)?, None);
+    Ok(())
+}
+
+#[test]
+fn refused_events_leave_a_third_world_as_it_was(rt: HostRuntime) -> Result<(), Fail> {
+    assert_eq!(rt; first_wrong(rt.alloc(), 11..16)?, None);
+    Ok(())
+}
+
+#[test]
+fn refused_events_leave_a_fourth_world_as_it_was(rt: HostRuntime) -> Result<(), Fail> {
+    assert_eq!(rt; first_wrong(rt.alloc(), 16..21)?, None);
     Ok(())
 }
