@@ -1,6 +1,6 @@
 //! Commands that change what a key has.
 use crate::counts::Count;
-use crate::index::{Key, Outcome, Refused, Token};
+use crate::index::{Outcome, Refused, Stamp, Token};
 use crate::item::Item;
 use crate::number;
 use crate::request::{Change, How, Order};
@@ -45,7 +45,7 @@ impl Store {
 
     fn set(&self, order: &Order, data: &[u8]) -> Result<Answer, Fault> {
         let next = self.fresh(order, self.clock.now(), data);
-        let put = self.put(order.key, next, |key, item| self.index.put(key, item).map(Outcome::Done))?;
+        let put = self.put(order.key, next, None, |item| self.index.put(order.key, item).map(Outcome::Done))?;
         Ok(put.map_or(Answer::NotStored, Answer::Done))
     }
 
@@ -66,49 +66,61 @@ impl Store {
     fn store_if(&self, order: &Order, data: &[u8]) -> Result<Answer, Fault> {
         let _turn = matches!(order.how, How::Append | How::Prepend).then(|| self.turns.wait(order.key));
         for _ in 0..TRIES {
-            let found = self.find(order.key, |item, now| self.over(order, data, item, now))?;
-            let (next, since) = match (found, order.how, order.compare) {
+            let found = self.find(order.key, |item, now| {
+                item.mark_used();
+                self.over(order, data, item, now)
+            })?;
+            let (next, over) = match (found, order.how, order.compare) {
                 (Found::Absent | Found::Dead(_), How::Set | How::Replace, Some(_)) => return Ok(Answer::NotFound),
                 (Found::Live(..), How::Add, _) => return Ok(Answer::NotStored),
                 (Found::Live(_, token), _, Some(compare)) if token != compare => return Ok(Answer::Exists),
                 (Found::Absent | Found::Dead(_), How::Replace | How::Append | How::Prepend, _) => return Ok(Answer::NotStored),
-                (Found::Absent, ..) => (self.fresh(order, self.clock.now(), data), None),
-                (Found::Dead(token), ..) => (self.fresh(order, self.clock.now(), data), Some(token)),
-                (Found::Live(next, token), ..) => (next, Some(token)),
+                (Found::Absent, ..) => (self.fresh(order, self.clock.now(), data), Found::Absent),
+                (Found::Dead(token), ..) => (self.fresh(order, self.clock.now(), data), Found::Dead(token)),
+                (Found::Live(next, token), ..) => (next, Found::Live((), token)),
             };
             if next.data.len() > self.options.longest {
                 return Err(Fault::TooLong);
             }
-            if let Some(token) = self.put_over(order.key, since, next)? {
+            if let Some(token) = self.put_over(order.key, over, next)? {
                 return Ok(Answer::Done(token));
             }
         }
         Err(Fault::Disturbed)
     }
 
-    /// Puts an item over the one with this token, or where there is none. `None`: it is not so any more.
-    fn put_over(&self, key: &[u8], since: Option<Token>, next: Next) -> Result<Option<Token>, Fault> {
-        self.put(key, next, |key, item| match since {
-            Some(token) => self.index.put_if(key, token, item),
-            None => self.index.put_new(key, item),
+    /// Puts an item over what was found. `None`: it is not there any more. Room is not made for the new item by removing a live one that it
+    /// is made of.
+    fn put_over(&self, key: &[u8], found: Found<()>, next: Next) -> Result<Option<Token>, Fault> {
+        let kept = match found {
+            Found::Live((), token) => Some(self.stamp(key, token)),
+            Found::Dead(_) | Found::Absent => None,
+        };
+        self.put(key, next, kept, |item| match found {
+            Found::Live((), token) | Found::Dead(token) => self.index.put_if(key, token, item),
+            Found::Absent => self.index.put_new(key, item),
         })
+    }
+
+    fn stamp(&self, key: &[u8], token: Token) -> Stamp {
+        Stamp { hash: self.index.hash_of(key), token }
     }
 
     fn put(
         &self,
         key: &[u8],
         next: Next,
-        put: impl FnOnce(&Key, Item) -> Result<Outcome, Refused>,
+        kept: Option<Stamp>,
+        put: impl FnOnce(Item) -> Result<Outcome, Refused>,
     ) -> Result<Option<Token>, Fault> {
         let (bytes, is_large) = (cost(key.len(), next.data.len()), next.data.len() >= LARGE);
-        self.make_room(bytes)?;
-        let key = Key::from(key);
-        let outcome = put(&key, Item::new(next.born, next.flags, next.deadline, next.data));
+        self.make_room(bytes, kept)?;
+        let outcome = put(Item::new(next.born, next.flags, next.deadline, next.data));
         if is_large {
             self.index.sweep();
         }
         if let Ok(Outcome::Done(token)) = outcome {
-            self.enqueue(key, token);
+            self.enqueue(self.stamp(key, token));
             return Ok(Some(token));
         }
         self.room.give_back(bytes);
@@ -139,12 +151,14 @@ impl Store {
                 Found::Live((), token) if !is_meant(token) => return Ok(Found::Live(false, token)),
                 Found::Live((), token) | Found::Dead(token) => token,
             };
-            match (self.index.remove_if(key, token), found) {
-                (Ok(Outcome::Done(_)), Found::Live(..)) => return Ok(Found::Live(true, token)),
-                (Ok(Outcome::Done(_)), _) => return Ok(Found::Dead(token)),
-                (Ok(Outcome::Absent), _) => return Ok(Found::Absent),
-                (Ok(Outcome::Changed), _) => {}
-                (Err(why), _) => return Err(self.disturbed(why)),
+            match self.index.remove_if(key, token) {
+                Ok(Outcome::Done(_)) => {
+                    self.tidy();
+                    return Ok(if matches!(found, Found::Live(..)) { Found::Live(true, token) } else { Found::Dead(token) });
+                }
+                Ok(Outcome::Absent) => return Ok(Found::Absent),
+                Ok(Outcome::Changed) => {}
+                Err(why) => return Err(self.disturbed(why)),
             }
         }
         Err(Fault::Disturbed)
@@ -168,7 +182,7 @@ impl Store {
                 Found::Live(Some((next, number)), token) => (next, number, token),
             };
             let deadline = next.deadline;
-            if let Some(token) = self.put_over(key, Some(token), next)? {
+            if let Some(token) = self.put_over(key, Found::Live((), token), next)? {
                 return Ok(Changed::Changed(number, token, deadline));
             }
         }
