@@ -1,7 +1,6 @@
 //! Items that give way: those in the queue for longest that were not read lately.
 use crate::index::{Outcome, Stamp};
 use crate::store::{Fault, Store};
-use std::mem;
 use std::thread::yield_now;
 
 /// After so many entries, the next item gives way even if it was read lately.
@@ -13,6 +12,13 @@ const FAILURES: u32 = 100;
 /// How many entries a command looks at, at most, if the queue is too long. A removal makes the queue too long by two entries.
 const TIDIED: u32 = 8;
 
+/// An item that a command is about to replace by one that is made of it.
+#[derive(Clone, Copy)]
+pub(crate) struct Kept {
+    pub stamp: Stamp,
+    pub bytes: u64,
+}
+
 /// What an entry of the queue is.
 enum Entry {
     Old,
@@ -21,11 +27,12 @@ enum Entry {
 }
 
 impl Store {
-    /// Makes room for an item, and counts its bytes. The item that is to be kept, if there is one, does not give way.
-    pub(crate) fn make_room(&self, bytes: u64, kept: Option<Stamp>) -> Result<(), Fault> {
-        if bytes > self.room.limit() {
+    /// Makes room for an item, and counts its bytes. If another one is to be kept meanwhile, there must be room for both.
+    pub(crate) fn make_room(&self, bytes: u64, kept: Option<Kept>) -> Result<(), Fault> {
+        if bytes + kept.map_or(0, |kept| kept.bytes) > self.room.limit() {
             return Err(Fault::NoRoom);
         }
+        let kept = kept.map(|kept| kept.stamp);
         self.room.take(bytes);
         let mut failed = 0;
         while self.room.is_over() {
@@ -50,18 +57,10 @@ impl Store {
 
     /// Removes one item. Returns whether there was one that could be removed.
     fn evict(&self, kept: Option<Stamp>) -> bool {
-        let mut has_met_kept = false;
         for looked in 0..2 * LOOKS {
             let Some(stamp) = self.queue.pop() else { return false };
-            if kept == Some(stamp) {
-                self.queue.push(stamp);
-                // Once more: all others were looked at since.
-                if mem::replace(&mut has_met_kept, true) {
-                    return false;
-                }
-                continue;
-            }
-            match self.judge(stamp, looked < LOOKS) {
+            let entry = if kept == Some(stamp) { Entry::Spared } else { self.judge(stamp, looked < LOOKS) };
+            match entry {
                 Entry::Old => {}
                 Entry::Spared => self.queue.push(stamp),
                 Entry::Victim => match self.index.remove_stamped(stamp) {

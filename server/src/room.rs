@@ -15,6 +15,8 @@ pub const SPARE_ENTRIES: usize = 1024;
 const ROOM_OF_AN_ENTRY: usize = 4;
 
 /// The bytes that items may take, and those that they do take.
+// All accesses are relaxed. Each change is one atomic step, so none is lost, and an item's bytes are added before it is put and so before they
+// are subtracted. No other memory is read by what the words say. The limit is set before there are workers.
 #[derive(Debug)]
 pub struct Room {
     limit: AtomicU64,

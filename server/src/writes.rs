@@ -1,5 +1,6 @@
 //! Commands that change what a key has.
 use crate::counts::Count;
+use crate::evict::Kept;
 use crate::index::{Outcome, Refused, Stamp, Token};
 use crate::item::Item;
 use crate::number;
@@ -68,7 +69,7 @@ impl Store {
         for _ in 0..TRIES {
             let found = self.find(order.key, |item, now| {
                 item.mark_used();
-                self.over(order, data, item, now)
+                (self.over(order, data, item, now), item.data.len())
             })?;
             let (next, over) = match (found, order.how, order.compare) {
                 (Found::Absent | Found::Dead(_), How::Set | How::Replace, Some(_)) => return Ok(Answer::NotFound),
@@ -77,7 +78,7 @@ impl Store {
                 (Found::Absent | Found::Dead(_), How::Replace | How::Append | How::Prepend, _) => return Ok(Answer::NotStored),
                 (Found::Absent, ..) => (self.fresh(order, self.clock.now(), data), Found::Absent),
                 (Found::Dead(token), ..) => (self.fresh(order, self.clock.now(), data), Found::Dead(token)),
-                (Found::Live(next, token), ..) => (next, Found::Live((), token)),
+                (Found::Live((next, length), token), ..) => (next, Found::Live(length, token)),
             };
             if next.data.len() > self.options.longest {
                 return Err(Fault::TooLong);
@@ -89,15 +90,14 @@ impl Store {
         Err(Fault::Disturbed)
     }
 
-    /// Puts an item over what was found. `None`: it is not there any more. Room is not made for the new item by removing a live one that it
-    /// is made of.
-    fn put_over(&self, key: &[u8], found: Found<()>, next: Next) -> Result<Option<Token>, Fault> {
+    /// Puts an item over what was found: a live one with a value of this length, or another one, or none. `None`: that is not there any more.
+    fn put_over(&self, key: &[u8], found: Found<usize>, next: Next) -> Result<Option<Token>, Fault> {
         let kept = match found {
-            Found::Live((), token) => Some(self.stamp(key, token)),
+            Found::Live(length, token) => Some(Kept { stamp: self.stamp(key, token), bytes: cost(key.len(), length) }),
             Found::Dead(_) | Found::Absent => None,
         };
         self.put(key, next, kept, |item| match found {
-            Found::Live((), token) | Found::Dead(token) => self.index.put_if(key, token, item),
+            Found::Live(_, token) | Found::Dead(token) => self.index.put_if(key, token, item),
             Found::Absent => self.index.put_new(key, item),
         })
     }
@@ -110,7 +110,7 @@ impl Store {
         &self,
         key: &[u8],
         next: Next,
-        kept: Option<Stamp>,
+        kept: Option<Kept>,
         put: impl FnOnce(Item) -> Result<Outcome, Refused>,
     ) -> Result<Option<Token>, Fault> {
         let (bytes, is_large) = (cost(key.len(), next.data.len()), next.data.len() >= LARGE);
@@ -173,16 +173,16 @@ impl Store {
                 let number = change.of(number::unsigned(&item.data)?);
                 let (deadline, data) = (deadline.unwrap_or(item.deadline()), number.to_string().into_bytes().into());
                 let next = Next { born, flags: item.flags, deadline, data };
-                Some((next, number))
+                Some((next, number, item.data.len()))
             })?;
-            let (next, number, token) = match found {
+            let (next, number, length, token) = match found {
                 Found::Absent | Found::Dead(_) => return Ok(Changed::NotFound),
                 Found::Live(_, token) if compare.is_some_and(|compare| compare != token) => return Ok(Changed::Exists),
                 Found::Live(None, _) => return Ok(Changed::NotNumeric),
-                Found::Live(Some((next, number)), token) => (next, number, token),
+                Found::Live(Some((next, number, length)), token) => (next, number, length, token),
             };
             let deadline = next.deadline;
-            if let Some(token) = self.put_over(key, Found::Live((), token), next)? {
+            if let Some(token) = self.put_over(key, Found::Live(length, token), next)? {
                 return Ok(Changed::Changed(number, token, deadline));
             }
         }

@@ -147,13 +147,20 @@ fn nor_does_it_give_way_to_another_command_meanwhile() {
 }
 
 #[test]
-fn an_item_stays_if_there_is_no_room_for_it_and_its_next_value() {
-    for (change, _) in CHANGES {
-        let mut client = room_for(1, 100);
-        set(&mut client, "a");
-        assert_eq!(client.ask(change), FULL, "{change}");
-        assert_eq!(client.ask("get a\n"), "VALUE a 0 1\n5\nEND\n", "{change}");
-        assert_eq!((client.store.room.items(), client.store.room.used()), (1, cost(1, 1)), "{change}");
+fn nothing_gives_way_if_there_is_no_room_for_an_item_and_its_next_value() {
+    // `a`, the second item, has the token 2. With each command there is one byte too few.
+    let digits = "1".repeat(150);
+    for (command, more) in [
+        (format!("append a 0 0 150\n{digits}\n"), 149),
+        (format!("replace a 0 0 150\n{digits}\n"), 148),
+        (format!("cas a 0 0 150 2\n{digits}\n"), 148),
+        ("incr a 5\n".to_owned(), 0),
+    ] {
+        let mut client = room_for(2, more);
+        set(&mut client, "ba");
+        assert_eq!(client.ask(&command), FULL, "{command}");
+        assert_eq!(client.ask("get a\n"), "VALUE a 0 1\n5\nEND\n", "{command}");
+        assert_eq!((client.store.room.items(), client.store.room.used()), (2, 2 * cost(1, 1)), "{command}");
     }
 }
 
