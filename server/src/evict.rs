@@ -83,7 +83,7 @@ impl Store {
         let mut entry = Entry::Old;
         self.index.look_stamped(stamp, &mut |seen| {
             entry = match seen {
-                Ok(Some(item)) => {
+                Ok(Some((item, _))) => {
                     let was_used = item.take_used();
                     if was_used && may_spare && self.is_live(item) {
                         Entry::Spared

@@ -44,7 +44,7 @@ pub trait Index: Send + Sync {
     fn look(&self, keys: &[&[u8]], each: &mut dyn FnMut(usize, Seen<'_>));
 
     /// Looks up the item of this put, if it is still there.
-    fn look_stamped(&self, stamp: Stamp, see: &mut dyn FnMut(Result<Option<&Item>, Refused>));
+    fn look_stamped(&self, stamp: Stamp, see: &mut dyn FnMut(Seen<'_>));
 
     /// Puts the item, whatever the key has.
     fn put(&self, key: &[u8], item: Item) -> Result<Token, Refused>;

@@ -63,7 +63,7 @@ impl Item {
 
 impl Flushes {
     fn have_hit(&self, born: u64, now: u64) -> bool {
-        // If this is a new one, `past` has the old one already: `flush` stores them in that order. So this is an acquire, and the next load
+        // If this is a new one, `past` has the old one already: they are stored in that order. So this is an acquire, and the next load
         // needs no order of its own.
         let next = self.next.load(Acquire);
         born <= self.past.load(Relaxed) || (next <= now && born <= next)
@@ -71,12 +71,18 @@ impl Flushes {
 
     /// Flushes at this time. It replaces a flush that is still to come.
     pub fn flush(&self, time: u64, now: u64) {
+        self.flush_with(time, now, || {});
+    }
+
+    /// The same. Between its two stores it calls `between`, for tests.
+    pub fn flush_with(&self, time: u64, now: u64, between: impl FnOnce()) {
         let _turn = self.turn.lock();
         // Only this function stores it, in turn.
         let next = self.next.load(Relaxed);
         if next <= now {
             self.past.fetch_max(next, SeqCst);
         }
+        between();
         self.next.store(time, SeqCst);
     }
 }

@@ -113,13 +113,13 @@ impl Index for Objects {
         });
     }
 
-    fn look_stamped(&self, stamp: Stamp, see: &mut dyn FnMut(Result<Option<&Item>, Refused>)) {
+    fn look_stamped(&self, stamp: Stamp, see: &mut dyn FnMut(Seen<'_>)) {
         self.map.look_many(&[&KeyHash(stamp.hash)], |_, found| {
             if let Ok(found) = found {
                 self.log_look(|| stamp.hash, found);
             }
             see(match found {
-                Ok(Look::Found { result, since, .. }) if since == stamp.token => Ok(Some(result)),
+                Ok(Look::Found { result, since, .. }) if since == stamp.token => Ok(Some((result, since))),
                 Ok(_) => Ok(None),
                 Err(_) => Err(Refused::Held),
             });

@@ -1,12 +1,11 @@
 //! Commands of several threads at once, over a plain index.
 mod plain;
-use cefrodild::item::{Flushes, Item};
 use cefrodild::options::{parse, Asked};
 use cefrodild::request::{Change, How, Order};
 use cefrodild::room::Room;
 use cefrodild::store::{Answer, Changed, Store};
 use plain::Plain;
-use std::sync::atomic::{AtomicBool, AtomicU64, Ordering::SeqCst};
+use std::sync::atomic::{AtomicBool, Ordering::SeqCst};
 use std::sync::Arc;
 use std::thread;
 
@@ -93,27 +92,6 @@ fn nothing_old_outlives_a_flush() {
             store.flush(0);
             // Only what is there is changed, so there is nothing any more.
             assert_eq!(deadline(&store), None);
-        }
-    });
-}
-
-/// The two stores of a flush are nanoseconds apart, and no call comes between them. So this test needs two threads that run at once.
-#[test]
-fn what_was_flushed_stays_so_while_the_next_flush_is_asked_for() {
-    const ROUNDS: u64 = 100_000;
-    let (flushes, flushed, stop) = (Flushes::default(), AtomicU64::new(0), AtomicBool::new(false));
-    thread::scope(|threads| {
-        threads.spawn(|| {
-            while !stop.load(SeqCst) {
-                let born = flushed.load(SeqCst);
-                assert!(!Item::new(born, 0, NEVER, Box::default()).is_live(born + 1, &flushes));
-            }
-        });
-        let _stop = Stop(&stop);
-        for time in 1..ROUNDS {
-            flushes.flush(time, time);
-            flushed.store(time, SeqCst);
-            flushes.flush(NEVER, time);
         }
     });
 }

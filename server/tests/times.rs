@@ -84,3 +84,11 @@ fn a_flush_does_not_undo_one_that_has_come() {
     flushes.flush(20, 11);
     assert!(!item.is_live(12, &flushes));
 }
+
+#[test]
+fn nor_while_the_next_one_is_asked_for() {
+    let (item, flushes) = (item(5, NEVER), Flushes::default());
+    flushes.flush(5, 5);
+    flushes.flush_with(20, 6, || assert!(!item.is_live(7, &flushes)));
+    assert!(!item.is_live(7, &flushes));
+}

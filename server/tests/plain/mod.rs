@@ -86,10 +86,10 @@ impl Index for Plain {
         }
     }
 
-    fn look_stamped(&self, stamp: Stamp, see: &mut dyn FnMut(Result<Option<&Item>, Refused>)) {
+    fn look_stamped(&self, stamp: Stamp, see: &mut dyn FnMut(Seen<'_>)) {
         let (items, _) = &*self.items.lock().unwrap();
         let entry = items.get(&stamp.hash).filter(|entry| entry.token == stamp.token);
-        see(Ok(entry.map(|entry| &entry.item)));
+        see(Ok(entry.map(|entry| (&entry.item, entry.token))));
     }
 
     fn put(&self, key: &[u8], item: Item) -> Result<Token, Refused> {
