@@ -12,7 +12,7 @@ const FAILURES: u32 = 100;
 /// How many entries a command looks at, at most, if the queue is too long. A removal makes the queue too long by two entries.
 const TIDIED: u32 = 8;
 
-/// An item that a command is about to replace by one that is made of it.
+/// An item that a command is about to replace. It must not give way to the one that replaces it.
 #[derive(Clone, Copy)]
 pub(crate) struct Kept {
     pub stamp: Stamp,

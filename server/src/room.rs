@@ -107,7 +107,11 @@ impl Queue {
     pub fn pop_if_long(&self, items: u64) -> Option<Stamp> {
         let mut queue = self.lock();
         let is_long = queue.len() > ENTRIES_OF_AN_ITEM * items as usize + SPARE_ENTRIES;
-        is_long.then(|| first_of(&mut queue))?
+        if is_long {
+            first_of(&mut queue)
+        } else {
+            None
+        }
     }
 
     /// How many entries it has.
