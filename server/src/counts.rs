@@ -60,6 +60,7 @@ pub fn take_place(index: usize) {
 struct Place([AtomicU64; KINDS]);
 
 /// The counts of all threads.
+// They are relaxed: each change is one atomic step, and no other memory is read by what they say. `stats` may miss the latest ones.
 #[derive(Debug)]
 pub struct Counts(Box<[Place]>);
 

@@ -1,5 +1,5 @@
 //! Items that give way: those in the queue for longest that were not read lately.
-use crate::index::{Key, Outcome, Token};
+use crate::index::{Outcome, Stamp};
 use crate::store::{Fault, Store};
 use std::thread::yield_now;
 
@@ -9,8 +9,15 @@ const LOOKS: u32 = 1000;
 /// How often no item could be removed before there is no room. Other threads may be about to add to the queue.
 const FAILURES: u32 = 100;
 
-/// How many entries are looked at if the queue is too long.
-const TIDIED: u32 = 2;
+/// How many entries a command looks at, at most, if the queue is too long. A removal makes the queue too long by two entries.
+const TIDIED: u32 = 8;
+
+/// An item that a command is about to replace. It must not give way to the one that replaces it.
+#[derive(Clone, Copy)]
+pub(crate) struct Kept {
+    pub stamp: Stamp,
+    pub bytes: u64,
+}
 
 /// What an entry of the queue is.
 enum Entry {
@@ -20,15 +27,16 @@ enum Entry {
 }
 
 impl Store {
-    /// Makes room for an item, and counts its bytes.
-    pub(crate) fn make_room(&self, bytes: u64) -> Result<(), Fault> {
-        if bytes > self.room.limit() {
+    /// Makes room for an item, and counts its bytes. If another one is to be kept meanwhile, there must be room for both.
+    pub(crate) fn make_room(&self, bytes: u64, kept: Option<Kept>) -> Result<(), Fault> {
+        if bytes + kept.map_or(0, |kept| kept.bytes) > self.room.limit() {
             return Err(Fault::NoRoom);
         }
+        let kept = kept.map(|kept| kept.stamp);
         self.room.take(bytes);
         let mut failed = 0;
         while self.room.is_over() {
-            if self.evict() {
+            if self.evict(kept) {
                 continue;
             }
             failed += 1;
@@ -42,27 +50,27 @@ impl Store {
     }
 
     /// Notes that an item was stored.
-    pub(crate) fn enqueue(&self, key: Key, token: Token) {
-        if self.queue.push(key, token, self.room.items()) {
-            (0..TIDIED).for_each(|_| self.tidy());
-        }
+    pub(crate) fn enqueue(&self, stamp: Stamp) {
+        self.queue.push(stamp);
+        self.tidy();
     }
 
     /// Removes one item. Returns whether there was one that could be removed.
-    fn evict(&self) -> bool {
+    fn evict(&self, kept: Option<Stamp>) -> bool {
         for looked in 0..2 * LOOKS {
-            let Some((key, token)) = self.queue.pop() else { return false };
-            match self.judge(&key, token, looked < LOOKS) {
+            let Some(stamp) = self.queue.pop() else { return false };
+            let entry = if kept == Some(stamp) { Entry::Spared } else { self.judge(stamp, looked < LOOKS) };
+            match entry {
                 Entry::Old => {}
-                Entry::Spared => drop(self.queue.push(key, token, 0)),
-                Entry::Victim => match self.index.remove_if(&key, token) {
+                Entry::Spared => self.queue.push(stamp),
+                Entry::Victim => match self.index.remove_stamped(stamp) {
                     Ok(Outcome::Done(_)) => {
                         self.room.count_eviction();
                         return true;
                     }
                     Ok(_) => {}
                     Err(_) => {
-                        self.queue.push(key, token, 0);
+                        self.queue.push(stamp);
                         return false;
                     }
                 },
@@ -71,11 +79,11 @@ impl Store {
         false
     }
 
-    fn judge(&self, key: &Key, token: Token, may_spare: bool) -> Entry {
+    fn judge(&self, stamp: Stamp, may_spare: bool) -> Entry {
         let mut entry = Entry::Old;
-        self.index.look(&[key], &mut |_, seen| {
+        self.index.look_stamped(stamp, &mut |seen| {
             entry = match seen {
-                Ok(Some((item, since))) if since == token => {
+                Ok(Some((item, _))) => {
                     let was_used = item.take_used();
                     if was_used && may_spare && self.is_live(item) {
                         Entry::Spared
@@ -83,21 +91,22 @@ impl Store {
                         Entry::Victim
                     }
                 }
-                Ok(_) => Entry::Old,
+                Ok(None) => Entry::Old,
                 Err(_) => Entry::Spared,
             }
         });
         entry
     }
 
-    /// Drops the first entry if it is old, and puts it at the end if it isn't.
-    fn tidy(&self) {
-        let Some((key, token)) = self.queue.pop() else { return };
-        let mut is_old = false;
-        self.index
-            .look(&[&key], &mut |_, seen| is_old = matches!(seen, Ok(found) if found.is_none_or(|(_, since)| since != token)));
-        if !is_old {
-            self.queue.push(key, token, 0);
+    /// While the queue is too long, looks at its first entries. Those that are not old go to its end.
+    pub(crate) fn tidy(&self) {
+        for _ in 0..TIDIED {
+            let Some(stamp) = self.queue.pop_if_long(self.room.items()) else { return };
+            let mut is_old = false;
+            self.index.look_stamped(stamp, &mut |seen| is_old = matches!(seen, Ok(None)));
+            if !is_old {
+                self.queue.push(stamp);
+            }
         }
     }
 }

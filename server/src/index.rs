@@ -1,12 +1,16 @@
 //! What the server asks of an index of items.
 use crate::item::Item;
-use std::sync::Arc;
-
-/// The key of an item, shared by all that name it.
-pub type Key = Arc<[u8]>;
 
 /// Which put of a key stored its item: memcached's `cas unique`. Never compare those of two keys.
 pub type Token = u64;
+
+/// One put of one key. It names the item as long as the key has it.
+#[derive(Clone, Copy, Debug, PartialEq, Eq)]
+pub struct Stamp {
+    /// The key's hash, by `Index::hash_of`.
+    pub hash: u64,
+    pub token: Token,
+}
 
 /// Why the index did nothing.
 #[derive(Clone, Copy, Debug, PartialEq, Eq)]
@@ -31,22 +35,31 @@ pub enum Outcome {
 /// What a lookup sees of a key: its item and token, if it is there.
 pub type Seen<'a> = Result<Option<(&'a Item, Token)>, Refused>;
 
-/// An index of items, for all workers. Items may vanish at any time. Each call but `look` either does all it says or nothing.
+/// An index of items, for all workers. Items may vanish at any time. Each call that changes it either does all it says or nothing.
 pub trait Index: Send + Sync {
+    /// The hash by which the index knows the key.
+    fn hash_of(&self, key: &[u8]) -> u64;
+
     /// Looks the keys up in order, and calls `each` with the position of each.
     fn look(&self, keys: &[&[u8]], each: &mut dyn FnMut(usize, Seen<'_>));
 
+    /// Looks up the item of this put, if it is still there.
+    fn look_stamped(&self, stamp: Stamp, see: &mut dyn FnMut(Seen<'_>));
+
     /// Puts the item, whatever the key has.
-    fn put(&self, key: &Key, item: Item) -> Result<Token, Refused>;
+    fn put(&self, key: &[u8], item: Item) -> Result<Token, Refused>;
 
     /// Puts the item if the key is absent.
-    fn put_new(&self, key: &Key, item: Item) -> Result<Outcome, Refused>;
+    fn put_new(&self, key: &[u8], item: Item) -> Result<Outcome, Refused>;
 
     /// Puts the item if the key has this token.
-    fn put_if(&self, key: &Key, token: Token, item: Item) -> Result<Outcome, Refused>;
+    fn put_if(&self, key: &[u8], token: Token, item: Item) -> Result<Outcome, Refused>;
 
     /// Removes the key if it has this token.
     fn remove_if(&self, key: &[u8], token: Token) -> Result<Outcome, Refused>;
+
+    /// Removes the item of this put, if it is still there.
+    fn remove_stamped(&self, stamp: Stamp) -> Result<Outcome, Refused>;
 
     /// Frees the memory of items that have left the index, as far as nobody reads them any more.
     fn sweep(&self);

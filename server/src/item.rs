@@ -1,5 +1,5 @@
 //! What is stored under a key.
-use std::sync::atomic::{AtomicBool, AtomicU64, Ordering::Acquire, Ordering::Relaxed, Ordering::Release, Ordering::SeqCst};
+use std::sync::atomic::{AtomicBool, AtomicU64, Ordering::Acquire, Ordering::Relaxed, Ordering::SeqCst};
 use std::sync::Mutex;
 
 /// The value of a key, and what belongs to it.
@@ -32,12 +32,14 @@ impl Item {
 
     /// When it expires.
     pub fn deadline(&self) -> u64 {
-        self.deadline.load(Acquire)
+        // It says nothing of other memory. A call that keeps it and one that moves it take turns, which orders them.
+        self.deadline.load(Relaxed)
     }
 
     /// Moves the deadline.
     pub fn touch(&self, deadline: u64) {
-        self.deadline.store(deadline, Release);
+        // As above.
+        self.deadline.store(deadline, Relaxed);
     }
 
     /// Whether it has neither expired nor been flushed.
@@ -47,6 +49,7 @@ impl Item {
 
     /// Notes that it was read.
     pub fn mark_used(&self) {
+        // A hint, here and below. If one thread sees another's mark late, another item gives way.
         if !self.is_used.load(Relaxed) {
             self.is_used.store(true, Relaxed);
         }
@@ -60,18 +63,26 @@ impl Item {
 
 impl Flushes {
     fn have_hit(&self, born: u64, now: u64) -> bool {
-        // If this is a new one, `past` has the old one already.
+        // If this is a new one, `past` has the old one already: they are stored in that order. So this is an acquire, and the next load
+        // needs no order of its own.
         let next = self.next.load(Acquire);
-        born <= self.past.load(Acquire) || (next <= now && born <= next)
+        born <= self.past.load(Relaxed) || (next <= now && born <= next)
     }
 
     /// Flushes at this time. It replaces a flush that is still to come.
     pub fn flush(&self, time: u64, now: u64) {
+        self.flush_with(time, now, || {});
+    }
+
+    /// The same. Between its two stores it calls `between`, for tests.
+    pub fn flush_with(&self, time: u64, now: u64, between: impl FnOnce()) {
         let _turn = self.turn.lock();
-        let next = self.next.load(Acquire);
+        // Only this function stores it, in turn.
+        let next = self.next.load(Relaxed);
         if next <= now {
             self.past.fetch_max(next, SeqCst);
         }
+        between();
         self.next.store(time, SeqCst);
     }
 }

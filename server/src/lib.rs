@@ -1,6 +1,7 @@
 #![doc = include_str!("../README.md")]
 #![deny(missing_debug_implementations, unsafe_op_in_unsafe_fn)]
 
+pub mod accept;
 pub mod audit;
 pub mod clock;
 pub mod command;
@@ -13,6 +14,7 @@ pub mod index;
 pub mod item;
 pub mod meta;
 mod meta_command;
+mod names;
 pub mod number;
 pub mod objects;
 pub mod options;

@@ -1,10 +1,11 @@
 //! The index of items: a map of objects over Cefrodil's index.
 use crate::audit::{digest, Audit};
-use crate::index::{Index, Key, Outcome, Refused, Seen, Token};
+use crate::index::{Index, Outcome, Refused, Seen, Stamp, Token};
 use crate::item::Item;
+use crate::names::{KeyHash, Name, Names};
 use crate::room::{cost, Room};
 use cefrodil_map::{AbsentError, IfError, InsertError, Inserted, Look, ObjectMap, OpenError, Put, Reason};
-use std::cell::RefCell;
+use std::cell::Cell;
 use std::sync::Arc;
 
 /// What an entry of the index takes, at most.
@@ -13,27 +14,27 @@ pub const BYTES_OF_AN_ENTRY: usize = 56;
 /// The map, and its log if there is one.
 #[derive(Debug)]
 pub struct Objects {
-    map: ObjectMap<Key, Item>,
+    map: ObjectMap<Name, Item, Names>,
     audit: Option<Arc<Audit>>,
 }
 
 thread_local! {
-    /// The key that gave way to the put that this thread makes, for the log.
-    static EVICTED: RefCell<Option<Key>> = const { RefCell::new(None) };
+    /// The hash of the key that gave way to the put that this thread makes, for the log.
+    static EVICTED: Cell<Option<u64>> = const { Cell::new(None) };
 }
 
 impl Objects {
     /// Opens an index for at least so many items. What leaves it gives its bytes back to `room`.
     pub fn open(items: usize, threads: usize, room: &Arc<Room>, audit: Option<Arc<Audit>>) -> Result<Objects, OpenError> {
         let (room, is_logged) = (Arc::clone(room), audit.is_some());
-        let listener = move |key: &Key, item: &Item, reason| {
-            room.give_back(cost(key.len(), item.data.len()));
+        let listener = move |name: &Name, item: &Item, reason| {
+            room.give_back(cost(name.len(), item.data.len()));
             if reason == Reason::Evicted {
                 room.count_eviction();
-                EVICTED.set(is_logged.then(|| Arc::clone(key)));
+                EVICTED.set(is_logged.then_some(name.hash_of_key()));
             }
         };
-        let mut builder = ObjectMap::builder(items).threads(threads).listener(listener);
+        let mut builder = ObjectMap::builder(items).threads(threads).listener(listener).hasher(Names::default());
         if is_logged {
             // The log has one history, that of a shard.
             builder = builder.shards(1);
@@ -46,9 +47,13 @@ impl Objects {
         self.map.capacity()
     }
 
-    fn log_look(&self, key: &[u8], found: Look<&Item>) {
+    fn name(&self, key: &[u8]) -> Name {
+        Name::new(self.hash_of(key), key)
+    }
+
+    fn log_look(&self, hash: impl FnOnce() -> u64, found: Look<&Item>) {
         let Some(audit) = &self.audit else { return };
-        let hash = self.map.hash_of(key);
+        let hash = hash();
         match found {
             Look::Found { result, at, since } => audit.line(format_args!("found {at} {since} {hash} {}", digest(result))),
             Look::Absent { at } => audit.line(format_args!("absent {at} {hash}")),
@@ -59,14 +64,14 @@ impl Objects {
     fn log_put(&self, key: &[u8], digest: Option<u64>, put: Put) {
         let (Some(audit), Some(digest)) = (&self.audit, digest) else { return };
         if let (Inserted::Evicted, Some(evicted)) = (put.did, EVICTED.take()) {
-            audit.line(format_args!("evict {} {}", put.at - 1, self.map.hash_of(&*evicted)));
+            audit.line(format_args!("evict {} {evicted}", put.at - 1));
         }
-        audit.line(format_args!("put {} {} {digest}", put.at, self.map.hash_of(key)));
+        audit.line(format_args!("put {} {} {digest}", put.at, self.hash_of(key)));
     }
 
-    fn log_change(&self, change: &str, at: u64, key: &[u8]) {
+    fn log_change(&self, change: &str, at: u64, hash: impl FnOnce() -> u64) {
         if let Some(audit) = &self.audit {
-            audit.line(format_args!("{change} {at} {}", self.map.hash_of(key)));
+            audit.line(format_args!("{change} {at} {}", hash()));
         }
     }
 
@@ -74,10 +79,10 @@ impl Objects {
         self.audit.is_some().then(|| digest(item))
     }
 
-    fn failed(&self, key: &[u8], why: IfError) -> Result<Outcome, Refused> {
+    fn failed(&self, hash: impl FnOnce() -> u64, why: IfError) -> Result<Outcome, Refused> {
         match why {
             IfError::NotThere { at } => {
-                self.log_change("absent", at, key);
+                self.log_change("absent", at, hash);
                 Ok(Outcome::Absent)
             }
             IfError::Changed { .. } => Ok(Outcome::Changed),
@@ -88,10 +93,14 @@ impl Objects {
 }
 
 impl Index for Objects {
+    fn hash_of(&self, key: &[u8]) -> u64 {
+        self.map.hash_of(key)
+    }
+
     fn look(&self, keys: &[&[u8]], each: &mut dyn FnMut(usize, Seen<'_>)) {
         self.map.look_many(keys, |position, found| {
             if let Ok(found) = found {
-                self.log_look(keys[position], found);
+                self.log_look(|| self.hash_of(keys[position]), found);
             }
             each(
                 position,
@@ -104,16 +113,29 @@ impl Index for Objects {
         });
     }
 
-    fn put(&self, key: &Key, item: Item) -> Result<Token, Refused> {
+    fn look_stamped(&self, stamp: Stamp, see: &mut dyn FnMut(Seen<'_>)) {
+        self.map.look_many(&[&KeyHash(stamp.hash)], |_, found| {
+            if let Ok(found) = found {
+                self.log_look(|| stamp.hash, found);
+            }
+            see(match found {
+                Ok(Look::Found { result, since, .. }) if since == stamp.token => Ok(Some((result, since))),
+                Ok(_) => Ok(None),
+                Err(_) => Err(Refused::Held),
+            });
+        });
+    }
+
+    fn put(&self, key: &[u8], item: Item) -> Result<Token, Refused> {
         let digest = self.digest(&item);
-        let put = self.map.put(Arc::clone(key), item, None).map_err(|refused| reason(refused.why))?;
+        let put = self.map.put(self.name(key), item, None).map_err(|refused| reason(refused.why))?;
         self.log_put(key, digest, put);
         Ok(put.at)
     }
 
-    fn put_new(&self, key: &Key, item: Item) -> Result<Outcome, Refused> {
+    fn put_new(&self, key: &[u8], item: Item) -> Result<Outcome, Refused> {
         let digest = self.digest(&item);
-        match self.map.put_if_absent(Arc::clone(key), item, None) {
+        match self.map.put_if_absent(self.name(key), item, None) {
             Ok(put) => {
                 self.log_put(key, digest, put);
                 Ok(Outcome::Done(put.at))
@@ -126,24 +148,35 @@ impl Index for Objects {
         }
     }
 
-    fn put_if(&self, key: &Key, token: Token, item: Item) -> Result<Outcome, Refused> {
+    fn put_if(&self, key: &[u8], token: Token, item: Item) -> Result<Outcome, Refused> {
         let digest = self.digest(&item);
-        match self.map.replace_if(Arc::clone(key), token, item, None) {
+        match self.map.replace_if(self.name(key), token, item, None) {
             Ok(put) => {
                 self.log_put(key, digest, put);
                 Ok(Outcome::Done(put.at))
             }
-            Err(refused) => self.failed(key, refused.why),
+            Err(refused) => self.failed(|| self.hash_of(key), refused.why),
         }
     }
 
     fn remove_if(&self, key: &[u8], token: Token) -> Result<Outcome, Refused> {
+        let hash = || self.hash_of(key);
         match self.map.remove_if(key, token) {
             Ok(at) => {
-                self.log_change("remove", at, key);
+                self.log_change("remove", at, hash);
                 Ok(Outcome::Done(at))
             }
-            Err(why) => self.failed(key, why),
+            Err(why) => self.failed(hash, why),
+        }
+    }
+
+    fn remove_stamped(&self, stamp: Stamp) -> Result<Outcome, Refused> {
+        match self.map.remove_stamped(stamp.hash, stamp.token) {
+            Ok(at) => {
+                self.log_change("remove", at, || stamp.hash);
+                Ok(Outcome::Done(at))
+            }
+            Err(why) => self.failed(|| stamp.hash, why),
         }
     }
 

@@ -1,5 +1,5 @@
 //! The memory of items: how much they take, and which of them gives way to a new one.
-use crate::index::{Key, Token};
+use crate::index::Stamp;
 use std::collections::VecDeque;
 use std::sync::atomic::{AtomicU64, Ordering::Relaxed};
 use std::sync::{Mutex, MutexGuard, PoisonError};
@@ -8,10 +8,15 @@ use std::sync::{Mutex, MutexGuard, PoisonError};
 const OVERHEAD: u64 = 180;
 
 /// The queue has at most this many entries for each item, and some more, before old entries are dropped from it.
-const ENTRIES_OF_AN_ITEM: usize = 2;
-const SPARE: usize = 1024;
+pub const ENTRIES_OF_AN_ITEM: usize = 2;
+pub const SPARE_ENTRIES: usize = 1024;
+
+/// The queue gives memory back if it has room for this many times its entries.
+const ROOM_OF_AN_ENTRY: usize = 4;
 
 /// The bytes that items may take, and those that they do take.
+// All accesses are relaxed. Each change is one atomic step, so none is lost, and an item's bytes are added before it is put and so before they
+// are subtracted. No other memory is read by what the words say. The limit is set before there are workers.
 #[derive(Debug)]
 pub struct Room {
     limit: AtomicU64,
@@ -20,9 +25,9 @@ pub struct Room {
     evicted: AtomicU64,
 }
 
-/// The items in the order in which they were stored or last spared. An entry whose item has another token by now is old.
+/// The items in the order in which they were stored or last spared. An entry whose item has left the index is old.
 #[derive(Debug, Default)]
-pub struct Queue(Mutex<VecDeque<(Key, Token)>>);
+pub struct Queue(Mutex<VecDeque<Stamp>>);
 
 /// The bytes of an item.
 pub fn cost(key: usize, value: usize) -> u64 {
@@ -84,19 +89,47 @@ impl Room {
 }
 
 impl Queue {
-    fn lock(&self) -> MutexGuard<'_, VecDeque<(Key, Token)>> {
+    fn lock(&self) -> MutexGuard<'_, VecDeque<Stamp>> {
         self.0.lock().unwrap_or_else(PoisonError::into_inner)
     }
 
-    /// Adds an entry. Returns whether there are so many that old ones should be dropped.
-    pub fn push(&self, key: Key, token: Token, items: u64) -> bool {
-        let mut queue = self.lock();
-        queue.push_back((key, token));
-        queue.len() > ENTRIES_OF_AN_ITEM * items as usize + SPARE
+    /// Adds an entry.
+    pub fn push(&self, stamp: Stamp) {
+        self.lock().push_back(stamp);
     }
 
     /// Takes the entry out that has been there longest.
-    pub fn pop(&self) -> Option<(Key, Token)> {
-        self.lock().pop_front()
+    pub fn pop(&self) -> Option<Stamp> {
+        first_of(&mut self.lock())
     }
+
+    /// Does the same if there are so many entries beside so many items that old ones should be dropped.
+    pub fn pop_if_long(&self, items: u64) -> Option<Stamp> {
+        let mut queue = self.lock();
+        let is_long = queue.len() > ENTRIES_OF_AN_ITEM * items as usize + SPARE_ENTRIES;
+        if is_long {
+            first_of(&mut queue)
+        } else {
+            None
+        }
+    }
+
+    /// How many entries it has.
+    pub fn entries(&self) -> usize {
+        self.lock().len()
+    }
+
+    /// How many entries it has memory for.
+    pub fn capacity(&self) -> usize {
+        self.lock().capacity()
+    }
+}
+
+fn first_of(queue: &mut VecDeque<Stamp>) -> Option<Stamp> {
+    let first = queue.pop_front();
+    let least = queue.len().max(SPARE_ENTRIES);
+    if queue.capacity() > ROOM_OF_AN_ENTRY * least {
+        queue.shrink_to(ROOM_OF_AN_ENTRY / 2 * least);
+    }
+    first
 }

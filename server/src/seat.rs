@@ -3,6 +3,8 @@ use std::sync::atomic::{AtomicUsize, Ordering::Relaxed};
 use std::sync::Arc;
 
 /// The seats of all clients.
+// The count is relaxed, since no other memory is read by what it says. Only the thread that takes seats adds to it. If that thread does not see
+// yet that a seat is free, it refuses a client.
 #[derive(Debug)]
 pub struct Seats {
     most: usize,

@@ -1,4 +1,5 @@
 //! Accepts clients, and hands them to the workers in turn.
+use crate::accept::accept_some;
 use crate::complain::complain;
 use crate::connection::Connection;
 use crate::counts::{self, Count};
@@ -14,19 +15,21 @@ use std::net::SocketAddr;
 use std::os::fd::AsRawFd;
 use std::sync::Arc;
 use std::thread;
-use std::time::Duration;
 
 const LISTENER: Token = Token(0);
 const SIGNAL: Token = Token(1);
 
-/// How long it waits before it tries again to accept a client, if the system had no room for one.
-const PAUSE: Duration = Duration::from_millis(50);
-
 /// Listens at an address.
 #[derive(Debug)]
 pub struct Server {
-    store: Arc<Store>,
     listener: TcpListener,
+    workers: Workers,
+}
+
+/// The workers, to whom clients are handed in turn.
+#[derive(Debug)]
+struct Workers {
+    store: Arc<Store>,
     inboxes: Vec<Inbox>,
     handed: usize,
 }
@@ -52,7 +55,7 @@ impl Server {
             threads.push(thread::Builder::new().name(format!("worker {index}")).spawn(move || worker.run(index))?);
         }
         is_ready(listener.local_addr()?);
-        let mut server = Server { store, listener, inboxes, handed: 0 };
+        let mut server = Server { listener, workers: Workers { store, inboxes, handed: 0 } };
         server.accept_all(&mut poll)?;
         drop(server);
         threads.into_iter().try_for_each(|thread| thread.join().unwrap_or_else(|_| Err(ErrorKind::Other.into())))
@@ -68,25 +71,12 @@ impl Server {
             if events.iter().any(|event| event.token() == SIGNAL) {
                 return Ok(());
             }
-            timeout = self.accept_some().then_some(PAUSE);
+            timeout = accept_some(|| self.listener.accept(), |(stream, _)| self.workers.hand(stream));
         }
     }
+}
 
-    /// Accepts the clients that wait. Returns whether some may wait still.
-    fn accept_some(&mut self) -> bool {
-        loop {
-            match self.listener.accept() {
-                Ok((stream, _)) => self.hand(stream),
-                Err(why) if why.kind() == ErrorKind::WouldBlock => return false,
-                Err(why) if matches!(why.kind(), ErrorKind::Interrupted | ErrorKind::ConnectionAborted) => {}
-                Err(why) => {
-                    complain(format_args!("a client can't be accepted: {why}"));
-                    return true;
-                }
-            }
-        }
-    }
-
+impl Workers {
     fn hand(&mut self, mut stream: TcpStream) {
         let Some(seat) = self.store.seats.take() else {
             self.store.counts.add(Count::Rejected);

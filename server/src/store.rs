@@ -16,7 +16,7 @@ pub struct Store {
     pub counts: Counts,
     pub clock: Clock,
     pub room: Arc<Room>,
-    pub(crate) queue: Queue,
+    pub queue: Queue,
     pub(crate) turns: Turns,
     flushes: Flushes,
     pub options: Options,

@@ -1,6 +1,7 @@
 //! Commands that change what a key has.
 use crate::counts::Count;
-use crate::index::{Key, Outcome, Refused, Token};
+use crate::evict::Kept;
+use crate::index::{Outcome, Refused, Stamp, Token};
 use crate::item::Item;
 use crate::number;
 use crate::request::{Change, How, Order};
@@ -45,7 +46,7 @@ impl Store {
 
     fn set(&self, order: &Order, data: &[u8]) -> Result<Answer, Fault> {
         let next = self.fresh(order, self.clock.now(), data);
-        let put = self.put(order.key, next, |key, item| self.index.put(key, item).map(Outcome::Done))?;
+        let put = self.put(order.key, next, None, |item| self.index.put(order.key, item).map(Outcome::Done))?;
         Ok(put.map_or(Answer::NotStored, Answer::Done))
     }
 
@@ -66,49 +67,60 @@ impl Store {
     fn store_if(&self, order: &Order, data: &[u8]) -> Result<Answer, Fault> {
         let _turn = matches!(order.how, How::Append | How::Prepend).then(|| self.turns.wait(order.key));
         for _ in 0..TRIES {
-            let found = self.find(order.key, |item, now| self.over(order, data, item, now))?;
-            let (next, since) = match (found, order.how, order.compare) {
+            let found = self.find(order.key, |item, now| {
+                item.mark_used();
+                (self.over(order, data, item, now), item.data.len())
+            })?;
+            let (next, over) = match (found, order.how, order.compare) {
                 (Found::Absent | Found::Dead(_), How::Set | How::Replace, Some(_)) => return Ok(Answer::NotFound),
                 (Found::Live(..), How::Add, _) => return Ok(Answer::NotStored),
                 (Found::Live(_, token), _, Some(compare)) if token != compare => return Ok(Answer::Exists),
                 (Found::Absent | Found::Dead(_), How::Replace | How::Append | How::Prepend, _) => return Ok(Answer::NotStored),
-                (Found::Absent, ..) => (self.fresh(order, self.clock.now(), data), None),
-                (Found::Dead(token), ..) => (self.fresh(order, self.clock.now(), data), Some(token)),
-                (Found::Live(next, token), ..) => (next, Some(token)),
+                (Found::Absent, ..) => (self.fresh(order, self.clock.now(), data), Found::Absent),
+                (Found::Dead(token), ..) => (self.fresh(order, self.clock.now(), data), Found::Dead(token)),
+                (Found::Live((next, length), token), ..) => (next, Found::Live(length, token)),
             };
             if next.data.len() > self.options.longest {
                 return Err(Fault::TooLong);
             }
-            if let Some(token) = self.put_over(order.key, since, next)? {
+            if let Some(token) = self.put_over(order.key, over, next)? {
                 return Ok(Answer::Done(token));
             }
         }
         Err(Fault::Disturbed)
     }
 
-    /// Puts an item over the one with this token, or where there is none. `None`: it is not so any more.
-    fn put_over(&self, key: &[u8], since: Option<Token>, next: Next) -> Result<Option<Token>, Fault> {
-        self.put(key, next, |key, item| match since {
-            Some(token) => self.index.put_if(key, token, item),
-            None => self.index.put_new(key, item),
+    /// Puts an item over what was found: a live one with a value of this length, or another one, or none. `None`: that is not there any more.
+    fn put_over(&self, key: &[u8], found: Found<usize>, next: Next) -> Result<Option<Token>, Fault> {
+        let kept = match found {
+            Found::Live(length, token) => Some(Kept { stamp: self.stamp(key, token), bytes: cost(key.len(), length) }),
+            Found::Dead(_) | Found::Absent => None,
+        };
+        self.put(key, next, kept, |item| match found {
+            Found::Live(_, token) | Found::Dead(token) => self.index.put_if(key, token, item),
+            Found::Absent => self.index.put_new(key, item),
         })
+    }
+
+    fn stamp(&self, key: &[u8], token: Token) -> Stamp {
+        Stamp { hash: self.index.hash_of(key), token }
     }
 
     fn put(
         &self,
         key: &[u8],
         next: Next,
-        put: impl FnOnce(&Key, Item) -> Result<Outcome, Refused>,
+        kept: Option<Kept>,
+        put: impl FnOnce(Item) -> Result<Outcome, Refused>,
     ) -> Result<Option<Token>, Fault> {
         let (bytes, is_large) = (cost(key.len(), next.data.len()), next.data.len() >= LARGE);
-        self.make_room(bytes)?;
-        let key = Key::from(key);
-        let outcome = put(&key, Item::new(next.born, next.flags, next.deadline, next.data));
+        self.make_room(bytes, kept)?;
+        let outcome = put(Item::new(next.born, next.flags, next.deadline, next.data));
         if is_large {
             self.index.sweep();
         }
         if let Ok(Outcome::Done(token)) = outcome {
-            self.enqueue(key, token);
+            self.enqueue(self.stamp(key, token));
             return Ok(Some(token));
         }
         self.room.give_back(bytes);
@@ -139,12 +151,14 @@ impl Store {
                 Found::Live((), token) if !is_meant(token) => return Ok(Found::Live(false, token)),
                 Found::Live((), token) | Found::Dead(token) => token,
             };
-            match (self.index.remove_if(key, token), found) {
-                (Ok(Outcome::Done(_)), Found::Live(..)) => return Ok(Found::Live(true, token)),
-                (Ok(Outcome::Done(_)), _) => return Ok(Found::Dead(token)),
-                (Ok(Outcome::Absent), _) => return Ok(Found::Absent),
-                (Ok(Outcome::Changed), _) => {}
-                (Err(why), _) => return Err(self.disturbed(why)),
+            match self.index.remove_if(key, token) {
+                Ok(Outcome::Done(_)) => {
+                    self.tidy();
+                    return Ok(if matches!(found, Found::Live(..)) { Found::Live(true, token) } else { Found::Dead(token) });
+                }
+                Ok(Outcome::Absent) => return Ok(Found::Absent),
+                Ok(Outcome::Changed) => {}
+                Err(why) => return Err(self.disturbed(why)),
             }
         }
         Err(Fault::Disturbed)
@@ -159,16 +173,16 @@ impl Store {
                 let number = change.of(number::unsigned(&item.data)?);
                 let (deadline, data) = (deadline.unwrap_or(item.deadline()), number.to_string().into_bytes().into());
                 let next = Next { born, flags: item.flags, deadline, data };
-                Some((next, number))
+                Some((next, number, item.data.len()))
             })?;
-            let (next, number, token) = match found {
+            let (next, number, length, token) = match found {
                 Found::Absent | Found::Dead(_) => return Ok(Changed::NotFound),
                 Found::Live(_, token) if compare.is_some_and(|compare| compare != token) => return Ok(Changed::Exists),
                 Found::Live(None, _) => return Ok(Changed::NotNumeric),
-                Found::Live(Some((next, number)), token) => (next, number, token),
+                Found::Live(Some((next, number, length)), token) => (next, number, length, token),
             };
             let deadline = next.deadline;
-            if let Some(token) = self.put_over(key, Some(token), next)? {
+            if let Some(token) = self.put_over(key, Found::Live(length, token), next)? {
                 return Ok(Changed::Changed(number, token, deadline));
             }
         }

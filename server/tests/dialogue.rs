@@ -1,53 +1,7 @@
 //! Dialogues over a plain index: what is answered, also when the index refuses.
 mod plain;
-use cefrodild::dialogue::{Dialogue, Turn, MOST_WAITING};
-use cefrodild::options::{parse, Asked};
-use cefrodild::room::Room;
-use cefrodild::store::Store;
-use plain::{Faults, Plain};
+use plain::client::{Client, MEGABYTE};
 use std::sync::atomic::Ordering::SeqCst;
-use std::sync::Arc;
-
-const MEGABYTE: usize = 1 << 20;
-
-struct Client {
-    store: Store,
-    faults: Arc<Faults>,
-    dialogue: Dialogue,
-    input: Vec<u8>,
-}
-
-impl Client {
-    fn new(memory: usize) -> Client {
-        let (room, faults) = (Arc::new(Room::new(memory as u64)), Arc::new(Faults::default()));
-        let Ok(Asked::Serve(options)) = parse(["-t1".to_owned()]) else { panic!("these are options") };
-        let store = Store::new(Box::new(Plain::new(&room, &faults)), room, options);
-        Client { store, faults, dialogue: Dialogue::default(), input: Vec::new() }
-    }
-
-    /// Sends bytes, and returns the answers and whether the connection ends.
-    fn ask_bytes(&mut self, bytes: &[u8]) -> (Vec<u8>, bool) {
-        self.input.extend_from_slice(bytes);
-        let mut answers = Vec::new();
-        loop {
-            let mut out = Vec::new();
-            let (done, turn) = self.dialogue.turn(&self.store, &self.input, &mut out);
-            assert!(out.len() < MOST_WAITING + MEGABYTE + 300, "the output is bounded");
-            answers.append(&mut out);
-            self.input.drain(..done);
-            match turn {
-                Turn::Needs(bytes) if self.input.len() < bytes => return (answers, false),
-                Turn::Ends => return (answers, true),
-                _ => {}
-            }
-        }
-    }
-
-    fn ask(&mut self, text: &str) -> String {
-        let (answers, _) = self.ask_bytes(text.replace('\n', "\r\n").as_bytes());
-        String::from_utf8(answers).expect("the answers are text").replace("\r\n", "\n")
-    }
-}
 
 #[test]
 fn each_byte_by_itself() {
@@ -67,18 +21,18 @@ fn each_byte_by_itself() {
 fn no_false_answer() {
     let mut client = Client::new(MEGABYTE);
     assert_eq!(client.ask("set a 0 0 1\n1\n"), "STORED\n");
-    client.faults.removals.store(true, SeqCst);
+    client.control.refuses_removals.store(true, SeqCst);
     assert_eq!(client.ask("delete a\n"), "SERVER_ERROR busy, and nothing was changed\n");
     assert_eq!(client.ask("md a\n"), "SERVER_ERROR busy, and nothing was changed\n");
-    client.faults.puts.store(true, SeqCst);
+    client.control.refuses_puts.store(true, SeqCst);
     assert_eq!(client.ask("set a 0 0 1\n2\n"), "SERVER_ERROR not stored, and the old value may still be found\n");
     assert_eq!(client.ask("add b 0 0 1\n2\n"), "SERVER_ERROR out of memory storing object\n");
     assert_eq!(client.ask("incr a 1\n"), "SERVER_ERROR out of memory storing object\n");
     assert_eq!(client.ask("get a\n"), "VALUE a 0 1\n1\nEND\n");
-    client.faults.removals.store(false, SeqCst);
+    client.control.refuses_removals.store(false, SeqCst);
     assert_eq!(client.ask("set a 0 0 1\n2\n"), "SERVER_ERROR out of memory storing object\n");
     assert_eq!(client.ask("get a\n"), "END\n");
-    client.faults.looks.store(true, SeqCst);
+    client.control.refuses_looks.store(true, SeqCst);
     assert_eq!(client.ask("get a\n"), "END\n");
     assert_eq!(client.ask("delete a\n"), "SERVER_ERROR busy, and nothing was changed\n");
     assert_eq!(client.ask("touch a 1\n"), "SERVER_ERROR busy, and nothing was changed\n");
@@ -103,23 +57,6 @@ fn a_value_that_is_too_long() {
 }
 
 #[test]
-fn memory_is_bounded() {
-    let mut client = Client::new(100_000);
-    for number in 0..10_000 {
-        assert_eq!(client.ask(&format!("set {number} 0 0 {}\n{}\n", number % 500, "x".repeat(number % 500))), "STORED\n");
-        client.ask("get 0\n");
-        assert!(client.store.room.used() <= 100_000);
-    }
-    assert!(client.store.room.used() > 90_000);
-    assert_eq!(client.ask("get 0\n"), "VALUE 0 0 0\n\nEND\n", "what is read is spared");
-    assert_eq!(client.ask("get 1\n"), "END\n");
-    assert_eq!(
-        client.ask(&format!("set big 0 0 200000\n{}\n", "x".repeat(200_000))),
-        "SERVER_ERROR out of memory storing object\n"
-    );
-}
-
-#[test]
 fn keys_of_a_long_line_are_answered_as_they_come() {
     let mut client = Client::new(MEGABYTE);
     client.ask(&format!("set k 0 0 500\n{}\n", "x".repeat(500)));
@@ -130,6 +67,15 @@ fn keys_of_a_long_line_are_answered_as_they_come() {
     answers += &client.ask("\n");
     assert_eq!(answers, one.repeat(2_000) + "END\n");
     assert_eq!(client.ask(&format!("get k {}\nmn\n", "k".repeat(251))), "CLIENT_ERROR bad command line format\nMN\n");
+}
+
+#[test]
+fn the_longest_key_ends_a_long_line_that_is_cut_within_its_end() {
+    let (mut client, key) = (Client::new(MEGABYTE), "k".repeat(250));
+    client.ask(&format!("set {key} 0 0 1\n1\n"));
+    let (mut answers, _) = client.ask_bytes(format!("get{} {key}\r", " x".repeat(1200)).as_bytes());
+    answers.extend(client.ask_bytes(b"\n").0);
+    assert_eq!(answers, format!("VALUE {key} 0 1\r\n1\r\nEND\r\n").as_bytes());
 }
 
 #[test]
@@ -152,6 +98,26 @@ fn a_flush_hits_what_is_older() {
     assert_eq!(client.ask("set a 0 0 1\n1\nflush_all\nget a\n"), "STORED\nOK\nEND\n");
     assert_eq!(client.ask("set a 0 0 1\n1\nflush_all 1000\nget a\n"), "STORED\nOK\nVALUE a 0 1\n1\nEND\n");
     assert_eq!(client.ask("add a 0 0 1\n1\nflush_all\nadd a 0 0 1\n2\nget a\n"), "NOT_STORED\nOK\nSTORED\nVALUE a 0 1\n2\nEND\n");
+}
+
+#[test]
+fn a_flush_at_a_time_of_day_that_is_over() {
+    let mut client = Client::new(MEGABYTE);
+    // From 30 days on it is a time since 1970.
+    assert_eq!(client.ask("set a 0 0 1\n1\nflush_all 2592001\nget a\n"), "STORED\nOK\nEND\n");
+}
+
+#[test]
+fn what_was_flushed_stays_so_when_another_flush_is_to_come() {
+    let mut client = Client::new(MEGABYTE);
+    assert_eq!(client.ask("set a 0 0 1\n1\nflush_all\nflush_all 1000\nget a\n"), "STORED\nOK\nOK\nEND\n");
+}
+
+#[test]
+fn arithmetic_keeps_the_flags() {
+    let mut client = Client::new(MEGABYTE);
+    assert_eq!(client.ask("set n 7 0 1\n5\nincr n 1\nget n\n"), "STORED\n6\nVALUE n 7 1\n6\nEND\n");
+    assert_eq!(client.ask("ma n MD\nget n\n"), "HD\nVALUE n 7 1\n5\nEND\n");
 }
 
 #[test]

@@ -104,7 +104,6 @@ fn words_that_are_wrong() {
         "set k 0 0 -1",
         "set k -1 0 1",
         "cas k 0 0 1 x",
-        "set k 0 0 2147483647",
         "verbosity x",
         &format!("set {long} 0 0 1"),
         &format!("delete {long}"),
@@ -118,6 +117,26 @@ fn words_that_are_wrong() {
     assert_eq!(refused("incr k -1"), "CLIENT_ERROR invalid numeric delta argument");
     assert_eq!(refused("touch k x"), "CLIENT_ERROR invalid exptime argument");
     assert_eq!(refused("delete k 1"), "CLIENT_ERROR bad command line format.  Usage: delete <key> [noreply]");
+}
+
+#[test]
+fn the_largest_numbers() {
+    let Request::Store(order) = read("cas k 4294967295 9223372036854775807 2147483645 18446744073709551615") else { panic!() };
+    assert_eq!((order.flags, order.expiry, order.compare), (u32::MAX, i64::MAX, Some(u64::MAX)));
+    // With its line end the block has 2^31 - 1 bytes.
+    assert_eq!(order.length, (1 << 31) - 3);
+    for line in [
+        "set k 4294967296 0 1",
+        "set k 0 9223372036854775808 1",
+        "set k 0 0 2147483646",
+        "cas k 0 0 1 18446744073709551616",
+        "cas k 0 0 1 99999999999999999999",
+        "ms k 2147483646",
+        "ms k 1 F4294967296",
+    ] {
+        assert_eq!(refused(line), "CLIENT_ERROR bad command line format", "{line}");
+    }
+    assert_eq!(refused("incr k 18446744073709551616"), "CLIENT_ERROR invalid numeric delta argument");
 }
 
 #[test]

@@ -19,6 +19,8 @@ from running import TIMEOUT, start, stop
 
 KEYS = [f'key:{number}' for number in range(200)]
 OPTIONS = ['-t', '2', '-m', '16']
+# How many seconds a server that came back may stay unnoticed.
+LIMIT = 20
 
 
 def free_port():
@@ -85,22 +87,31 @@ def go_on(client, seconds, draw):
     return hits, failures
 
 
+def wait_until_stored(client, key):
+    """The proxy notices in its own time that a server is back."""
+    end = time.monotonic() + LIMIT
+    while client.set(key, f'value of {key} 0') != 'STORED':
+        if time.monotonic() > end:
+            raise SystemExit(f'proxy: {LIMIT} seconds after its server came back, {key} is not stored')
+        time.sleep(0.05)
+
+
 def test(program, servers, ports, client):
     draw = random.Random(1)
     assert all(client.set(key, f'value of {key} 0') == 'STORED' for key in KEYS)
     assert all(found(client, key) for key in KEYS)
-    shares = [sum(Client(port).get(key) != 'END' for key in KEYS) for port in ports]
-    assert sum(shares) == len(KEYS) and min(shares) > 0, shares
+    shares = [[key for key in KEYS if Client(port).get(key) != 'END'] for port in ports]
+    assert sorted(sum(shares, [])) == sorted(KEYS) and all(shares), shares
     assert go_on(client, 0.5, draw)[1] == 0
     stop(servers[0])
     hits, failures = go_on(client, 1.5, draw)
     assert hits > 0 and failures > 0, (hits, failures)
     servers[0], _ = start(program, *OPTIONS, port=ports[0])
-    time.sleep(1)
+    wait_until_stored(client, shares[0][0])
     go_on(client, 0.5, draw)
     assert all(client.set(key, f'value of {key} 1') == 'STORED' for key in KEYS)
     assert all(found(client, key) for key in KEYS)
-    print(f'proxy: ok: {shares} keys; one dead: {hits} hits, {failures} failed sets; all found after it came back')
+    print(f'proxy: ok: {[len(share) for share in shares]} keys; one dead: {hits} hits, {failures} failed sets; all found after it came back')
 
 
 def main():

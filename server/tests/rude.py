@@ -3,14 +3,16 @@
 
 usage: rude.py CEFRODILD
 """
+import contextlib
 import os
 import random
 import signal
+import socket
 import subprocess
 import sys
 import time
 
-from running import ask, connect, running
+from running import ask, connect, rest, running
 
 MEGABYTE = 1 << 20
 END = b'END\r\n'
@@ -72,6 +74,36 @@ def client_that_stops_halfway(program):
             assert endless.recv(100) == b''
 
 
+@contextlib.contextmanager
+def stopped(server):
+    """While the server is stopped, the system completes connections and keeps what they bring."""
+    server.send_signal(signal.SIGSTOP)
+    os.waitpid(server.pid, os.WUNTRACED)
+    try:
+        yield
+    finally:
+        server.send_signal(signal.SIGCONT)
+
+
+def crowd(program):
+    """More clients at once than are accepted in one round."""
+    with running(program) as (server, port), contextlib.ExitStack() as stack:
+        with stopped(server):
+            clients = [stack.enter_context(connect(port)) for _ in range(200)]
+        assert all(ask(client, b'mn\r\n') == b'MN\r\n' for client in clients)
+
+
+def client_that_sends_no_more(program):
+    """The end of its input comes together with its last bytes."""
+    with running(program) as (server, port):
+        with stopped(server):
+            rude = connect(port)
+            rude.sendall(b'mn\r\n')
+            rude.shutdown(socket.SHUT_WR)
+        with rude:
+            assert rest(rude) == b'MN\r\n'
+
+
 def noise(program):
     draw = random.Random(1)
     with running(program) as (_, port):
@@ -89,18 +121,40 @@ def noise(program):
 
 
 def end(program):
-    with running(program) as (server, port), connect(port) as asker, connect(port) as idle, connect(port) as halfway:
+    answer = b'VALUE k 0 5\r\nvalue\r\n'
+    # Those that connected first have their last turn first.
+    with running(program, '-t', '1') as (server, port), connect(port) as reader, connect(port) as asker, connect(port) as idle, connect(port) as halfway:
         assert ask(idle, b'set k 0 0 5\r\nvalue\r\n') == b'STORED\r\n'
+        # Its line is so long that it is answered before it ends.
+        assert ask(reader, b'get' + b' k' * 2000 + b' ', end=answer * 2000) == answer * 2000
         assert ask(asker, b'mn\r\n') == b'MN\r\n'
         halfway.sendall(b'set other 0 0 5\r\nva')
         asker.sendall(b'get k\r\n' * 10_000)
         server.send_signal(signal.SIGTERM)
-        answers = b''
-        while part := asker.recv(MEGABYTE):
-            answers += part
-        assert answers == b'VALUE k 0 5\r\nvalue\r\nEND\r\n' * 10_000, len(answers)
-        assert idle.recv(100) == b''
+        assert rest(asker) == (answer + END) * 10_000
+        assert rest(idle) == b''
+        reader.sendall(b'k\r\n')
+        assert rest(reader) == answer + END
         assert server.wait(5) == 0
+
+
+def stats(client):
+    lines = ask(client, b'stats\r\n', end=END).decode().splitlines()
+    return {name: value for _, name, value in (line.split() for line in lines[:-1])}
+
+
+def memory(program):
+    """The server takes no more than `-m`, and items take no more than three quarters of it. That is so after many keys have come and gone."""
+    limit, value = 32 * MEGABYTE, b'v' * 100_000
+    keys = [b'%d' % number + b'k' * 240 for number in range(30_000)]
+    with running(program, '-m', '32', '-n', '30000', '-t', '1') as (server, port), connect(port) as client:
+        for line in [b'set %s 0 0 0 noreply\r\n\r\n'] * 2 + [b'delete %s noreply\r\n']:
+            client.sendall(b''.join(line % key for key in keys))
+        for number in range(400):
+            assert ask(client, b'set %d 0 0 %d\r\n%s\r\n' % (number, len(value), value)) == b'STORED\r\n'
+        found = stats(client)
+        assert int(found['evictions']) > 0 and int(found['bytes']) <= limit * 3 // 4, found
+        assert memory_of(server) <= limit, memory_of(server)
 
 
 def faults_of_the_command_line(program):
@@ -110,7 +164,7 @@ def faults_of_the_command_line(program):
 
 
 def main():
-    tests = [too_many_clients, client_that_does_not_read, client_that_stops_halfway, noise, end, faults_of_the_command_line]
+    tests = [too_many_clients, crowd, client_that_does_not_read, client_that_stops_halfway, client_that_sends_no_more, noise, end, memory, faults_of_the_command_line]
     for test in tests:
         test(sys.argv[1])
     print(f'rude: {len(tests)} tests: ok')

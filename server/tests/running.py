@@ -35,6 +35,14 @@ def connect(port):
     return socket.create_connection(('127.0.0.1', port), TIMEOUT)
 
 
+def rest(client):
+    """What the client is answered until the connection ends."""
+    answer = b''
+    while part := client.recv(1 << 20):
+        answer += part
+    return answer
+
+
 def ask(client, data, end=b'\r\n'):
     """Sends this, and returns what is answered up to this end."""
     client.sendall(data)

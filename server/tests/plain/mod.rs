@@ -1,94 +1,137 @@
-//! A plain index for tests, which refuses calls on demand.
-use cefrodild::index::{Index, Key, Outcome, Refused, Seen, Token};
+//! A plain index for tests, and clients of a store over it.
+#![allow(dead_code, reason = "no test needs all of it")]
+pub mod client;
+
+use cefrodild::index::{Index, Outcome, Refused, Seen, Stamp, Token};
 use cefrodild::item::Item;
 use cefrodild::room::{cost, Room};
 use std::collections::HashMap;
-use std::sync::atomic::{AtomicBool, Ordering::SeqCst};
+use std::hash::{BuildHasher, BuildHasherDefault, DefaultHasher};
+use std::sync::atomic::{AtomicBool, AtomicUsize, Ordering::SeqCst};
 use std::sync::{Arc, Mutex};
 
-/// What the index is to refuse.
-#[derive(Debug, Default)]
-pub struct Faults {
-    pub puts: AtomicBool,
-    pub removals: AtomicBool,
-    pub looks: AtomicBool,
+/// What a test asks of the index.
+#[derive(Default)]
+pub struct Control {
+    pub refuses_puts: AtomicBool,
+    pub refuses_removals: AtomicBool,
+    pub refuses_looks: AtomicBool,
+    /// What happens right before the next change that has a condition.
+    pub meanwhile: Mutex<Option<Box<dyn FnOnce() + Send>>>,
+    /// How often what had left was to be freed.
+    pub sweeps: AtomicUsize,
+}
+
+/// What is under the hash of a key.
+struct Entry {
+    cost: u64,
+    item: Item,
+    token: Token,
 }
 
 /// The items, and the last token.
-type Items = (HashMap<Key, (Item, Token)>, Token);
+type Items = (HashMap<u64, Entry>, Token);
 
 /// A map under a mutex.
 pub struct Plain {
     items: Mutex<Items>,
     room: Arc<Room>,
-    faults: Arc<Faults>,
+    control: Arc<Control>,
 }
 
 impl Plain {
-    pub fn new(room: &Arc<Room>, faults: &Arc<Faults>) -> Plain {
-        Plain { items: Mutex::default(), room: Arc::clone(room), faults: Arc::clone(faults) }
+    pub fn new(room: &Arc<Room>, control: &Arc<Control>) -> Plain {
+        Plain { items: Mutex::default(), room: Arc::clone(room), control: Arc::clone(control) }
     }
 
-    fn put_as(&self, key: &Key, item: Item, meant: impl FnOnce(Option<Token>) -> bool) -> Result<Outcome, Refused> {
-        if self.faults.puts.load(SeqCst) {
+    fn put_as(&self, key: &[u8], item: Item, meant: impl FnOnce(Option<Token>) -> bool) -> Result<Outcome, Refused> {
+        if self.control.refuses_puts.load(SeqCst) {
             return Err(Refused::Full);
         }
         let (items, last) = &mut *self.items.lock().unwrap();
-        let token = items.get(key).map(|(_, token)| *token);
+        let hash = self.hash_of(key);
+        let token = items.get(&hash).map(|entry| entry.token);
         if !meant(token) {
             return Ok(token.map_or(Outcome::Absent, |_| Outcome::Changed));
         }
         *last += 1;
-        if let Some((old, _)) = items.insert(Arc::clone(key), (item, *last)) {
-            self.room.give_back(cost(key.len(), old.data.len()));
+        let entry = Entry { cost: cost(key.len(), item.data.len()), item, token: *last };
+        if let Some(old) = items.insert(hash, entry) {
+            self.room.give_back(old.cost);
         }
         Ok(Outcome::Done(*last))
+    }
+
+    fn let_others_act(&self) {
+        let act = self.control.meanwhile.lock().unwrap().take();
+        if let Some(act) = act {
+            act();
+        }
     }
 }
 
 impl Index for Plain {
+    fn hash_of(&self, key: &[u8]) -> u64 {
+        BuildHasherDefault::<DefaultHasher>::default().hash_one(key)
+    }
+
     fn look(&self, keys: &[&[u8]], each: &mut dyn FnMut(usize, Seen<'_>)) {
         let (items, _) = &*self.items.lock().unwrap();
         for (position, key) in keys.iter().enumerate() {
-            if self.faults.looks.load(SeqCst) {
+            if self.control.refuses_looks.load(SeqCst) {
                 each(position, Err(Refused::Held));
             } else {
-                each(position, Ok(items.get(*key).map(|(item, token)| (item, *token))));
+                each(position, Ok(items.get(&self.hash_of(key)).map(|entry| (&entry.item, entry.token))));
             }
         }
     }
 
-    fn put(&self, key: &Key, item: Item) -> Result<Token, Refused> {
+    fn look_stamped(&self, stamp: Stamp, see: &mut dyn FnMut(Seen<'_>)) {
+        let (items, _) = &*self.items.lock().unwrap();
+        let entry = items.get(&stamp.hash).filter(|entry| entry.token == stamp.token);
+        see(Ok(entry.map(|entry| (&entry.item, entry.token))));
+    }
+
+    fn put(&self, key: &[u8], item: Item) -> Result<Token, Refused> {
         match self.put_as(key, item, |_| true)? {
             Outcome::Done(token) => Ok(token),
             _ => unreachable!("there is no condition"),
         }
     }
 
-    fn put_new(&self, key: &Key, item: Item) -> Result<Outcome, Refused> {
+    fn put_new(&self, key: &[u8], item: Item) -> Result<Outcome, Refused> {
+        self.let_others_act();
         self.put_as(key, item, |token| token.is_none())
     }
 
-    fn put_if(&self, key: &Key, token: Token, item: Item) -> Result<Outcome, Refused> {
+    fn put_if(&self, key: &[u8], token: Token, item: Item) -> Result<Outcome, Refused> {
+        self.let_others_act();
         self.put_as(key, item, |found| found == Some(token))
     }
 
     fn remove_if(&self, key: &[u8], token: Token) -> Result<Outcome, Refused> {
-        if self.faults.removals.load(SeqCst) {
+        self.let_others_act();
+        self.remove_stamped(Stamp { hash: self.hash_of(key), token })
+    }
+
+    fn remove_stamped(&self, stamp: Stamp) -> Result<Outcome, Refused> {
+        if self.control.refuses_removals.load(SeqCst) {
             return Err(Refused::Held);
         }
         let (items, last) = &mut *self.items.lock().unwrap();
-        match items.get(key) {
+        match items.get(&stamp.hash) {
             None => Ok(Outcome::Absent),
-            Some((_, found)) if *found != token => Ok(Outcome::Changed),
-            Some((item, _)) => {
-                self.room.give_back(cost(key.len(), item.data.len()));
-                items.remove(key);
+            Some(entry) if entry.token != stamp.token => Ok(Outcome::Changed),
+            Some(entry) => {
+                self.room.give_back(entry.cost);
+                items.remove(&stamp.hash);
                 *last += 1;
                 Ok(Outcome::Done(*last))
             }
         }
     }
 
-    fn sweep(&self) {}
+    fn sweep(&self) {
+        self.control.sweeps.fetch_add(1, SeqCst);
+    }
 }

@@ -1,0 +1,104 @@
+//! Two clients at one key: one acts when the other's command has looked at the key and is about to change it.
+mod plain;
+use cefrodild::room::cost;
+use plain::client::{Client, MEGABYTE};
+use std::sync::mpsc::channel;
+use std::thread;
+use std::time::{Duration, Instant};
+
+/// How long a command has that must not end meanwhile.
+const WHILE: Duration = Duration::from_millis(50);
+
+/// A client of a store in which `n` has this value.
+fn client_with(value: &str) -> Client {
+    let mut client = Client::new(MEGABYTE);
+    set(&mut client, value);
+    client
+}
+
+fn set(client: &mut Client, value: &str) {
+    assert_eq!(client.ask(&format!("set n 0 0 {}\n{value}\n", value.len())), "STORED\n");
+}
+
+fn value(client: &mut Client) -> String {
+    let answer = client.ask("get n\n");
+    answer.lines().nth(1).unwrap_or_default().to_owned()
+}
+
+#[test]
+fn append_and_prepend_begin_anew() {
+    let mut client = client_with("a");
+    assert_eq!(client.ask_beside("append n 0 0 1\nx\n", |mut other| set(&mut other, "b")), "STORED\n");
+    assert_eq!(value(&mut client), "bx");
+    assert_eq!(client.ask_beside("prepend n 0 0 1\ny\n", |mut other| set(&mut other, "c")), "STORED\n");
+    assert_eq!(value(&mut client), "yc");
+}
+
+#[test]
+fn arithmetic_begins_anew() {
+    let mut client = client_with("1");
+    assert_eq!(client.ask_beside("incr n 1\n", |mut other| set(&mut other, "10")), "11\n");
+    assert_eq!(client.ask_beside("decr n 1\n", |mut other| set(&mut other, "20")), "19\n");
+}
+
+#[test]
+fn arithmetic_finds_the_number_that_another_one_made() {
+    let mut client = Client::new(MEGABYTE);
+    assert_eq!(client.ask_beside("ma n N0 J5 D3 v\n", |mut other| set(&mut other, "10")), "VA 2\n13\n");
+}
+
+#[test]
+fn delete_removes_what_came_meanwhile() {
+    let mut client = client_with("a");
+    assert_eq!(client.ask_beside("delete n\n", |mut other| set(&mut other, "b")), "DELETED\n");
+    assert_eq!(value(&mut client), "");
+    set(&mut client, "a");
+    assert_eq!(client.ask_beside("md n\n", |mut other| set(&mut other, "b")), "HD\n");
+    assert_eq!(value(&mut client), "");
+}
+
+#[test]
+fn nothing_that_came_meanwhile_is_overwritten_by_cas() {
+    // The first item of a store has the token 1.
+    for (command, answer) in [("cas n 0 0 1 1\nx\n", "EXISTS\n"), ("ms n 1 C1\nx\n", "EX\n")] {
+        let mut client = client_with("a");
+        assert_eq!(client.ask_beside(command, |mut other| set(&mut other, "b")), answer);
+        assert_eq!(value(&mut client), "b");
+    }
+}
+
+#[test]
+fn nothing_that_came_meanwhile_is_overwritten_by_add() {
+    let mut client = Client::new(MEGABYTE);
+    assert_eq!(client.ask_beside("add n 0 0 1\nx\n", |mut other| set(&mut other, "b")), "NOT_STORED\n");
+    assert_eq!(value(&mut client), "b");
+}
+
+#[test]
+fn an_item_that_was_not_put_is_not_counted() {
+    for command in ["append n 0 0 1\nx\n", "cas n 0 0 1 1\nx\n", "incr n 1\n"] {
+        let mut client = client_with("1");
+        client.ask_beside(command, |mut other| set(&mut other, "1"));
+        let bytes = cost(1, value(&mut client).len());
+        assert_eq!((client.store.room.items(), client.store.room.used()), (1, bytes), "{command}");
+    }
+}
+
+#[test]
+fn a_new_time_to_live_waits_for_a_change_that_keeps_the_old_one() {
+    for command in ["touch n 100\n", "gat 100 n\n", "mg n T100\n"] {
+        for change in ["incr n 1\n", "append n 0 0 1\n1\n"] {
+            let (mut client, (sender, threads)) = (client_with("1"), channel());
+            client.ask_beside(change, move |mut other| {
+                let (asking, end) = (thread::spawn(move || other.ask(command)), Instant::now() + WHILE);
+                while Instant::now() < end {
+                    assert!(!asking.is_finished(), "{command} comes between the steps of {change}");
+                    thread::yield_now();
+                }
+                sender.send(asking).expect("it is waited for");
+            });
+            threads.recv().expect("there is a thread").join().expect("it is answered");
+            assert_ne!(client.ask("mg n t\n"), "HD t-1\n", "{command} is lost beside {change}");
+        }
+    }
+}

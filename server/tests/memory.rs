@@ -1,0 +1,181 @@
+//! The memory of items: what is counted, what gives way, and what the queue keeps.
+mod plain;
+use cefrodild::room::{cost, ENTRIES_OF_AN_ITEM, SPARE_ENTRIES};
+use plain::client::{Client, MEGABYTE};
+use std::sync::atomic::Ordering::SeqCst;
+
+const FULL: &str = "SERVER_ERROR out of memory storing object\n";
+
+/// A client with room for so many items that have keys and values of one byte, and for some bytes more.
+fn room_for(items: u64, more: u64) -> Client {
+    Client::new((items * cost(1, 1) + more) as usize)
+}
+
+/// Stores these keys with a value of one byte.
+fn set(client: &mut Client, keys: &str) {
+    for key in keys.chars() {
+        assert_eq!(client.ask(&format!("set {key} 0 0 1\n5\n")), "STORED\n");
+    }
+}
+
+/// Which of these keys are there. This marks them as read.
+fn there(client: &mut Client, keys: &str) -> String {
+    keys.chars().filter(|key| client.ask(&format!("get {key}\n")) != "END\n").collect()
+}
+
+fn most_entries(client: &Client) -> usize {
+    ENTRIES_OF_AN_ITEM * client.store.room.items() as usize + SPARE_ENTRIES
+}
+
+#[test]
+fn memory_is_bounded() {
+    let mut client = Client::new(100_000);
+    for number in 0..10_000 {
+        assert_eq!(client.ask(&format!("set {number} 0 0 {}\n{}\n", number % 500, "x".repeat(number % 500))), "STORED\n");
+        client.ask("get 0\n");
+        assert!(client.store.room.used() <= 100_000);
+    }
+    assert!(client.store.room.used() > 90_000);
+    assert_eq!(client.ask("get 0\n"), "VALUE 0 0 0\n\nEND\n", "what is read is spared");
+    assert_eq!(client.ask("get 1\n"), "END\n");
+    assert_eq!(
+        client.ask(&format!("set big 0 0 200000\n{}\n", "x".repeat(200_000))),
+        "SERVER_ERROR out of memory storing object\n"
+    );
+}
+
+#[test]
+fn the_queue_forgets_items_that_were_deleted() {
+    const ITEMS: usize = 10_000;
+    let mut client = Client::new(4 * MEGABYTE);
+    for number in (0..ITEMS).chain(0..ITEMS) {
+        client.ask(&format!("set {number} 0 0 0\n\n"));
+    }
+    assert_eq!((client.store.room.items(), client.store.room.evicted()), (ITEMS as u64, 0));
+    for number in 0..ITEMS {
+        assert_eq!(client.ask(&format!("delete {number}\n")), "DELETED\n");
+        // It may lag behind a little.
+        assert!(client.store.queue.entries() <= most_entries(&client) + ITEMS / 10);
+    }
+    assert!(client.store.queue.entries() <= SPARE_ENTRIES);
+    assert!(client.store.queue.capacity() < ITEMS / 2, "its memory is given back, too");
+}
+
+#[test]
+fn the_queue_forgets_items_that_were_overwritten() {
+    let mut client = Client::new(MEGABYTE);
+    for _ in 0..5_000 {
+        set(&mut client, "a");
+        assert!(client.store.queue.entries() <= most_entries(&client));
+    }
+}
+
+#[test]
+fn the_queue_forgets_no_item_that_is_there() {
+    let mut client = Client::new(MEGABYTE);
+    set(&mut client, "abcdefgh");
+    for _ in 0..5_000 {
+        set(&mut client, "x");
+    }
+    // There is no room for this beside any other item.
+    let most = MEGABYTE - cost(3, 0) as usize;
+    assert_eq!(client.ask(&format!("set big 0 0 {most}\n{}\n", "x".repeat(most))), "STORED\n");
+    assert_eq!(client.store.room.items(), 1);
+}
+
+#[test]
+fn a_read_spares_an_item_once() {
+    let mut client = room_for(2, 0);
+    set(&mut client, "ab");
+    there(&mut client, "a");
+    set(&mut client, "c");
+    set(&mut client, "d");
+    assert_eq!(there(&mut client, "abcd"), "cd");
+}
+
+#[test]
+fn an_expired_item_gives_way_though_it_was_read() {
+    let mut client = room_for(2, 0);
+    set(&mut client, "ab");
+    assert_eq!(client.ask("touch a -1\n"), "TOUCHED\n");
+    set(&mut client, "c");
+    assert_eq!(there(&mut client, "abc"), "bc");
+}
+
+#[test]
+fn an_item_that_finds_no_room_is_not_counted() {
+    let mut client = room_for(2, 0);
+    set(&mut client, "ab");
+    client.control.refuses_removals.store(true, SeqCst);
+    assert_eq!(client.ask("set c 0 0 1\n5\n"), FULL);
+    assert_eq!((client.store.room.items(), client.store.room.used()), (2, 2 * cost(1, 1)));
+    client.control.refuses_removals.store(false, SeqCst);
+    set(&mut client, "c");
+    assert_eq!(there(&mut client, "abc"), "bc");
+}
+
+/// A command that changes what `a` has, and its answer.
+const CHANGES: [(&str, &str); 6] = [
+    ("append a 0 0 1\n5\n", "STORED\n"),
+    ("prepend a 0 0 1\n5\n", "STORED\n"),
+    ("replace a 0 0 2\n55\n", "STORED\n"),
+    ("cas a 0 0 2 1\n55\n", "STORED\n"),
+    ("incr a 5\n", "10\n"),
+    ("ma a D5 v\n", "VA 2\n10\n"),
+];
+
+#[test]
+fn the_item_that_a_command_changes_does_not_give_way_to_it() {
+    for (change, answer) in CHANGES {
+        // The first item, `a`, has the token 1. The change needs the room of one other item.
+        let mut client = room_for(3, 1);
+        set(&mut client, "abc");
+        there(&mut client, "bc");
+        assert_eq!(client.ask(change), answer, "{change}");
+        assert_eq!(there(&mut client, "abc"), "ac", "{change}");
+    }
+}
+
+#[test]
+fn nor_does_it_give_way_to_another_command_meanwhile() {
+    for (change, answer) in CHANGES {
+        let mut client = room_for(4, 1);
+        set(&mut client, "abc");
+        assert_eq!(client.ask_beside(change, |mut other| set(&mut other, "d")), answer, "{change}");
+        assert_eq!(there(&mut client, "abcd"), "acd", "{change}");
+    }
+}
+
+#[test]
+fn nothing_gives_way_if_there_is_no_room_for_an_item_and_its_next_value() {
+    // `a`, the second item, has the token 2. With each command there is one byte too few.
+    let digits = "1".repeat(150);
+    for (command, more) in [
+        (format!("append a 0 0 150\n{digits}\n"), 149),
+        (format!("replace a 0 0 150\n{digits}\n"), 148),
+        (format!("cas a 0 0 150 2\n{digits}\n"), 148),
+        ("incr a 5\n".to_owned(), 0),
+    ] {
+        let mut client = room_for(2, more);
+        set(&mut client, "ba");
+        assert_eq!(client.ask(&command), FULL, "{command}");
+        assert_eq!(client.ask("get a\n"), "VALUE a 0 1\n5\nEND\n", "{command}");
+        assert_eq!((client.store.room.items(), client.store.room.used()), (2, 2 * cost(1, 1)), "{command}");
+    }
+}
+
+#[test]
+fn an_expired_item_gives_way_to_the_next_one_of_its_key() {
+    let mut client = room_for(1, 100);
+    assert_eq!(client.ask("set a 0 -1 1\n5\nadd a 0 0 1\n6\n"), "STORED\nSTORED\n");
+    assert_eq!(client.store.room.items(), 1);
+}
+
+#[test]
+fn large_values_that_left_are_freed_at_once() {
+    let mut client = Client::new(MEGABYTE);
+    for (size, sweeps) in [(10, 0), (100_000, 1), (10, 1), (100_000, 2), (100_000, 3)] {
+        assert_eq!(client.ask(&format!("set a 0 0 {size}\n{}\n", "x".repeat(size))), "STORED\n");
+        assert_eq!(client.control.sweeps.load(SeqCst), sweeps);
+    }
+}

@@ -1,0 +1,38 @@
+//! The index of items over Cefrodil's.
+use cefrodild::index::{Index, Outcome, Stamp, Token};
+use cefrodild::item::Item;
+use cefrodild::objects::Objects;
+use cefrodild::room::{cost, Room};
+use std::sync::Arc;
+
+/// Puts an item with these flags.
+fn put(objects: &Objects, room: &Room, key: &[u8], flags: u32) -> Token {
+    room.take(cost(key.len(), 1));
+    objects.put(key, Item::new(1, flags, u64::MAX, Box::new([0]))).expect("there is room")
+}
+
+/// The flags of the item with this stamp, if it is there.
+fn flags_of(objects: &Objects, stamp: Stamp) -> Option<u32> {
+    let mut flags = None;
+    objects.look_stamped(stamp, &mut |seen| flags = seen.expect("nobody disturbs it").map(|(item, _)| item.flags));
+    flags
+}
+
+#[test]
+fn a_stamp_names_one_put_of_one_key() {
+    let room = Arc::new(Room::new(1 << 20));
+    let objects = Objects::open(1000, 1, &room, None).expect("there is memory");
+    for key in [b"".as_slice(), b"a", b"12345678", &[b'k'; 250]] {
+        let stamp = |token| Stamp { hash: objects.hash_of(key), token };
+        let old = stamp(put(&objects, &room, key, 1));
+        assert_eq!(flags_of(&objects, old), Some(1));
+        let new = stamp(put(&objects, &room, key, 2));
+        assert_eq!((flags_of(&objects, old), flags_of(&objects, new)), (None, Some(2)));
+        assert_eq!(objects.remove_stamped(old), Ok(Outcome::Changed));
+        assert_eq!(flags_of(&objects, new), Some(2));
+        assert!(matches!(objects.remove_stamped(new), Ok(Outcome::Done(_))));
+        objects.look(&[key], &mut |_, seen| assert!(matches!(seen, Ok(None))));
+        assert_eq!((objects.remove_stamped(new), flags_of(&objects, new)), (Ok(Outcome::Absent), None));
+        assert_eq!((room.items(), room.used()), (0, 0), "its bytes are given back");
+    }
+}

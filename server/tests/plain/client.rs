@@ -1,0 +1,66 @@
+//! A client without a connection.
+use super::{Control, Plain};
+use cefrodild::dialogue::{Dialogue, Turn, MOST_WAITING};
+use cefrodild::options::{parse, Asked};
+use cefrodild::room::Room;
+use cefrodild::store::Store;
+use std::sync::Arc;
+
+pub const MEGABYTE: usize = 1 << 20;
+
+pub struct Client {
+    pub store: Arc<Store>,
+    pub control: Arc<Control>,
+    dialogue: Dialogue,
+    /// What it has sent and the store has not taken.
+    pub input: Vec<u8>,
+}
+
+impl Client {
+    /// The client of a store of its own, whose items may take so many bytes.
+    pub fn new(memory: usize) -> Client {
+        let (room, control) = (Arc::new(Room::new(memory as u64)), Arc::new(Control::default()));
+        let Ok(Asked::Serve(options)) = parse(["-t1".to_owned()]) else { panic!("these are options") };
+        let store = Arc::new(Store::new(Box::new(Plain::new(&room, &control)), room, options));
+        Client { store, control, dialogue: Dialogue::default(), input: Vec::new() }
+    }
+
+    /// Another client of the same store.
+    pub fn beside(&self) -> Client {
+        let (store, control) = (Arc::clone(&self.store), Arc::clone(&self.control));
+        Client { store, control, dialogue: Dialogue::default(), input: Vec::new() }
+    }
+
+    /// Sends bytes, and returns the answers and whether the connection ends.
+    pub fn ask_bytes(&mut self, bytes: &[u8]) -> (Vec<u8>, bool) {
+        self.input.extend_from_slice(bytes);
+        let mut answers = Vec::new();
+        loop {
+            let mut out = Vec::new();
+            let (done, turn) = self.dialogue.turn(&self.store, &self.input, &mut out);
+            assert!(out.len() < MOST_WAITING + MEGABYTE + 300, "the output is bounded");
+            answers.append(&mut out);
+            self.input.drain(..done);
+            match turn {
+                Turn::Needs(bytes) if self.input.len() < bytes => return (answers, false),
+                Turn::Ends => return (answers, true),
+                _ => {}
+            }
+        }
+    }
+
+    /// Sends this text, with line ends as the protocol has them.
+    pub fn ask(&mut self, text: &str) -> String {
+        let (answers, _) = self.ask_bytes(text.replace('\n', "\r\n").as_bytes());
+        String::from_utf8(answers).expect("the answers are text").replace("\r\n", "\n")
+    }
+
+    /// The same, and another client acts when the command has looked at its key and is about to change it.
+    pub fn ask_beside(&mut self, text: &str, act: impl FnOnce(Client) + Send + 'static) -> String {
+        let other = self.beside();
+        *self.control.meanwhile.lock().unwrap() = Some(Box::new(move || act(other)));
+        let answer = self.ask(text);
+        assert!(self.control.meanwhile.lock().unwrap().is_none(), "{text} changes something");
+        answer
+    }
+}

@@ -1,0 +1,94 @@
+//! The clock, deadlines, and what a flush hits.
+use cefrodild::clock::{unix_time, Clock, NEVER};
+use cefrodild::item::{Flushes, Item};
+
+const SECOND: u64 = 1_000_000_000;
+const DAYS_30: i64 = 60 * 60 * 24 * 30;
+
+fn item(born: u64, deadline: u64) -> Item {
+    Item::new(born, 0, deadline, Box::default())
+}
+
+/// Whether this is the deadline of what has so many seconds from a moment between these two.
+fn is_after(deadline: u64, seconds: u64, before: u64, after: u64) -> bool {
+    (before + seconds * SECOND..=after + seconds * SECOND).contains(&deadline)
+}
+
+#[test]
+fn times_to_live() {
+    let clock = Clock::new();
+    assert_eq!(clock.deadline(0), NEVER);
+    assert_eq!(clock.deadline(-1), 0);
+    assert_eq!(clock.deadline(i64::MIN), 0);
+    for seconds in [1, 100, DAYS_30] {
+        let (before, deadline, after) = (clock.now(), clock.deadline(seconds), clock.now());
+        assert!(is_after(deadline, seconds as u64, before, after), "{seconds}");
+    }
+    // From here on it is a time of day: one that is over, and one in a thousand seconds.
+    assert_eq!(clock.deadline(DAYS_30 + 1), 0);
+    let (before, deadline, after) = (clock.now(), clock.deadline(unix_time() as i64 + 1000), clock.now());
+    assert!((999..=1000).any(|seconds| is_after(deadline, seconds, before, after)));
+}
+
+#[test]
+fn the_time_that_is_left_is_rounded_up() {
+    let clock = Clock::new();
+    assert_eq!(clock.left(NEVER), -1);
+    assert_eq!(clock.left(0), 0);
+    loop {
+        let before = clock.now();
+        let left = clock.left(before + 100 * SECOND - 1);
+        // If the thread had to wait, less is left.
+        if clock.now() - before < SECOND - 1 {
+            assert_eq!(left, 100);
+            return;
+        }
+    }
+}
+
+#[test]
+fn an_item_lives_until_its_deadline() {
+    let (item, flushes) = (item(5, 10), Flushes::default());
+    assert!(item.is_live(9, &flushes) && !item.is_live(10, &flushes));
+    item.touch(20);
+    assert!(item.is_live(19, &flushes) && !item.is_live(20, &flushes));
+}
+
+#[test]
+fn a_flush_hits_what_was_made_by_then() {
+    let (old, new, flushes) = (item(5, NEVER), item(6, NEVER), Flushes::default());
+    flushes.flush(5, 5);
+    assert!(!old.is_live(7, &flushes) && new.is_live(7, &flushes));
+}
+
+#[test]
+fn a_flush_that_is_to_come_hits_nothing_before() {
+    let (item, flushes) = (item(5, NEVER), Flushes::default());
+    flushes.flush(10, 6);
+    assert!(item.is_live(9, &flushes) && !item.is_live(10, &flushes));
+}
+
+#[test]
+fn a_flush_replaces_one_that_is_to_come() {
+    let (item, flushes) = (item(5, NEVER), Flushes::default());
+    flushes.flush(10, 6);
+    flushes.flush(20, 7);
+    assert!(item.is_live(19, &flushes) && !item.is_live(20, &flushes));
+}
+
+#[test]
+fn a_flush_does_not_undo_one_that_has_come() {
+    let (item, flushes) = (item(5, NEVER), Flushes::default());
+    flushes.flush(10, 6);
+    // It came at 10.
+    flushes.flush(20, 11);
+    assert!(!item.is_live(12, &flushes));
+}
+
+#[test]
+fn nor_while_the_next_one_is_asked_for() {
+    let (item, flushes) = (item(5, NEVER), Flushes::default());
+    flushes.flush(5, 5);
+    flushes.flush_with(20, 6, || assert!(!item.is_live(7, &flushes)));
+    assert!(!item.is_live(7, &flushes));
+}
