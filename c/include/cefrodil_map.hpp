@@ -149,7 +149,7 @@ template <class V> class Table : private Packing<V> {
     }
 
     // Puts what the function makes of the key's value. If the key is absent, puts `first`, or nothing if that is null.
-    template <class Function> Found<V> update(const Identity &key, const V *first, Function &function) {
+    template <class Function> Found<V> update(const Identity &key, const V *first, const Function &function) {
         for (uint32_t repeat = 0;; repeat++) {
             const Entry entry = look(key);
             if (entry.status != Status::ok && (entry.status != Status::absent || first == nullptr)) {
@@ -210,7 +210,7 @@ template <class V> class Table : private Packing<V> {
         return write([&](Pass<words> &pass) { return pass.try_put_if(key.index, since, packed); }).status;
     }
     // Puts what the function makes of an entry's value, if the entry is still the same.
-    template <class Function> Found<V> renew(const Identity &key, const Entry &entry, Function &function) {
+    template <class Function> Found<V> renew(const Identity &key, const Entry &entry, const Function &function) {
         const V value = function(*entry.value);
         return {put_over(key, entry.since, pack(key, value)), value};
     }
@@ -303,12 +303,12 @@ template <class K, class V, class Hash = SipHash<K>> class map {
     // lost: if another thread is first, the function is called again, with the newer value. Unless ok, nothing was put. absent: the key is not there,
     // and the function was not called, unless another thread removed the key meanwhile. held, busy, changed: as by `insert`. spent, closed.
     template <class Function> [[nodiscard]] Found<V> update(Key key, Function function) {
-        return change(key, Found<V>{Status::closed, std::nullopt}, [&](const auto &known) { return inner_->table.update(known, nullptr, function); });
+        return update(key, nullptr, function);
     }
     // The same, but if the key is absent, puts `first`, and returns that. If another thread puts the key meanwhile, the function is called with the
     // value of that thread. Unless ok, nothing was put. The statuses are those of `update` and `insert`, without absent and present.
     template <class Function> [[nodiscard]] Found<V> update_or_insert(Key key, const V &first, Function function) {
-        return change(key, Found<V>{Status::closed, std::nullopt}, [&](const auto &known) { return inner_->table.update(known, &first, function); });
+        return update(key, &first, function);
     }
 
     // The key's value, or what the function computes, `V function()`, which is then put. Of several callers that miss the key one computes, and
@@ -367,7 +367,7 @@ template <class K, class V, class Hash = SipHash<K>> class map {
     Status set(std::optional<V> &value, Key key) const noexcept(never_throws) {
         return inner_ ? inner_->table.find(inner_->identities.of(key), value) : Status::closed;
     }
-    // Changes a key's entry by `make`, and detaches its flight first. `closed`: the answer of a map that is not open.
+    // Changes a key's entry by `make`, and outdates its flight first. `closed`: the answer of a map that is not open.
     template <class Result, class Change> Result change(Key key, Result closed, Change make) {
         if (!inner_) {
             return closed;
@@ -375,6 +375,18 @@ template <class K, class V, class Hash = SipHash<K>> class map {
         const inside::Identity known = inner_->identities.of(key);
         inner_->flights_of(known).outdate(known);
         return make(known);
+    }
+    // A flight may begin while the user's function runs: after another thread has removed the key. It may not see what the function does. So after
+    // the function it is outdated, too.
+    template <class Function> Found<V> update(Key key, const V *first, Function &function) {
+        return change(key, Found<V>{Status::closed, std::nullopt}, [&](const auto &known) {
+            const auto outdating = [&](const V &old) {
+                const V value = function(old);
+                inner_->flights_of(known).outdate(known);
+                return value;
+            };
+            return inner_->table.update(known, first, outdating);
+        });
     }
 
     std::unique_ptr<Inner> inner_{};

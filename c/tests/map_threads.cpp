@@ -277,6 +277,39 @@ static void computations() {
     MUST(!numbers.contains(100));
 }
 
+// While the function of an update runs, the key is erased, and then computed again. What is computed may not know what the function did, so it is
+// not put. Without `first` the update finds the key absent, and else puts that.
+template <class Update> static void computed_beside(Update update) {
+    Numbers numbers;
+    MUST(numbers.open({100}) == Status::ok && numbers.insert(7, 1).status == Status::ok);
+    std::atomic<bool> has_begun{false}, goes_on{false};
+    std::thread computing;
+    update(numbers, [&](uint64_t old) {
+        MUST(numbers.erase(7) == Status::ok);
+        computing = std::thread([&] {
+            const auto computed = numbers.find_or_compute(7, [&] {
+                for (has_begun = true; !goes_on;) {
+                    std::this_thread::yield();
+                }
+                return uint64_t(70);
+            });
+            MUST(computed.status == Status::stale && computed.value == 70);
+        });
+        while (!has_begun) {
+            std::this_thread::yield();
+        }
+        return old + 1;
+    });
+    goes_on = true;
+    computing.join();
+    MUST(numbers.find(7) != 70u);
+}
+
+static void computations_beside_updates() {
+    computed_beside([](Numbers &numbers, auto function) { MUST(numbers.update(7, function).status == Status::absent); });
+    computed_beside([](Numbers &numbers, auto function) { MUST(numbers.update_or_insert(7, 5, function).value == 5u); });
+}
+
 // Flights end in any order. The others are still told of changes.
 static void flights() {
     using cefrodil::inside::Flight, cefrodil::inside::Identity;
@@ -395,6 +428,7 @@ int main(int argc, char **argv) {
     held();
     erasures_of_another_key();
     computations();
+    computations_beside_updates();
     flights();
     exceptions();
     ends_of_threads();
