@@ -1,16 +1,16 @@
 // The flights of c/include/cefrodil_flights.hpp: the header's own code, with atomics, locks and fences of Relacy.
 //
-// A thread changes the store and erases the key, while another one computes the key's value from the store. Afterwards the map has no older value, and
-// no call that begins then returns one. The index is one entry. Its lookup is an acquire load and its writes acquire and release: no less than the
-// index promises.
+// A thread changes the store and erases the key, while two others compute the key's value from the store. Afterwards the map has no older value,
+// and no call that begins then returns one. The index is one entry. Its lookup is an acquire load, and its writes acquire and release: the index
+// promises no less.
 #ifndef CXX_FLIGHTS_HPP
 #define CXX_FLIGHTS_HPP
 
 #include "explored.hpp"
 
 struct CxxFlights : rl::test_suite<CxxFlights, 3> {
-    static constexpr std::array<std::string_view, 6> steps{
-        "fence of the change", "fence of the flight", "acquire of the count", "release of the count", "lock around check and put", "lock of the change"};
+    static constexpr std::array<std::string_view, 6> steps{"fence of the change",  "fence of the flight",       "acquire of the count",
+                                                           "release of the count", "lock around check and put", "lock of the change"};
 
     // The header's atomics and fences. The threads above 0 compute.
     struct Parts {

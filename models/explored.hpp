@@ -1,5 +1,5 @@
-// What the models are made of: atomics, locks and fences of Relacy, which runs a model's threads in one schedule after the other, and lets a load return
-// each older value that the memory model of C++ allows. They have the shape of the standard library's.
+// What the models are made of: atomics, locks and fences of Relacy, in the shape of the standard library's. Relacy runs a model's threads in one
+// schedule after the other, and lets a load return older values, as the memory model of C++ allows.
 #ifndef EXPLORED_HPP
 #define EXPLORED_HPP
 

@@ -1,5 +1,5 @@
-// Tries the schedules of each model, for .ci/models. As it is, a model must be right in each. With one step or order left out it must be wrong in one.
-// Arguments: how many schedules of each, and `tell` to print a line for each.
+// Tries schedules of each model, for .ci/models. As it is, a model must be right in each. With one step or order left out it must be wrong in one.
+// Arguments: how many schedules, and `tell` to print a line for each model and step.
 #include "cxx_flights.hpp"
 #include "cxx_passes.hpp"
 #include "rust_epochs.hpp"

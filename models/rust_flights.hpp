@@ -109,12 +109,12 @@ struct RustFlights : rl::test_suite<RustFlights, 3> {
                 return value;
             }
             if (Flight *const other = board(own)) {
-                found = wait(*other);                     //| Boarding::Other(flight) => found = flight.wait().or_else(|| inner.find(print, inner.looks())),
-                continue;
+                found = wait(*other);
+                continue;                                 //| Boarding::Other(flight) => found = flight.wait().or_else(|| inner.find(print, inner.looks())),
             }
-            const int value_then = compute(own);          //| Boarding::First(leader) => return inner.compute(print, &leader, inner.tries, make),
+            const int computed = compute(own);
             drop(own);
-            return value_then;
+            return computed;                              //| Boarding::First(leader) => return inner.compute(print, &leader, inner.tries, make),
         }
     }
     int compute(Flight &own) {

@@ -9,7 +9,8 @@
 #include "explored.hpp"
 
 struct RustSlots : rl::test_suite<RustSlots, 2> {
-    static constexpr std::array<std::string_view, 5> steps{"lock of take_free", "lock of give_back", "reset of LAST", "end of CLAIMS", "ids of their own"};
+    static constexpr std::array<std::string_view, 5> steps{"lock of take_free", "lock of give_back", "reset of LAST", "end of CLAIMS",
+                                                           "ids of their own"};
 
     using Guard = std::lock_guard<explored::Mutex>;
 

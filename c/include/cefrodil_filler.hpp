@@ -59,7 +59,8 @@ template <size_t Words> class Filler {
     Writer<Words> &writer() noexcept { return writer_; }
 
   private:
-    // Release: the store was changed before, and whose ticket knows the change sees the store's, too. The loads are relaxed: no other thread stores.
+    // Release: the store was changed before, so a thread whose ticket knows the change sees that of the store. The loads here are relaxed, since no
+    // other thread stores.
     void changed(uint64_t key) noexcept {
         const uint64_t count = count_->load(std::memory_order_relaxed);
         keys_[count % keys_.size()] = key;

@@ -290,7 +290,8 @@ static void as_the_other_copy(void) {
     region_of_other = open;
 }
 
-/* A block may be given back by another copy of the functions. Only the copy that cut it cuts its bytes again: when no block of the region is in use. */
+/* A block may be given back by another copy of the functions. Only the copy that cut it cuts its bytes again, when no block of the region is in
+ * use. */
 static void blocks_of_another_copy(void) {
     struct full first, second, third;
     const long before = in_use;

@@ -58,7 +58,8 @@ static bool change(cefrodil::map<uint64_t, uint64_t> &map, uint64_t round, uint6
     const Status erased = map.erase(7);
     wait_for(ended, round);
     const auto found = map.find(7);
-    return (erased == Status::ok || erased == Status::absent) && found.value_or(round) == round && map.erase(7) == (found ? Status::ok : Status::absent);
+    const bool is_right = (erased == Status::ok || erased == Status::absent) && found.value_or(round) == round;
+    return is_right && map.erase(7) == (found ? Status::ok : Status::absent);
 }
 
 // With an argument it makes so many rounds.
