@@ -18,14 +18,13 @@ template <class Parts> class FlightOf;
 // The flights for some keys of a map.
 template <class Parts> class alignas(64) FlightsOf {
   public:
-    // Call it before a change of this key. Each flight that is under way is told, or has put its value.
+    // Call it before a change of this key. Each flight that began before is told, or has put its value.
     //
     // Without the fence a processor may read `count_` while what the caller did before, such as a change of the store behind the map, still waits
-    // to be written. A flight that begins then would not be counted, and its function would read the old store. A flight has a fence of its own
-    // between its count and its function. So it is counted here, or its function sees what the caller did.
+    // to be written. A flight that begins then would not be counted, and its function would read the old store. A flight has a fence, too, between
+    // its count and its function. So it is counted here, or its function sees what the caller did.
     //
-    // A flight that is not counted any more has put its value. The load acquires what the end of the flight released, so the change comes after
-    // that put.
+    // A flight that is not counted any more has ended. The load acquires what that released, so the change comes after the flight's put.
     void outdate(const Identity &key) noexcept {
         outdate_each([&](const Flight &flight) { return is_same(flight.key_, key); });
     }

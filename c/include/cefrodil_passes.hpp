@@ -63,8 +63,8 @@ using FreePasses = FreePassesOf<Threads>;
 // What a thread used last: a slot, and of which passes. The thread has a claim to these, so no others have their address. It has no destructor, so
 // it is there until the thread's very end.
 //
-// Each shared library that hides its symbols has its own copy of this and of the claims, so a thread has a pass by each. So nothing here may be
-// known by a number that is counted in one copy.
+// Each shared library that hides its symbols has its own copy of this and of the claims, and a thread has a pass by each copy. Numbers that each
+// copy counts for itself would not tell the passes apart. Addresses do.
 struct LastUsed {
     const FreePasses *passes = nullptr;
     void *slot = nullptr;
