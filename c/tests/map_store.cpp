@@ -64,7 +64,7 @@ static bool change(cefrodil::map<uint64_t, uint64_t> &map, uint64_t round, uint6
 
 // With an argument it makes so many rounds.
 int main(int argc, char **argv) {
-    const uint64_t rounds = argc > 1 ? std::strtoull(argv[1], nullptr, 10) : 100000;
+    const uint64_t rounds = argc > 1 ? std::strtoull(argv[1], nullptr, 10) : 500000;
     const auto end = steady_clock::now() + std::chrono::seconds(5);
     cefrodil::map<uint64_t, uint64_t> map;
     MUST(map.open({100, 1}) == Status::ok);
