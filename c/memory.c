@@ -88,6 +88,8 @@ static void *placed(size_t size) {
     return at;
 }
 
+/* Each user's last access of the region comes before its subtraction, and all subtractions before the last one come before the free: that is
+ * what release and acquire would give, and a sequentially consistent subtraction gives both. */
 static void leave(struct region *region) {
     if (atomic_fetch_sub(&region->users, 1) == 1) {
         free(region->around);
@@ -115,7 +117,7 @@ static void *cut(size_t size) {
     char *at = NULL;
     pthread_mutex_lock(&lock);
     if (open_region != NULL && open_region->users == 1) {
-        /* Another copy gave back the last block. */
+        /* Another copy gave back the last block. The load has seen its subtraction, so whatever used that block comes before what is cut now. */
         open_region->used = LINE;
     }
     if (open_region == NULL || bytes > REGION - open_region->used) {

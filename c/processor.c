@@ -22,7 +22,8 @@ bool processor_supports_v2(void) {
 
 enum { UNKNOWN, OLDER, SUPPORTED };
 
-/* The processor is asked once. If several threads ask at once, they get the same answer. */
+/* The processor is asked once. If several threads ask at once, they get the same answer. It says nothing of other memory, so its load and its
+ * store are relaxed. */
 static bool is_supported(void) {
     static atomic_int answer = UNKNOWN;
     int known = atomic_load_explicit(&answer, memory_order_relaxed);

@@ -37,6 +37,8 @@ namespace inside {
 enum Counted : size_t { hits = CEFRODIL_OK, misses = CEFRODIL_ABSENT, busy = CEFRODIL_BUSY, held, evictions, refusals, all_counted };
 
 // What a handle has counted. One thread at a time adds, and any thread reads. The processor loads cache lines in pairs, so it has a pair of its own.
+// A number says nothing of other memory, so its loads and stores are relaxed. The lock of `Lines` orders those of two handles that have a line one
+// after the other.
 struct alignas(128) Line {
     std::array<std::atomic<uint64_t>, all_counted> numbers{};
     Line *next = nullptr; // the next line that no handle has

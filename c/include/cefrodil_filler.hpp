@@ -18,7 +18,8 @@ enum class Ticket : uint64_t {};
 class Tickets {
   public:
     explicit Tickets(std::shared_ptr<const std::atomic<uint64_t>> changes) noexcept : changes_(std::move(changes)) {}
-    // Take one before you read the store, and send it to the Filler with the value that you read.
+    // Take one before you read the store, and send it to the Filler with the value that you read. Acquire: your read comes after it, so it sees each
+    // change of the store that the ticket knows.
     Ticket take() const noexcept { return Ticket(changes_->load(std::memory_order_acquire)); }
 
   private:
@@ -58,6 +59,8 @@ template <size_t Words> class Filler {
     Writer<Words> &writer() noexcept { return writer_; }
 
   private:
+    // Release: the store was changed before, so a thread whose ticket knows the change sees that of the store. The loads here are relaxed, since no
+    // other thread stores.
     void changed(uint64_t key) noexcept {
         const uint64_t count = count_->load(std::memory_order_relaxed);
         keys_[count % keys_.size()] = key;

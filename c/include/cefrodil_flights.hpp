@@ -5,8 +5,7 @@
 
 #include "cefrodil_handle.hpp"
 #include "cefrodil_hash.hpp"
-#include <atomic>
-#include <condition_variable>
+#include "cefrodil_threads.hpp"
 #include <cstddef>
 #include <mutex>
 
@@ -14,55 +13,85 @@ namespace cefrodil {
 
 namespace inside {
 
-class Flight;
+template <class Parts> class FlightOf;
 
 // The flights for some keys of a map.
-class alignas(64) Flights {
+template <class Parts> class alignas(64) FlightsOf {
   public:
-    // Call it before a change of this key. A flight that begins later need not be told: its function sees what the caller did before. `count_` is read
-    // without the lock, so its steps are sequentially consistent.
-    void outdate(const Identity &key) noexcept;
+    // Call it before a change of this key. Each flight that began before is told, or has put its value.
+    //
+    // Without the fence a processor may read `count_` while what the caller did before, such as a change of the store behind the map, still waits
+    // to be written. A flight that begins then would not be counted, and its function would read the old store. A flight has a fence, too, between
+    // its count and its function. So it is counted here, or its function sees what the caller did.
+    //
+    // A flight that is not counted any more has ended. The load acquires what that released, so the change comes after the flight's put.
+    void outdate(const Identity &key) noexcept {
+        outdate_each([&](const Flight &flight) { return is_same(flight.key_, key); });
+    }
     // The same for a change of all keys.
-    void outdate_all() noexcept;
+    void outdate_all() noexcept {
+        outdate_each([](const Flight &) { return true; });
+    }
 
   private:
-    friend class Flight;
-    Flight *flight_of(const Identity &key) const noexcept;
+    using Flight = FlightOf<Parts>;
+    friend Flight;
 
-    std::mutex lock_{};
-    std::condition_variable ended_{};
+    Flight *flight_of(const Identity &key) const noexcept {
+        Flight *flight = first_;
+        while (flight != nullptr && !is_same(flight->key_, key)) {
+            flight = flight->next_;
+        }
+        return flight;
+    }
+    template <class IsChanged> void outdate_each(IsChanged is_changed) noexcept {
+        Parts::fence();
+        if (count_.load(std::memory_order_acquire) == 0) {
+            return;
+        }
+        const std::lock_guard<typename Parts::Mutex> guard(lock_);
+        for (Flight *flight = first_; flight != nullptr; flight = flight->next_) {
+            flight->is_outdated_ = flight->is_outdated_ || is_changed(*flight);
+        }
+    }
+
+    typename Parts::Mutex lock_{};
+    typename Parts::Condition ended_{};
     Flight *first_ = nullptr;
-    std::atomic<size_t> count_{0};
+    typename Parts::template Atomic<size_t> count_{0};
 };
 
 // The computation of one key's value by one caller. It lies on that caller's stack, so it also ends by an exception.
-class Flight {
+template <class Parts> class FlightOf {
   public:
     // Begins, or waits for the end of another flight for this key.
-    Flight(Flights &flights, const Identity &key) : flights_(flights), key_(key) {
-        std::unique_lock<std::mutex> guard(flights_.lock_);
+    FlightOf(FlightsOf<Parts> &flights, const Identity &key) : flights_(flights), key_(key) {
+        std::unique_lock<typename Parts::Mutex> guard(flights_.lock_);
         if (flights_.flight_of(key_) != nullptr) {
             flights_.ended_.wait(guard, [&] { return flights_.flight_of(key_) == nullptr; });
             return;
         }
         next_ = flights_.first_;
         flights_.first_ = this;
-        flights_.count_.fetch_add(1);
+        // Relaxed: the fence comes after it. `FlightsOf::outdate` says what for.
+        flights_.count_.fetch_add(1, std::memory_order_relaxed);
+        Parts::fence();
         has_begun_ = true;
     }
-    Flight(const Flight &) = delete;
-    Flight &operator=(const Flight &) = delete;
-    ~Flight() {
+    FlightOf(const FlightOf &) = delete;
+    FlightOf &operator=(const FlightOf &) = delete;
+    ~FlightOf() {
         if (!has_begun_) {
             return;
         }
-        const std::lock_guard<std::mutex> guard(flights_.lock_);
-        Flight **link = &flights_.first_;
+        const std::lock_guard<typename Parts::Mutex> guard(flights_.lock_);
+        FlightOf **link = &flights_.first_;
         while (*link != this) {
             link = &(*link)->next_;
         }
         *link = next_;
-        flights_.count_.fetch_sub(1);
+        // Release: who reads the count sees what this flight has put.
+        flights_.count_.fetch_sub(1, std::memory_order_release);
         flights_.ended_.notify_all();
     }
 
@@ -70,46 +99,21 @@ class Flight {
 
     // Puts what was computed by this call, unless the key was changed since the flight began. A change that begins meanwhile waits.
     template <class Put> [[nodiscard]] Status land(Put put) noexcept {
-        const std::lock_guard<std::mutex> guard(flights_.lock_);
+        const std::lock_guard<typename Parts::Mutex> guard(flights_.lock_);
         return is_outdated_ ? Status::stale : put();
     }
 
   private:
-    friend class Flights;
-    Flights &flights_;
+    friend FlightsOf<Parts>;
+    FlightsOf<Parts> &flights_;
     const Identity key_;
-    Flight *next_ = nullptr;
+    FlightOf *next_ = nullptr;
     bool has_begun_ = false;
     bool is_outdated_ = false;
 };
 
-inline Flight *Flights::flight_of(const Identity &key) const noexcept {
-    Flight *flight = first_;
-    while (flight != nullptr && !is_same(flight->key_, key)) {
-        flight = flight->next_;
-    }
-    return flight;
-}
-
-inline void Flights::outdate(const Identity &key) noexcept {
-    if (count_.load() == 0) {
-        return;
-    }
-    const std::lock_guard<std::mutex> guard(lock_);
-    if (Flight *const flight = flight_of(key)) {
-        flight->is_outdated_ = true;
-    }
-}
-
-inline void Flights::outdate_all() noexcept {
-    if (count_.load() == 0) {
-        return;
-    }
-    const std::lock_guard<std::mutex> guard(lock_);
-    for (Flight *flight = first_; flight != nullptr; flight = flight->next_) {
-        flight->is_outdated_ = true;
-    }
-}
+using Flights = FlightsOf<Threads>;
+using Flight = FlightOf<Threads>;
 
 } // namespace inside
 

@@ -24,8 +24,8 @@
 // as is known, with a chance of 2^-128.
 //
 // What you promise: no other call runs during open, close, a move or the destructor. All other calls may come from any thread at any time. No call
-// comes from a signal handler or a forked child. malloc, realloc and free belong to one allocator, whose blocks are aligned to 16 bytes. The program
-// is linked with the archive that belongs to this header.
+// comes from a signal handler or a forked child. A shared library that opened a map is not unloaded while a thread lives that called the map. malloc,
+// realloc and free belong to one allocator, whose blocks are aligned to 16 bytes. The program is linked with the archive that belongs to this header.
 //
 // No call throws, but what your hash and your functions throw. A call that other threads keep from its turn is repeated, up to `tries` times. At
 // first it spins, then it yields, then it sleeps. At last it returns `held` or `busy`. A call that fails has changed no key and no value; only
@@ -36,12 +36,10 @@
 #include "cefrodil.hpp"
 #include "cefrodil_flights.hpp"
 #include "cefrodil_hash.hpp"
-#include "cefrodil_packing.hpp"
-#include "cefrodil_passes.hpp"
+#include "cefrodil_table.hpp"
 #include <algorithm>
 #include <memory>
 #include <optional>
-#include <vector>
 
 namespace cefrodil {
 
@@ -58,18 +56,7 @@ struct MapOptions {
                             // 1,000 times at most, which takes over a tenth of a second.
 };
 
-// The answer of a lookup, and of an update. `value` is there if the status is ok.
-template <class V> struct Found {
-    Status status;
-    std::optional<V> value;
-};
-
-// The answer of a put. `renewed`: it overwrote the key's value. `evicted`: another key's entry is lost.
-struct Stored {
-    Status status;
-    bool renewed;
-    bool evicted;
-};
+// The answers of lookups, updates and puts are `Found` and `Stored`, in cefrodil_table.hpp.
 
 // The answer of find_or_compute. `value` is always there. If the status is not ok, it says why the value was not put.
 template <class V> struct Computed {
@@ -77,148 +64,6 @@ template <class V> struct Computed {
     V value;
     bool computed; // by this call
 };
-
-namespace inside {
-
-// The entries of a map.
-template <class V> class Table : private Packing<V> {
-    using Packing<V>::words, Packing<V>::pack, Packing<V>::set_value;
-    using typename Packing<V>::Words;
-
-  public:
-    // What is under a key's number. ok: the key's value, and the moment of its put. absent: if `since` is not 0, another key's entry is there.
-    struct Entry {
-        Status status;
-        std::optional<V> value;
-        uint64_t since;
-    };
-
-    [[nodiscard]] Status open(const MapOptions &options, uint32_t mix) noexcept {
-        return turns_.open(options.entries, options.shards, options.passes, options.tries, mix);
-    }
-
-    // A lookup for its value, which is set if the status is ok. If it stays busy, that is a miss.
-    Status find(const Identity &key, std::optional<V> &value) noexcept { return looked(key, turns_.looks(), value).status; }
-    // The same for a few keys, by one call of the index. Sets the values that are there. A key that is busy is looked up again by itself.
-    static constexpr size_t few = 32;
-    void find_few(const Identity *keys, size_t count, std::optional<V> *values) noexcept {
-        std::array<uint64_t, few> indices;
-        std::array<Words, few> found;
-        std::array<cefrodil_answer, few> answers;
-        std::transform(keys, keys + count, indices.begin(), [](const Identity &key) { return key.index; });
-        // An open pass has an answer for each key.
-        static_cast<void>(turns_.call([&](Slot<words> &slot) { return slot.pass.get_many(indices.data(), count, found.data(), answers.data()); }));
-        for (size_t i = 0; i < count; i++) {
-            if (answers[i].status == CEFRODIL_OK) {
-                static_cast<void>(set_value(keys[i], found[i], values[i]));
-            } else if (answers[i].status == CEFRODIL_BUSY) {
-                static_cast<void>(find(keys[i], values[i]));
-            }
-        }
-    }
-    // A lookup for a write, which is repeated as often as a put.
-    Entry look(const Identity &key) noexcept {
-        Entry entry{};
-        const Seen seen = looked(key, turns_.tries(), entry.value);
-        entry.status = seen.status, entry.since = seen.since;
-        return entry;
-    }
-
-    Stored put(const Identity &key, const V &value) noexcept {
-        const Words packed = pack(key, value);
-        return write([&](Pass<words> &pass) { return pass.try_put(key.index, packed); });
-    }
-
-    // Another key's entry under the same number gives way.
-    Stored put_if_absent(const Identity &key, const V &value) noexcept {
-        const Words packed = pack(key, value);
-        for (uint32_t repeat = 0;; repeat++) {
-            const Stored stored = write([&](Pass<words> &pass) { return pass.try_put_if_absent(key.index, packed); });
-            if (stored.status != Status::present) {
-                return stored;
-            }
-            const Entry entry = look(key);
-            if (entry.status != Status::absent) {
-                return {entry.status == Status::ok ? Status::present : entry.status, false, false};
-            }
-            const Status status = entry.since != 0 ? put_over(key, entry.since, packed) : Status::changed;
-            if (!is_lost(status) || repeat >= turns_.tries()) {
-                return {is_lost(status) ? Status::changed : status, false, status == Status::ok};
-            }
-        }
-    }
-
-    // Puts what the function makes of the key's value. If the key is absent, puts `first`, or nothing if that is null.
-    template <class Function> Found<V> update(const Identity &key, const V *first, Function &function) {
-        for (uint32_t repeat = 0;; repeat++) {
-            const Entry entry = look(key);
-            if (entry.status != Status::ok && (entry.status != Status::absent || first == nullptr)) {
-                return {entry.status, std::nullopt};
-            }
-            const Found<V> tried = entry.value ? renew(key, entry, function) : Found<V>{put_if_absent(key, *first).status, *first};
-            if (tried.status == Status::ok) {
-                return tried;
-            }
-            const bool is_late = is_lost(tried.status) || tried.status == Status::present;
-            if (!is_late || repeat >= turns_.tries()) {
-                return {is_late ? Status::changed : tried.status, std::nullopt};
-            }
-        }
-    }
-
-    Status erase(const Identity &key) noexcept {
-        for (uint32_t repeat = 0;; repeat++) {
-            const Entry entry = look(key);
-            if (entry.status != Status::ok) {
-                return entry.status;
-            }
-            const Status status = turns_.removal([&](Pass<words> &pass) { return pass.try_take_if(key.index, entry.since).status; });
-            if (status != Status::changed || repeat >= turns_.tries()) {
-                return status;
-            }
-        }
-    }
-
-    // Each shard is listed at a moment of its own, and each key that is listed is removed.
-    Status clear() noexcept {
-        std::vector<uint64_t> list;
-        Status status = turns_.repeated([&](Slot<words> &slot) { return slot.pass.try_entries(list); });
-        for (size_t at = 0; at < list.size() && status == Status::ok; at += 1 + words) {
-            status = turns_.removal([&](Pass<words> &pass) { return pass.try_remove(list[at]).status; });
-            status = status == Status::absent ? Status::ok : status;
-        }
-        return status;
-    }
-
-    const Turns<words> &turns() const noexcept { return turns_; }
-
-  private:
-    Seen looked(const Identity &key, uint32_t most, std::optional<V> &value) noexcept {
-        Words packed;
-        const Seen seen = turns_.get(key.index, most, packed);
-        return {seen.status == Status::ok && !set_value(key, packed, value) ? Status::absent : seen.status, seen.since};
-    }
-
-    // Whether the entry is another one than was looked up.
-    static bool is_lost(Status status) noexcept { return status == Status::changed || status == Status::absent; }
-
-    template <class Write> Stored write(Write make) noexcept {
-        const Written written = turns_.write(make);
-        return {written.status, written.renewed, written.evicted.has_value()};
-    }
-    Status put_over(const Identity &key, uint64_t since, const Words &packed) noexcept {
-        return write([&](Pass<words> &pass) { return pass.try_put_if(key.index, since, packed); }).status;
-    }
-    // Puts what the function makes of an entry's value, if the entry is still the same.
-    template <class Function> Found<V> renew(const Identity &key, const Entry &entry, Function &function) {
-        const V value = function(*entry.value);
-        return {put_over(key, entry.since, pack(key, value)), value};
-    }
-
-    Turns<words> turns_{};
-};
-
-} // namespace inside
 
 // A map of K to V. A hash of yours is `HashPair operator()(const K &key, const HashSecret &secret) const`. Several threads call it at once. Two keys
 // are confused if both words agree, so they must be independent. SipHash's are for strings and for types of more than 8 bytes. The second word of a
@@ -246,7 +91,10 @@ template <class K, class V, class Hash = SipHash<K>> class map {
         if (!inside::has_memory([&] { opened = std::make_unique<Inner>(std::move(hash)); })) {
             return Status::no_memory;
         }
-        const Status status = opened->identities.draw() ? opened->table.open(options, mix) : Status::no_random;
+        if (!opened->identities.draw()) {
+            return Status::no_random;
+        }
+        const Status status = opened->table.open(options.entries, options.shards, options.passes, options.tries, mix);
         if (status == Status::ok) {
             inner_ = std::move(opened);
         }
@@ -303,12 +151,12 @@ template <class K, class V, class Hash = SipHash<K>> class map {
     // lost: if another thread is first, the function is called again, with the newer value. Unless ok, nothing was put. absent: the key is not there,
     // and the function was not called, unless another thread removed the key meanwhile. held, busy, changed: as by `insert`. spent, closed.
     template <class Function> [[nodiscard]] Found<V> update(Key key, Function function) {
-        return change(key, Found<V>{Status::closed, std::nullopt}, [&](const auto &known) { return inner_->table.update(known, nullptr, function); });
+        return update(key, nullptr, function);
     }
     // The same, but if the key is absent, puts `first`, and returns that. If another thread puts the key meanwhile, the function is called with the
     // value of that thread. Unless ok, nothing was put. The statuses are those of `update` and `insert`, without absent and present.
     template <class Function> [[nodiscard]] Found<V> update_or_insert(Key key, const V &first, Function function) {
-        return change(key, Found<V>{Status::closed, std::nullopt}, [&](const auto &known) { return inner_->table.update(known, &first, function); });
+        return update(key, &first, function);
     }
 
     // The key's value, or what the function computes, `V function()`, which is then put. Of several callers that miss the key one computes, and
@@ -367,7 +215,7 @@ template <class K, class V, class Hash = SipHash<K>> class map {
     Status set(std::optional<V> &value, Key key) const noexcept(never_throws) {
         return inner_ ? inner_->table.find(inner_->identities.of(key), value) : Status::closed;
     }
-    // Changes a key's entry by `make`, and detaches its flight first. `closed`: the answer of a map that is not open.
+    // Changes a key's entry by `make`, and outdates its flight first. `closed`: the answer of a map that is not open.
     template <class Result, class Change> Result change(Key key, Result closed, Change make) {
         if (!inner_) {
             return closed;
@@ -375,6 +223,18 @@ template <class K, class V, class Hash = SipHash<K>> class map {
         const inside::Identity known = inner_->identities.of(key);
         inner_->flights_of(known).outdate(known);
         return make(known);
+    }
+    // A flight may begin while the user's function runs: after another thread has removed the key. It may not see what the function does. So after
+    // the function it is outdated, too.
+    template <class Function> Found<V> update(Key key, const V *first, Function &function) {
+        return change(key, Found<V>{Status::closed, std::nullopt}, [&](const auto &known) {
+            const auto outdating = [&](const V &old) {
+                const V value = function(old);
+                inner_->flights_of(known).outdate(known);
+                return value;
+            };
+            return inner_->table.update(known, first, outdating);
+        });
     }
 
     std::unique_ptr<Inner> inner_{};

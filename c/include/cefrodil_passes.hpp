@@ -4,6 +4,7 @@
 #define CEFRODIL_PASSES_HPP
 
 #include "cefrodil.hpp"
+#include "cefrodil_threads.hpp"
 #include <algorithm>
 #include <atomic>
 #include <chrono>
@@ -20,16 +21,17 @@ namespace inside {
 
 // Which passes no thread has. Pass 0 is the shared one, which no thread takes. A thread that has a pass keeps this, but not the passes: they may
 // end before the thread does.
-class FreePasses {
+template <class Parts> class FreePassesOf {
   public:
-    explicit FreePasses(size_t count) : free_(count - 1), count_(count - 1) { std::iota(free_.begin(), free_.end(), size_t(1)); }
+    explicit FreePassesOf(size_t count) : free_(count - 1), count_(count - 1) { std::iota(free_.begin(), free_.end(), size_t(1)); }
 
-    // A pass for this thread, or 0.
+    // A pass for this thread, or 0. What threads do with it one after the other is ordered by the lock. So the count needs no order: outside of the
+    // lock it only says whether to try.
     size_t take() noexcept {
         if (count() == 0) {
             return 0;
         }
-        const std::lock_guard<std::mutex> guard(lock_);
+        const std::lock_guard<typename Parts::Mutex> guard(lock_);
         const size_t left = count();
         if (left == 0) {
             return 0;
@@ -38,27 +40,33 @@ class FreePasses {
         return free_[left - 1];
     }
     void give(size_t pass) noexcept {
-        const std::lock_guard<std::mutex> guard(lock_);
+        const std::lock_guard<typename Parts::Mutex> guard(lock_);
         const size_t left = count();
         free_[left] = pass;
         count_.store(left + 1, std::memory_order_relaxed);
     }
     size_t count() const noexcept { return count_.load(std::memory_order_relaxed); }
 
-    // The passes have ended.
+    // The passes have ended. Relaxed: who sees it forgets its claim, and touches nothing of theirs.
     void end() noexcept { ended_.store(true, std::memory_order_relaxed); }
     bool have_ended() const noexcept { return ended_.load(std::memory_order_relaxed); }
 
   private:
-    std::mutex lock_{};
+    typename Parts::Mutex lock_{};
     std::vector<size_t> free_;
-    std::atomic<size_t> count_;
-    std::atomic<bool> ended_{false};
+    typename Parts::template Atomic<size_t> count_;
+    typename Parts::template Atomic<bool> ended_{false};
 };
 
-// What a thread used last: a slot of the passes with this number. It has no destructor, so it is there until the thread's very end.
+using FreePasses = FreePassesOf<Threads>;
+
+// What a thread used last: a slot, and of which passes. The thread has a claim to these, so no others have their address. It has no destructor, so
+// it is there until the thread's very end.
+//
+// Each shared library that hides its symbols has its own copy of this and of the claims, and a thread has a pass by each copy. Numbers that each
+// copy counts for itself would not tell the passes apart. Addresses do.
 struct LastUsed {
-    uint64_t number = 0;
+    const FreePasses *passes = nullptr;
     void *slot = nullptr;
     bool has_ended = false;
 };
@@ -103,7 +111,7 @@ class Claims {
 
     Claims() noexcept = default;
     ~Claims() {
-        last_used() = {0, nullptr, true};
+        last_used() = {nullptr, nullptr, true};
         for (const Claim &claim : claims_) {
             claim.passes->give(claim.pass);
         }
@@ -113,6 +121,7 @@ class Claims {
 
     // Claims to passes that have ended make room.
     void add(Claim claim) {
+        last_used() = {};
         const auto has_ended = [](const Claim &old) { return old.passes->have_ended(); };
         claims_.erase(std::remove_if(claims_.begin(), claims_.end(), has_ended), claims_.end());
         claims_.push_back(std::move(claim));
@@ -121,16 +130,11 @@ class Claims {
     std::vector<Claim> claims_{};
 };
 
-// No two openings have the same number, so a thread never follows what it kept of passes that have ended.
-inline uint64_t next_number() noexcept {
-    static std::atomic<uint64_t> last{0};
-    return last.fetch_add(1, std::memory_order_relaxed) + 1;
-}
-
 // A pass with what its thread alone writes, in pairs of cache lines of its own.
 template <size_t Words> struct alignas(128) Slot {
     Pass<Words> pass{};
-    std::atomic<int64_t> keys{0}; // how many keys its calls added, less those that they removed
+    // How many keys its calls added, less those that they removed. It is only added up, so its steps need no order.
+    std::atomic<int64_t> keys{0};
 
     void add(int64_t more) noexcept { keys.store(keys.load(std::memory_order_relaxed) + more, std::memory_order_relaxed); }
 };
@@ -192,7 +196,7 @@ template <size_t Words> class Passes {
     }
     Slot<Words> *own_slot() noexcept {
         const LastUsed &last = last_used();
-        return last.number == number_ ? static_cast<Slot<Words> *>(last.slot) : find_slot();
+        return last.passes == free_.get() ? static_cast<Slot<Words> *>(last.slot) : find_slot();
     }
     [[gnu::cold]] [[gnu::noinline]] Slot<Words> *find_slot() noexcept {
         Claims *const claims = Claims::of_thread();
@@ -200,12 +204,10 @@ template <size_t Words> class Passes {
         if (pass == 0) {
             return nullptr;
         }
-        last_used().number = number_;
-        last_used().slot = &slots_[pass];
+        last_used() = {free_.get(), &slots_[pass], false};
         return &slots_[pass];
     }
 
-    const uint64_t number_ = next_number();
     std::unique_ptr<Slot<Words>[]> slots_{};
     size_t count_ = 0;
     std::shared_ptr<FreePasses> free_{};

@@ -1,8 +1,10 @@
 /* The memory of the archive by itself: each block has room, is where it should be, and keeps its bytes while it grows and shrinks. Threads
- * may do so at once. What malloc refuses is reported, and changes nothing. All memory is given back. */
+ * may do so at once. What malloc refuses is reported, and changes nothing. All memory is given back. Only huge pages of a block or region are
+ * requested. */
 #define _GNU_SOURCE
 #include <stdatomic.h>
 #include <stdlib.h>
+#include <sys/mman.h>
 
 static _Thread_local long mallocs_left = -1;
 /* How many blocks of malloc are in use, and how many regions were allocated. */
@@ -26,13 +28,32 @@ static void free_counted(void *block) {
 
 static void *realloc_or_none(void *block, size_t size) { return mallocs_left == 0 ? NULL : realloc(block, size); }
 
+/* What was said of pages since `advices` was set to 0. */
+struct advice {
+    char *at;
+    size_t size;
+    int about;
+};
+static _Thread_local struct advice advised[4];
+static _Thread_local size_t advices;
+
+static int noted(void *at, size_t size, int about) {
+    if (advices < sizeof advised / sizeof *advised) {
+        advised[advices] = (struct advice){at, size, about};
+    }
+    advices++;
+    return madvise(at, size, about);
+}
+
 #define malloc malloc_or_none
 #define realloc realloc_or_none
 #define free free_counted
+#define madvise noted
 #include "../memory.c"
 #undef malloc
 #undef realloc
 #undef free
+#undef madvise
 #include "must.h"
 
 enum { BLOCKS = 64 };
@@ -85,9 +106,10 @@ static void make(struct full *full, size_t size, size_t align) {
     fill(full);
 }
 
+/* A block that shrinks may be said to keep more bytes than it will have. */
 static void resize(struct full *full, size_t size) {
     size_t kept = size < full->size ? size : full->size;
-    struct block made = rattle_realloc(full->at, kept, size, full->align);
+    struct block made = rattle_realloc(full->at, full->size, size, full->align);
     MUST(made.there);
     full->at = made.at, full->size = size;
     MUST(lies_right(full) && holds(full, kept));
@@ -205,6 +227,92 @@ static void regions_go_with_their_blocks(void) {
     MUST(in_use == before);
 }
 
+/* The huge pages from `first` to `end` were requested, and nothing else. */
+static int were_requested(uintptr_t first, uintptr_t end) {
+    return advices == 1 && advised[0].about == MADV_HUGEPAGE && (uintptr_t)advised[0].at == first && advised[0].size == end - first;
+}
+
+/* A block of 2 MB or more has the huge pages requested that it fills, and none beyond. */
+static void huge_pages_of_large_blocks(void) {
+    const size_t sizes[] = {2 << 20, (4 << 20) - 57, (4 << 20) - 56, (8 << 20) + 100};
+    for (size_t n = 0; n < sizeof sizes / sizeof *sizes; n++) {
+        struct full full;
+        advices = 0;
+        make(&full, sizes[n], 8);
+        uintptr_t first = (uintptr_t)full.at - 56;
+        MUST(first % (2 << 20) == 0 && were_requested(first, ((uintptr_t)full.at + sizes[n]) / (2 << 20) * (2 << 20)));
+        rattle_dealloc(full.at);
+    }
+}
+
+/* A region has 32 MB, and all its huge pages are requested. The first huge page of the first region isn't. */
+static void huge_pages_of_regions(void) {
+    struct full fulls[32];
+    advices = 0;
+    make(&fulls[0], 1 << 20, 8);
+    uintptr_t region = (uintptr_t)fulls[0].at / (2 << 20) * (2 << 20);
+    MUST(were_requested(region + (2 << 20), region + (32 << 20)));
+    for (int n = 1; n < 31; n++) {
+        make(&fulls[n], 1 << 20, 8);
+    }
+    MUST(advices == 1);
+    advices = 0;
+    make(&fulls[31], 1 << 20, 8);
+    region = (uintptr_t)fulls[31].at / (2 << 20) * (2 << 20);
+    MUST(were_requested(region, region + (32 << 20)));
+    for (int n = 0; n < 32; n++) {
+        rattle_dealloc(fulls[n].at);
+    }
+}
+
+/* If a region is full and malloc refuses the next one, no block is cut: it would end beyond the region. A smaller one still has room. */
+static void full_regions(void) {
+    struct full fulls[32];
+    for (int n = 0; n < 31; n++) {
+        make(&fulls[n], 1 << 20, 8);
+    }
+    mallocs_left = 0;
+    struct block made = rattle_alloc((1 << 20) + (1 << 19), 8);
+    MUST(!made.there);
+    make(&fulls[31], 1 << 19, 8);
+    mallocs_left = -1;
+    for (int n = 0; n < 32; n++) {
+        MUST(holds(&fulls[n], fulls[n].size));
+        rattle_dealloc(fulls[n].at);
+    }
+}
+
+/* What follows is done by another copy of the functions, which has an open region of its own, until this is called again. */
+static void as_the_other_copy(void) {
+    static struct region *region_of_other = NULL;
+    struct region *const open = open_region;
+    open_region = region_of_other;
+    region_of_other = open;
+}
+
+/* A block may be given back by another copy of the functions. Only the copy that cut it cuts its bytes again, when no block of the region is in
+ * use. */
+static void blocks_of_another_copy(void) {
+    struct full first, second, third;
+    const long before = in_use;
+    make(&first, 1 << 20, 8);
+    make(&second, 1 << 20, 8);
+    as_the_other_copy();
+    rattle_dealloc(second.at);
+    as_the_other_copy();
+    make(&third, 1 << 20, 8);
+    MUST(third.at == second.at + (second.at - first.at));
+    as_the_other_copy();
+    rattle_dealloc(first.at);
+    rattle_dealloc(third.at);
+    as_the_other_copy();
+    MUST(in_use == before + 1);
+    make(&third, 1 << 20, 8);
+    MUST(third.at == first.at);
+    rattle_dealloc(third.at);
+    MUST(in_use == before);
+}
+
 static void refused(void) {
     const size_t sizes[] = {0, 8, 5000, 1 << 20, 3 << 20};
     for (size_t from = 0; from < 5; from++) {
@@ -235,6 +343,10 @@ int main(void) {
     many_at_once();
     threads_at_once();
     regions_go_with_their_blocks();
+    huge_pages_of_large_blocks();
+    huge_pages_of_regions();
+    full_regions();
+    blocks_of_another_copy();
     refused();
     return outcome("blocks");
 }

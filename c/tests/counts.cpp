@@ -133,6 +133,39 @@ static void desks() {
     MUST(passes[0].leave(left[0], back) == Status::ok && back.get(9).status == Status::absent && are(left[0].meter().counts(), {0, 1, 0, 0, 0, 0}));
 }
 
+// Handles that close at once in threads keep their counts. ThreadSanitizer sees whether they do so one after the other.
+static void closed_at_once() {
+    std::vector<Pass<1>> passes;
+    MUST(open_desk(shape_of(2, most), 8, passes) == Status::ok);
+    const Meter meter = passes[0].meter();
+    std::vector<std::thread> threads;
+    for (Pass<1> &pass : passes) {
+        threads.emplace_back([&pass] {
+            MUST(pass.get(9).status == Status::absent);
+            pass = {};
+        });
+    }
+    for (std::thread &thread : threads) {
+        thread.join();
+    }
+    MUST(are(meter.counts(), {0, 8, 0, 0, 0, 0}));
+}
+
+// A batch that is refused as such has put nothing, so whatever its answers say is not counted.
+static void refused_batches() {
+    Writer<1> writer;
+    std::vector<Reader<1>> readers;
+    MUST(open(shape_of(2, most), 1, writer, readers) == Status::ok);
+    const uint64_t keys[2] = {1, 2};
+    const std::array<uint64_t, 1> values[2] = {{1}, {2}};
+    cefrodil_put_answer answers[2]{};
+    for (cefrodil_put_answer &answer : answers) {
+        answer.status = CEFRODIL_SPENT, answer.reply.put = CEFRODIL_PUT_EVICTED;
+    }
+    MUST(cefrodil_close(writer.raw()) == CEFRODIL_OK && writer.put_many(keys, 2, values, answers) == Status::closed);
+    MUST(are(readers[0].meter().counts(), {0, 0, 0, 0, 0, 0}));
+}
+
 static void add(Counts &to, const Counts &more) {
     to.hits += more.hits;
     to.misses += more.misses;
@@ -233,6 +266,8 @@ int main() {
     no_path();
     all_recent();
     desks();
+    closed_at_once();
+    refused_batches();
     std::vector<Pass<1>> passes;
     MUST(open_desk(shape_of(8, most), 4, passes) == Status::ok);
     threads(std::move(passes));

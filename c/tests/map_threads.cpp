@@ -70,6 +70,38 @@ static void passes() {
     MUST(at_once == 0 && own == 0 && two.call(is_own));
 }
 
+// No two threads have the same pass, in whatever order passes come back.
+static void passes_in_any_order() {
+    cefrodil::inside::FreePasses passes(4);
+    const size_t one = passes.take(), two = passes.take();
+    passes.give(one);
+    const size_t three = passes.take(), four = passes.take();
+    MUST(two != three && two != four && three != four && passes.take() == 0 && passes.count() == 0);
+    MUST(two != 0 && three != 0 && four != 0 && std::max({two, three, four}) == 3);
+}
+
+// An object of a thread that calls when the thread has given its pass back. Another thread may have it by then, so the call has the shared one.
+struct CalledLast {
+    cefrodil::inside::Passes<1> *passes = nullptr;
+    ~CalledLast() {
+        const auto is_shared = [&](cefrodil::inside::Slot<1> &slot) { return &slot.pass == &passes->shared(); };
+        MUST(passes == nullptr || (passes->free_count() == 1 && passes->call(is_shared)));
+    }
+};
+
+static void passes_at_the_end() {
+    cefrodil_shape shape{};
+    cefrodil::inside::Passes<1> two;
+    MUST(cefrodil_shape_for_shards(100, 1, &shape) == CEFRODIL_OK && two.open(shape, 1, 2) == Status::ok);
+    std::thread([&] {
+        static thread_local CalledLast last; // before the first call, so it goes after what that call makes
+        last.passes = &two;
+        two.call([](cefrodil::inside::Slot<1> &) {});
+        MUST(two.free_count() == 0);
+    }).join();
+    MUST(two.free_count() == 1);
+}
+
 // A value of seven words, each of which says the same: its key, the thread that put it, and the number of that put.
 struct Told {
     uint64_t words[7];
@@ -277,6 +309,39 @@ static void computations() {
     MUST(!numbers.contains(100));
 }
 
+// While the function of an update runs, the key is erased, and then computed again. What is computed may not know what the function did, so it is
+// not put. Without `first` the update finds the key absent, and else puts that.
+template <class Update> static void computed_beside(Update update) {
+    Numbers numbers;
+    MUST(numbers.open({100}) == Status::ok && numbers.insert(7, 1).status == Status::ok);
+    std::atomic<bool> has_begun{false}, goes_on{false};
+    std::thread computing;
+    update(numbers, [&](uint64_t old) {
+        MUST(numbers.erase(7) == Status::ok);
+        computing = std::thread([&] {
+            const auto computed = numbers.find_or_compute(7, [&] {
+                for (has_begun = true; !goes_on;) {
+                    std::this_thread::yield();
+                }
+                return uint64_t(70);
+            });
+            MUST(computed.status == Status::stale && computed.value == 70);
+        });
+        while (!has_begun) {
+            std::this_thread::yield();
+        }
+        return old + 1;
+    });
+    goes_on = true;
+    computing.join();
+    MUST(numbers.find(7) != 70u);
+}
+
+static void computations_beside_updates() {
+    computed_beside([](Numbers &numbers, auto function) { MUST(numbers.update(7, function).status == Status::absent); });
+    computed_beside([](Numbers &numbers, auto function) { MUST(numbers.update_or_insert(7, 5, function).value == 5u); });
+}
+
 // Flights end in any order. The others are still told of changes.
 static void flights() {
     using cefrodil::inside::Flight, cefrodil::inside::Identity;
@@ -294,6 +359,22 @@ static void flights() {
     MUST(ends(*two) == Status::ok && ends(three) == Status::stale);
     flights.outdate_all();
     MUST(ends(*two) == Status::stale);
+}
+
+// Of so many flights, only that of the key which is changed is told.
+static void told_flights(uint64_t count) {
+    using cefrodil::inside::Flight, cefrodil::inside::Identity;
+    for (uint64_t changed = 0; changed < count; changed++) {
+        cefrodil::inside::Flights flights;
+        std::array<std::optional<Flight>, 4> begun;
+        for (uint64_t key = 0; key < count; key++) {
+            begun[key].emplace(flights, Identity{key, 1});
+        }
+        flights.outdate({changed, 1});
+        for (uint64_t key = 0; key < count; key++) {
+            MUST(begun[key]->land([] { return Status::ok; }) == (key == changed ? Status::stale : Status::ok));
+        }
+    }
 }
 
 // A function that throws does so to its caller alone, and then one of the others computes.
@@ -387,6 +468,8 @@ int main(int argc, char **argv) {
     fewer = argc > 1 ? std::strtoull(argv[1], nullptr, 10) : 1;
     alarm(240); // so that a flight which never ends fails the test
     passes();
+    passes_in_any_order();
+    passes_at_the_end();
     values(8);
     values(2);
     updates(8);
@@ -395,7 +478,11 @@ int main(int argc, char **argv) {
     held();
     erasures_of_another_key();
     computations();
+    computations_beside_updates();
     flights();
+    for (uint64_t count = 1; count <= 4; count++) {
+        told_flights(count);
+    }
     exceptions();
     ends_of_threads();
     ends_of_maps();

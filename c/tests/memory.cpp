@@ -257,6 +257,34 @@ static void turns_of_others(void (*meanwhile)(), uint32_t tries) {
     std::vector<std::thread>().swap(others);
 }
 
+static std::atomic<int> step{0};
+
+static void wait_for_step(int wanted) {
+    while (step < wanted) {
+        std::this_thread::yield();
+    }
+}
+
+// A value that is computed while `clear` begins is not put, however far `clear` is. Here it would be put while the list is made.
+static void computation_beside_clear() {
+    MUST(turns.open({100, 1, 8, 0}) == Status::ok && turns.insert(7, 70).status == Status::ok);
+    others.emplace_back([] {
+        const auto computed = turns.find_or_compute(9, [] {
+            step = 1;
+            wait_for_step(2);
+            return uint64_t(90);
+        });
+        MUST(computed.status == Status::stale);
+    });
+    wait_for_step(1);
+    in_turn = [] {
+        step = 2;
+        others[0].join();
+    };
+    MUST(turns.clear() == Status::ok && in_turn == nullptr && turns.size() == 0 && turns.close() == Status::ok);
+    std::vector<std::thread>().swap(others);
+}
+
 static void by_maps() {
     map<uint64_t, uint64_t> numbers;
     MUST(at_last(6, [&] { return numbers.open({100, 4, 4}); }, [&] { return !numbers.is_open(); }));
@@ -267,6 +295,7 @@ static void by_maps() {
     turns_of_others(held_at_once, 0);
     turns_of_others(held_a_while, UINT32_MAX);
     turns_of_others(held_computation, UINT32_MAX);
+    computation_beside_clear();
 }
 
 int main() {

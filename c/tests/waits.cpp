@@ -20,6 +20,21 @@ static cefrodil_status some_put(cefrodil_handle *pass, uint64_t key, const uint6
     *reply = cefrodil_reply{};
     return is_disturbed() ? cefrodil_status(CEFRODIL_HELD) : cefrodil_put_of_width(pass, key, value, words, reply);
 }
+static cefrodil_status some_remove(cefrodil_handle *pass, uint64_t key, cefrodil_reply *reply) {
+    *reply = cefrodil_reply{};
+    return is_disturbed() ? cefrodil_status(CEFRODIL_HELD) : cefrodil_remove(pass, key, reply);
+}
+// Before so many removals on a condition the key is put anew, as by another thread.
+static uint32_t overtaken = 0;
+
+static cefrodil_status some_take_if(cefrodil_handle *pass, uint64_t key, uint64_t since, uint64_t *old, size_t words, cefrodil_reply *reply) {
+    if (overtaken != 0) {
+        overtaken--;
+        MUST(cefrodil_get_or_desk_of_width(pass, key, old, words, reply) == CEFRODIL_OK);
+        MUST(cefrodil_put_of_width(pass, key, old, words, reply) == CEFRODIL_OK);
+    }
+    return cefrodil_take_if(pass, key, since, old, words, reply);
+}
 // Each key counts as a call.
 static cefrodil_status some_get_many(cefrodil_handle *pass, const uint64_t *keys, size_t count, uint64_t *values, size_t words,
                                      cefrodil_answer *answers, size_t answer_count) {
@@ -32,6 +47,8 @@ static cefrodil_status some_get_many(cefrodil_handle *pass, const uint64_t *keys
 #define cefrodil_get_or_desk_of_width some_get_or_desk
 #define cefrodil_put_of_width some_put
 #define cefrodil_get_many_or_none some_get_many
+#define cefrodil_remove some_remove
+#define cefrodil_take_if some_take_if
 #include "cefrodil_map.hpp"
 
 using cefrodil::Status;
@@ -95,6 +112,28 @@ static void lookups() {
     MUST(map.erase(1) == Status::busy && made == 10001 && waited(193, 9800) && map.find(1) == 10);
 }
 
+// An erasure that is overtaken each time says so, and the key is still there.
+static void overtaken_erasures() {
+    cefrodil::map<int, int> map;
+    MUST(map.open({100, 1, 8, 5}) == Status::ok && map.insert(1, 10).status == Status::ok);
+    overtaken = 6;
+    MUST(map.erase(1) == Status::changed && overtaken == 0 && map.find(1) == 10 && map.size() == 1);
+    overtaken = 5;
+    MUST(map.erase(1) == Status::ok && overtaken == 0 && !map.find(1) && map.size() == 0);
+}
+
+// If one removal is held, `clear` ends with that.
+static void held_clear() {
+    cefrodil::map<int, int> map;
+    MUST(map.open({100, 1, 8, 0}) == Status::ok);
+    for (int key = 0; key < 3; key++) {
+        MUST(map.insert(key, key).status == Status::ok);
+    }
+    disturb(1);
+    MUST(map.clear() == Status::held && made == 1 && map.size() == 3);
+    MUST(map.clear() == Status::ok && made == 4 && map.size() == 0);
+}
+
 // Of many keys, those that are busy are looked up again.
 static void many_keys() {
     cefrodil::map<int, int> map;
@@ -118,6 +157,8 @@ int main() {
     calls({100}, 10000, 193, 9800);
     calls({100, 16, 64, 50}, 50, 43, 0);
     lookups();
+    overtaken_erasures();
+    held_clear();
     many_keys();
     return outcome("waits");
 }

@@ -1,0 +1,35 @@
+// What cefrodil_flights.hpp and cefrodil_passes.hpp share between threads is made of these types. The programs of models/ put others in their
+// place, to try one schedule after the other.
+#ifndef CEFRODIL_THREADS_HPP
+#define CEFRODIL_THREADS_HPP
+
+#include <atomic>
+#include <condition_variable>
+#include <mutex>
+
+namespace cefrodil {
+
+namespace inside {
+
+struct Threads {
+    template <class T> using Atomic = std::atomic<T>;
+    using Mutex = std::mutex;
+    using Condition = std::condition_variable;
+
+#ifdef __SANITIZE_THREAD__
+// ThreadSanitizer does not see the fence. Without it no access of the map is a race.
+#pragma GCC diagnostic push
+#pragma GCC diagnostic ignored "-Wtsan"
+#endif
+    // Of two threads that call it, the later one sees afterwards what the earlier one wrote before.
+    static void fence() noexcept { std::atomic_thread_fence(std::memory_order_seq_cst); }
+#ifdef __SANITIZE_THREAD__
+#pragma GCC diagnostic pop
+#endif
+};
+
+} // namespace inside
+
+} // namespace cefrodil
+
+#endif

@@ -1,0 +1,143 @@
+// What the models are made of: atomics, locks and fences of Relacy, in the shape of the standard library's. Relacy runs a model's threads in one
+// schedule after the other, and lets a load return older values, as the memory model of C++ allows.
+#ifndef EXPLORED_HPP
+#define EXPLORED_HPP
+
+#include "cefrodil_flights.hpp"
+#include "cefrodil_passes.hpp"
+#include <array>
+#include <optional>
+#include <ostream>
+#include <string_view>
+#include <vector>
+
+#include <relacy/relacy.hpp>
+// Its macros would change what follows.
+#undef new
+#undef delete
+#undef malloc
+#undef calloc
+#undef realloc
+#undef free
+#undef assert
+#undef errno
+#undef memory_order_relaxed
+#undef memory_order_consume
+#undef memory_order_acquire
+#undef memory_order_release
+#undef memory_order_acq_rel
+#undef memory_order_seq_cst
+
+namespace explored {
+
+// The step or the order that a run leaves out. A model asks for each by its name.
+inline std::string_view left_out;
+inline bool was_asked;
+
+inline bool without(std::string_view name) {
+    was_asked = was_asked || name == left_out;
+    return name == left_out;
+}
+
+inline unsigned this_thread() { return static_cast<unsigned>(rl::ctx().threadx_->index_); }
+
+inline rl::memory_order order_of(std::memory_order order) {
+    switch (order) {
+    case std::memory_order_relaxed: return rl::mo_relaxed;
+    case std::memory_order_acquire: return rl::mo_acquire;
+    case std::memory_order_release: return rl::mo_release;
+    case std::memory_order_acq_rel: return rl::mo_acq_rel;
+    default: return rl::mo_seq_cst;
+    }
+}
+
+template <class T> class Atomic {
+  public:
+    explicit Atomic(T value) : own_(value) {}
+    T load(std::memory_order order) const { return own_.load(order_of(order), $); }
+    void store(T value, std::memory_order order) { own_.store(value, order_of(order), $); }
+    T exchange(T value, std::memory_order order) { return own_.exchange(value, order_of(order), $); }
+    T fetch_add(T more, std::memory_order order) { return own_.fetch_add(more, order_of(order), $); }
+    T fetch_sub(T less, std::memory_order order) { return own_.fetch_sub(less, order_of(order), $); }
+    bool compare_exchange(T expected, T value, std::memory_order order) { return own_.compare_exchange_strong(expected, value, order_of(order), $); }
+
+  private:
+    rl::atomic<T> own_;
+};
+
+class Mutex {
+  public:
+    void lock() {
+        if (!is_off()) {
+            own_.lock($);
+        }
+    }
+    void unlock() {
+        if (!is_off()) {
+            own_.unlock($);
+        }
+    }
+
+    // While it lives, this thread takes no lock, if the run leaves that step out.
+    class Off {
+      public:
+        explicit Off(std::string_view step) : thread_(this_thread()) { off()[thread_] = without(step); }
+        ~Off() { off()[thread_] = false; }
+        Off(const Off &) = delete;
+        Off &operator=(const Off &) = delete;
+
+      private:
+        const unsigned thread_;
+    };
+
+  private:
+    friend class Condition;
+    static std::array<bool, 8> &off() {
+        static std::array<bool, 8> all{};
+        return all;
+    }
+    static bool is_off() { return off()[this_thread()]; }
+
+    rl::mutex own_{};
+};
+
+class Condition {
+  public:
+    template <class Over> void wait(std::unique_lock<Mutex> &guard, Over is_over) {
+        while (!is_over()) {
+            own_.wait(guard.mutex()->own_, $);
+        }
+    }
+    void notify_all() { own_.notify_all($); }
+
+  private:
+    rl::condition_variable own_{};
+};
+
+inline void fence() { rl::atomic_thread_fence(rl::mo_seq_cst, $); }
+
+// Memory without atomic steps: two accesses that no order keeps apart are an error, unless both are reads.
+template <class T> class Plain {
+  public:
+    explicit Plain(T value) : own_(value) {}
+    T get() const { return own_($).load(); }
+    void set(T value) { own_($).store(value); }
+
+  private:
+    rl::var<T> own_;
+};
+
+// Tries so many schedules, drawn by Relacy's own numbers, which are the same in each run. Returns what is wrong in one, or nothing.
+template <class Model> std::string_view tried(rl::iteration_t schedules) {
+    std::ostream dropped(nullptr);
+    rl::ostringstream state;
+    rl::test_params params;
+    params.iteration_count = schedules;
+    params.output_stream = params.progress_stream = &dropped;
+    const rl::test_result_e result = rl::run_test<Model, rl::random_scheduler<Model::params::thread_count>>(params, state, false);
+    return result == rl::test_result_success ? "" : rl::test_result_str(result);
+}
+
+} // namespace explored
+
+#endif

@@ -1,0 +1,45 @@
+// Tries schedules of each model, for .ci/models. As it is, a model must be right in each. With one step or order left out it must be wrong in one.
+// Arguments: how many schedules, and `tell` to print a line for each model and step.
+#include "cxx_flights.hpp"
+#include "cxx_passes.hpp"
+#include "rust_epochs.hpp"
+#include "rust_flights.hpp"
+#include "rust_slots.hpp"
+#include <cstdio>
+#include <cstdlib>
+#include <string>
+
+static int faults = 0;
+static bool tells = false;
+
+static void told(const char *model, std::string_view step, std::string_view wrong, bool is_expected) {
+    faults += !is_expected;
+    if (tells || !is_expected) {
+        const std::string left_out = step.empty() ? "" : ", " + std::string(step) + " left out";
+        const std::string found = wrong.empty() ? "right in each schedule" : std::string(wrong);
+        std::printf("models: %s%s: %s%s\n", model, left_out.c_str(), found.c_str(), is_expected ? "" : ", which must not be");
+    }
+}
+
+template <class Model> static void explore(const char *name, rl::iteration_t schedules) {
+    explored::left_out = "";
+    const std::string_view wrong = explored::tried<Model>(schedules);
+    told(name, "", wrong, wrong.empty());
+    for (const std::string_view step : Model::steps) {
+        explored::left_out = step;
+        explored::was_asked = false;
+        const std::string_view found = explored::tried<Model>(schedules);
+        told(name, step, found, !found.empty() && explored::was_asked);
+    }
+}
+
+int main(int argc, char **argv) {
+    const rl::iteration_t schedules = argc > 1 ? std::strtoull(argv[1], nullptr, 10) : 20000;
+    tells = argc > 2 && argv[2] == std::string("tell");
+    explore<CxxFlights>("C++ flights", schedules);
+    explore<CxxPasses>("C++ passes", schedules);
+    explore<RustFlights>("Rust flights", schedules);
+    explore<RustSlots>("Rust slots", schedules);
+    explore<RustEpochs>("Rust epochs", schedules);
+    return faults == 0 ? 0 : 1;
+}

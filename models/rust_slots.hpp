@@ -1,0 +1,112 @@
+// How threads of the crate `cefrodil-map` claim slots and give them back, line by line. .ci/models checks that each quoted line is still there.
+//| in map/src/slots.rs
+//
+// Two threads call two maps, each of which has one slot. A slot is used by one thread at a time: also by the last call of a thread, whose claims
+// are given back by then.
+#ifndef RUST_SLOTS_HPP
+#define RUST_SLOTS_HPP
+
+#include "explored.hpp"
+
+struct RustSlots : rl::test_suite<RustSlots, 2> {
+    static constexpr std::array<std::string_view, 5> steps{"lock of take_free", "lock of give_back", "reset of LAST", "end of CLAIMS",
+                                                           "ids of their own"};
+
+    using Guard = std::lock_guard<explored::Mutex>;
+
+    struct Slots {
+        size_t id;
+        explored::Plain<int> pass{0}; // of slot 0: what the thread that has claimed it uses
+        explored::Mutex lock{};
+        std::vector<size_t> free{0};
+        explored::Atomic<size_t> free_count{1};
+
+        explicit Slots(size_t number) : id(number) {}
+
+        std::optional<size_t> take_free() {
+            if (free_count.load(std::memory_order_relaxed) == 0) {        //| if self.free_count.load(Relaxed) == 0 {
+                return std::nullopt;
+            }
+            const explored::Mutex::Off off("lock of take_free");
+            const Guard guard(lock);                                      //| let mut free = lock(&self.free);
+            std::optional<size_t> index;
+            if (!free.empty()) {
+                index = free.back(), free.pop_back();                     //| let index = free.pop();
+            }
+            free_count.store(free.size(), std::memory_order_relaxed);     //| self.free_count.store(free.len(), Relaxed);
+            return index;
+        }
+        void give_back(size_t index) {
+            const explored::Mutex::Off off("lock of give_back");
+            const Guard guard(lock);                                      //| let mut free = lock(&self.free);
+            free.push_back(index);                                        //| free.push(index);
+            free_count.store(free.size(), std::memory_order_relaxed);     //| self.free_count.store(free.len(), Relaxed);
+        }
+    };
+
+    struct Claim {
+        Slots *slots;
+        size_t index;
+    };
+
+    // What a thread has: LAST and CLAIMS.
+    struct Thread {
+        size_t id = 0, index = 0;
+        std::vector<Claim> claims{};
+        bool has_ended = false;
+
+        std::optional<size_t> index_of(Slots &slots) {
+            if (id == slots.id) {                                         //| if id == self.id {
+                return index;                                             //| Some(index)
+            }
+            const std::optional<size_t> found = find(slots);
+            if (found) {
+                id = slots.id, index = *found;                            //| LAST.set((self.id, index));
+            }
+            return found;
+        }
+        std::optional<size_t> find(Slots &slots) {
+            if (has_ended) {                                              //| let index = CLAIMS.try_with(|claims| claims.find(self)).ok()??;
+                return std::nullopt;
+            }
+            for (const Claim &claim : claims) {
+                if (claim.slots->id == slots.id) {                        //| if let Some(claim) = claims.iter().find(|claim| claim.id == slots.id) {
+                    return claim.index;                                   //| return Some(claim.index);
+                }
+            }
+            const std::optional<size_t> taken = slots.take_free();        //| let index = slots.take_free()?;
+            if (taken) {
+                claims.push_back({&slots, *taken});                       //| claims.push(Claim { id: slots.id, index, slots: home });
+            }
+            return taken;
+        }
+        void drop() {
+            has_ended = !explored::without("end of CLAIMS");
+            if (!explored::without("reset of LAST")) {
+                id = 0;                                                   //| LAST.set((0, 0));
+            }
+            for (const Claim &claim : claims) {                           //| for claim in self.0.take() {
+                claim.slots->give_back(claim.index);                      //| slots.give_back(claim.index);
+            }
+            claims.clear();
+        }
+    };
+
+    Slots one{1}, other{explored::without("ids of their own") ? size_t(1) : size_t(2)};
+
+    static void call(Thread &thread, Slots &slots) {
+        if (thread.index_of(slots)) {
+            slots.pass.set(slots.pass.get() + 1);
+        }
+    }
+    void thread(unsigned index) {
+        Thread own;
+        call(own, index == 0 ? one : other);
+        call(own, other);
+        own.drop();
+        call(own, other); // by a destructor that runs later
+    }
+    void after() { RL_ASSERT(one.free.size() == 1 && other.free.size() == 1); }
+};
+
+#endif
