@@ -5,7 +5,7 @@
 use crate::print::Print;
 use crate::slots::lock;
 use std::ptr;
-use std::sync::atomic::{AtomicUsize, Ordering::SeqCst};
+use std::sync::atomic::{fence, AtomicUsize, Ordering::SeqCst};
 use std::sync::{Arc, Condvar, Mutex, PoisonError};
 
 const STRIPES: usize = 64;
@@ -77,14 +77,18 @@ impl<V: Copy> Flights<V> {
         }
         let flight = Arc::new(Flight { print, thread, outcome: Mutex::new(Outcome::Running), ended: Condvar::new() });
         stripe.push(Arc::clone(&flight));
-        // Before the computation: a write that reads 0 began before the computation did.
         self.running.fetch_add(1, SeqCst);
+        // Of this fence and that of `detach`, one is first. If it is this one, `detach` finds the flight. If it is that one, the computation
+        // sees all that the caller did before the write.
+        fence(SeqCst);
         Boarding::First(Leader { flights: self, flight })
     }
 
-    /// Detaches the flight of this key. What its thread computes is not put.
+    /// Detaches the flight of this key. What its thread computes is not put. A computation that begins later sees what the caller did before.
     #[inline]
     pub fn detach(&self, print: Print) {
+        // Else the processor could do the load before a store of the caller's is visible: to what the map is a cache of, say.
+        fence(SeqCst);
         if self.running.load(SeqCst) > 0 {
             lock(self.stripe(print)).retain(|flight| flight.print != print);
         }
@@ -98,7 +102,7 @@ impl<V: Copy> Flights<V> {
         stripe.iter().find(|flight| flight.print == print).map_or(0, |flight| Arc::strong_count(flight) - 2)
     }
 
-    /// Detaches all flights.
+    /// Detaches all flights. It takes each lock, so it needs no fence.
     pub fn detach_all(&self) {
         self.stripes.iter().for_each(|stripe| lock(stripe).clear());
     }
