@@ -9,3 +9,4 @@ mod places;
 mod prints;
 mod shapes;
 mod slots;
+mod waiting;
