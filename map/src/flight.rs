@@ -47,7 +47,7 @@ pub(crate) enum Boarding<'a, V: Copy> {
     Within,
 }
 
-/// The thread that computes the value of a flight. If it is dropped, the flight ends without a value.
+/// The thread that computes the value of a flight. When it is dropped, the flight ends: without a value, unless `end` was called.
 pub(crate) struct Leader<'a, V: Copy> {
     flights: &'a Flights<V>,
     flight: Arc<Flight<V>>,

@@ -75,6 +75,16 @@ fn a_change_detaches_after_its_closure_and_before_it_puts() {
 }
 
 #[test]
+fn a_change_of_an_absent_key_detaches_nothing() {
+    let map = open();
+    map.remove(&KEY).unwrap();
+    let leader = board(&map, KEY);
+    assert_eq!(map.modify(&KEY, |_| unreachable!("it is not there")), Ok(None));
+    assert_eq!(map.modify_for(&KEY, Duration::MAX, |_| unreachable!("it is not there")), Ok(None));
+    assert!(!is_detached(&leader));
+}
+
+#[test]
 fn a_clear_detaches_the_flights_of_all_keys() {
     let map = open();
     let leaders: Vec<_> = (1_000..2_000).map(|key| board(&map, key)).collect();

@@ -33,8 +33,9 @@ fn remove(map: &Numbers) {
 // A call that begins now, in another thread, once it has joined the key's flight or has ended. It makes 2.
 fn call(map: &Numbers) -> JoinHandle<u64> {
     let (calls, print, begin) = (map.clone(), map.inner.print(&KEY), Instant::now());
+    let before = map.inner.flights.passengers(print);
     let thread = thread::spawn(move || calls.get_or_insert_with(&KEY, || 2));
-    while map.inner.flights.passengers(print) == 0 && !thread.is_finished() {
+    while map.inner.flights.passengers(print) == before && !thread.is_finished() {
         assert!(begin.elapsed() < LONG, "the call neither waits nor ends");
         thread::yield_now();
     }
@@ -94,21 +95,21 @@ fn nobody_gets_the_value_before_it_is_put() {
 // In this test and the next two a removal has detached the flight of the key before this flight began. It takes out a value that the leader of
 // this flight has found or put, and returns. A call that begins then must not get that value.
 #[test]
-fn a_value_that_was_found_and_removed_is_not_for_later_calls() {
+fn a_value_that_was_found_and_removed_is_not_for_those_that_wait() {
     let map = Numbers::new(100).unwrap();
+    let (leader, earlier) = (board(&map), call(&map));
     put(&map, 1);
-    let leader = board(&map);
     assert_eq!(map.inner.compute(map.inner.print(&KEY), &leader, 1, || Err("it is there")), Ok(1));
     remove(&map);
     let later = call(&map);
     drop(leader);
-    assert_eq!((later.join().unwrap(), map.get(&KEY)), (2, Some(2)));
+    assert_eq!((earlier.join().unwrap(), later.join().unwrap(), map.get(&KEY)), (2, 2, Some(2)));
 }
 
 #[test]
 fn nor_is_one_that_came_meanwhile_and_was_removed() {
     let map = Numbers::new(100).unwrap();
-    let leader = board(&map);
+    let (leader, earlier) = (board(&map), call(&map));
     let made = map.inner.compute(map.inner.print(&KEY), &leader, 1, || {
         put(&map, 1);
         Ok::<u64, ()>(3)
@@ -116,18 +117,19 @@ fn nor_is_one_that_came_meanwhile_and_was_removed() {
     remove(&map);
     let later = call(&map);
     drop(leader);
-    assert_eq!((made, later.join().unwrap(), map.get(&KEY)), (Ok(1), 2, Some(2)));
+    let told = (earlier.join().unwrap(), later.join().unwrap());
+    assert_eq!((made, told, map.get(&KEY)), (Ok(1), (2, 2), Some(2)));
 }
 
 #[test]
-fn nor_is_one_that_was_computed_and_removed() {
+fn one_that_was_computed_and_removed_is_not_for_later_calls() {
     let map = Numbers::new(100).unwrap();
-    let leader = board(&map);
+    let (leader, earlier) = (board(&map), call(&map));
     assert_eq!(map.inner.compute(map.inner.print(&KEY), &leader, 1, || Ok::<u64, ()>(1)), Ok(1));
     remove(&map);
     let later = call(&map);
     drop(leader);
-    assert_eq!((later.join().unwrap(), map.get(&KEY)), (2, Some(2)));
+    assert_eq!((earlier.join().unwrap(), later.join().unwrap(), map.get(&KEY)), (1, 2, Some(2)));
 }
 
 #[test]
