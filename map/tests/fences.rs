@@ -9,8 +9,8 @@ use std::thread;
 
 const KEY: u64 = 7;
 
-// So many rounds show a removal without a fence some ten times or more.
-const ROUNDS: u64 = 20_000;
+// A removal without a fence is seen in more than one of a thousand rounds.
+const ROUNDS: u64 = 100_000;
 
 // A round begins with pauses of so many spins at most.
 const SPINS: u64 = 60;
@@ -22,13 +22,16 @@ struct Line(AtomicU64);
 
 /// A record, and a number that says how often it was changed. The other thread has read the record's lines, so the change of them takes long,
 /// and the number's change waits behind it.
-#[derive(Default)]
 struct Store {
-    record: [Line; 20],
+    record: Vec<Line>,
     number: Line,
 }
 
 impl Store {
+    fn new() -> Store {
+        Store { record: (0..50).map(|_| Line::default()).collect(), number: Line::default() }
+    }
+
     fn change(&self, number: u64) {
         self.record.iter().for_each(|line| line.0.store(number, Relaxed));
         self.number.0.store(number, Release);
@@ -65,7 +68,7 @@ fn pause(seed: &mut u64) {
 
 // In how many rounds the map keeps a value that is older than the removal. `compute` is `get_or_insert_with` of the key.
 fn late(compute: impl Fn(&Store) -> u64 + Sync, remove: impl Fn(), get: impl Fn() -> Option<u64>) -> usize {
-    let store = Store::default();
+    let store = Store::new();
     let (begun, ended) = (Line::default(), Line::default());
     thread::scope(|threads| {
         threads.spawn(|| {
@@ -93,7 +96,9 @@ fn late(compute: impl Fn(&Store) -> u64 + Sync, remove: impl Fn(), get: impl Fn(
     })
 }
 
+// Without optimization the way from the look for computations to the next read of the store is too long.
 #[test]
+#[cfg_attr(debug_assertions, ignore = "it would see nothing")]
 fn a_removal_comes_after_what_its_thread_did_before() {
     let map = Map::<u64, u64>::new(100).unwrap();
     let compute = |store: &Store| map.get_or_insert_with(&KEY, || store.read());
@@ -106,6 +111,7 @@ fn a_removal_comes_after_what_its_thread_did_before() {
 
 #[test]
 #[cfg(feature = "objects")]
+#[cfg_attr(debug_assertions, ignore = "it would see nothing")]
 fn so_does_a_removal_of_an_object() {
     let map = ObjectMap::<u64, u64>::new(100).unwrap();
     let compute = |store: &Store| map.get_or_insert_with(&KEY, || store.read());
