@@ -52,7 +52,9 @@ pub(crate) fn in_turn<T, E>(tries: u32, mut attempt: impl FnMut() -> Result<T, T
 
 fn pause(number: u32) {
     #[cfg(test)]
-    IN_PAUSE.take().into_iter().for_each(|act| act());
+    if let Some(act) = IN_PAUSE.take() {
+        act();
+    }
     match Pause::of(number) {
         Pause::Spin(spins) => (0..spins).for_each(|_| spin_loop()),
         Pause::Yield => yield_now(),
