@@ -9,7 +9,7 @@ use std::thread;
 
 const KEY: u64 = 7;
 
-// A removal without a fence is seen in more than one of a thousand rounds.
+// Without a fence, a hundred to ten thousand of so many rounds go wrong.
 const ROUNDS: u64 = 100_000;
 
 // A round begins with pauses of so many spins at most.
@@ -20,8 +20,8 @@ const SPINS: u64 = 60;
 #[repr(align(128))]
 struct Line(AtomicU64);
 
-/// A record, and a number that says how often it was changed. The other thread has read the record's lines, so the change of them takes long,
-/// and the number's change waits behind it.
+/// A record, and a number that says how often it was changed. Other threads use the record's lines, so a change of them takes long, and the
+/// number's change waits behind it.
 struct Store {
     record: Vec<Line>,
     number: Line,
@@ -33,12 +33,12 @@ impl Store {
     }
 
     fn change(&self, number: u64) {
-        self.record.iter().for_each(|line| line.0.store(number, Relaxed));
+        self.change_record(number);
         self.number.0.store(number, Release);
     }
 
-    fn read_record(&self) {
-        self.record.iter().for_each(|line| assert!(line.0.load(Relaxed) <= ROUNDS));
+    fn change_record(&self, number: u64) {
+        self.record.iter().for_each(|line| line.0.store(number, Relaxed));
     }
 
     fn read(&self) -> u64 {
@@ -72,9 +72,13 @@ fn late(compute: impl Fn(&Store) -> u64 + Sync, remove: impl Fn(), get: impl Fn(
     let (begun, ended) = (Line::default(), Line::default());
     thread::scope(|threads| {
         threads.spawn(|| {
+            while ended.0.load(Acquire) < ROUNDS {
+                store.change_record(0);
+            }
+        });
+        threads.spawn(|| {
             let mut seed = 1;
             for round in 1..=ROUNDS {
-                store.read_record();
                 wait(&begun, round);
                 pause(&mut seed);
                 compute(&store);
