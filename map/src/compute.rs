@@ -12,10 +12,11 @@ use std::hash::{BuildHasher, Hash};
 
 impl<K: ?Sized, V: Copy + Send + Sync + 'static, S: BuildHasher> Map<K, V, S> {
     /// The key's value, or else the value that `make` makes, which is put. Threads that want the same key meanwhile wait, and get the same
-    /// value. If `make` panics, one of them calls its own.
+    /// value. If `make` panics, or the key has another value by then, they look it up again. If they don't find it, one of them calls its own.
     ///
     /// - If the key is written or removed while `make` runs, the map keeps that, and the value that was made isn't put: it may be older.
-    ///   The call returns it, or the value that was written. Calls that begin after the write don't wait for this one.
+    ///   The call returns it, or the value that was written. So may a call that waits, if it began before the write returned. Calls that begin
+    ///   after the write don't wait for this one.
     /// - If the value finds no place, the call returns it all the same. `refused` of [`stats`](Map::stats) counts this.
     /// - If `make` calls this for the same key, the inner call only returns its value.
     /// - Two threads wait forever if the `make` of each wants the value that the other one computes.
@@ -39,18 +40,15 @@ impl<K: ?Sized, V: Copy + Send + Sync + 'static, S: BuildHasher> Map<K, V, S> {
     {
         let inner = &self.inner;
         let print = inner.print(key);
-        if let Some(value) = inner.get(print, inner.looks(), |told| told.unwrap_or(None)) {
-            return Ok(value);
-        }
+        let mut found = inner.get(print, inner.looks(), |told| told.unwrap_or(None));
         loop {
+            if let Some(value) = found {
+                return Ok(value);
+            }
             match inner.flights.board(print) {
-                Boarding::First(leader) => return inner.compute(print, leader, inner.tries, make),
+                Boarding::First(leader) => return inner.compute(print, &leader, inner.tries, make),
                 Boarding::Within => return make(),
-                Boarding::Other(flight) => {
-                    if let Some(value) = flight.wait() {
-                        return Ok(value);
-                    }
-                }
+                Boarding::Other(flight) => found = flight.wait().or_else(|| inner.find(print, inner.looks())),
             }
         }
     }
@@ -72,7 +70,7 @@ impl<K: ?Sized, V: Copy + Send + Sync + 'static, S: BuildHasher> Map<K, V, S> {
         }
         match inner.flights.board(print) {
             Boarding::First(leader) => {
-                let Ok(value) = inner.compute(print, leader, 1, || Ok::<V, Infallible>(make()));
+                let Ok(value) = inner.compute(print, &leader, 1, || Ok::<V, Infallible>(make()));
                 Ok(value)
             }
             Boarding::Within => Ok(make()),
@@ -82,29 +80,35 @@ impl<K: ?Sized, V: Copy + Send + Sync + 'static, S: BuildHasher> Map<K, V, S> {
 }
 
 impl<V: Copy, S: BuildHasher> Inner<V, S> {
+    // A lookup that isn't counted.
+    fn find(&self, print: Print, tries: u32) -> Option<V> {
+        match self.look(print, tries)? {
+            Found::Live(entry, _) => Some(entry.value),
+            Found::Expired(_) | Found::Other(_) | Found::Absent => None,
+        }
+    }
+
     /// Makes the value as the leader of a flight.
-    pub fn compute<E>(&self, print: Print, leader: Leader<V>, tries: u32, make: impl FnOnce() -> Result<V, E>) -> Result<V, E> {
-        // An earlier flight may have ended since this thread looked the key up.
-        if let Some(Found::Live(entry, _)) = self.look(print, tries.min(LOOKS)) {
-            return Ok(leader.end(entry.value, || entry.value));
+    pub fn compute<E>(&self, print: Print, leader: &Leader<V>, tries: u32, make: impl FnOnce() -> Result<V, E>) -> Result<V, E> {
+        // An earlier flight may have ended since this thread looked the key up. What is found is not for those that wait: it may have been
+        // removed before their calls began.
+        if let Some(value) = self.find(print, tries.min(LOOKS)) {
+            return Ok(value);
         }
         let value = make()?;
         Ok(leader.end(value, || self.fill(print, value, tries)))
     }
 
-    // Puts the value where the key has none. Returns the value that the key has then.
-    fn fill(&self, print: Print, value: V, tries: u32) -> V {
-        let mut kept = value;
-        let put = self.change(print, tries, None, |present| match present {
-            Some(present) => {
-                kept = present;
-                None
-            }
-            None => Some(value),
+    // Puts the value where the key has none. Returns the value that another thread has put meanwhile.
+    fn fill(&self, print: Print, value: V, tries: u32) -> Option<V> {
+        let mut other = None;
+        let put = self.change(print, tries, None, |present| {
+            other = present;
+            present.is_none().then_some(value)
         });
         if put.is_err() {
             self.slots.count(Kind::Refused);
         }
-        kept
+        other
     }
 }

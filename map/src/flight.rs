@@ -1,12 +1,12 @@
 //! Values that are being computed: one thread computes, and others that want the same key wait for it.
 //!
 //! A computed value may be older than a write that came meanwhile. So each write first detaches the flight of its key, and a value whose
-//! flight was detached is not put. The value is put under the lock by which flights are detached.
+//! flight was detached is not put. The value is put under the lock by which flights are detached. SAFETY.md says why that suffices.
 use crate::print::Print;
 use crate::slots::lock;
 use std::ptr;
-use std::sync::atomic::{AtomicUsize, Ordering::SeqCst};
-use std::sync::{Arc, Condvar, Mutex, PoisonError};
+use std::sync::atomic::{fence, AtomicUsize, Ordering::SeqCst};
+use std::sync::{Arc, Condvar, Mutex, MutexGuard, PoisonError};
 
 const STRIPES: usize = 64;
 
@@ -33,7 +33,7 @@ pub(crate) struct Flight<V> {
 enum Outcome<V> {
     Running,
     Value(V),
-    // The computation failed or panicked.
+    // The computation failed or panicked, or the key has another value. Those that wait look it up again.
     None,
 }
 
@@ -47,7 +47,7 @@ pub(crate) enum Boarding<'a, V: Copy> {
     Within,
 }
 
-/// The thread that computes the value of a flight. If it is dropped, the flight ends without a value.
+/// The thread that computes the value of a flight. When it is dropped, the flight ends: without a value, unless `end` was called.
 pub(crate) struct Leader<'a, V: Copy> {
     flights: &'a Flights<V>,
     flight: Arc<Flight<V>>,
@@ -77,17 +77,26 @@ impl<V: Copy> Flights<V> {
         }
         let flight = Arc::new(Flight { print, thread, outcome: Mutex::new(Outcome::Running), ended: Condvar::new() });
         stripe.push(Arc::clone(&flight));
-        // Before the computation: a write that reads 0 began before the computation did.
         self.running.fetch_add(1, SeqCst);
+        // Of this fence and that of `detach`, one is first. If it is this one, `detach` finds the flight. If it is that one, the computation
+        // sees all that the caller did before the write.
+        fence(SeqCst);
         Boarding::First(Leader { flights: self, flight })
     }
 
-    /// Detaches the flight of this key. What its thread computes is not put.
+    /// Detaches the flight of this key. What its thread computes is not put. A computation that begins later sees what the caller did before.
     #[inline]
     pub fn detach(&self, print: Print) {
+        // Else the processor could do the load before a store of the caller's is visible: to what the map is a cache of, say.
+        fence(SeqCst);
         if self.running.load(SeqCst) > 0 {
             lock(self.stripe(print)).retain(|flight| flight.print != print);
         }
+    }
+
+    /// Detaches all flights. It takes each lock, so it needs no fence.
+    pub fn detach_all(&self) {
+        self.stripes.iter().for_each(|stripe| lock(stripe).clear());
     }
 
     /// How many threads have joined the flight of this key.
@@ -98,9 +107,10 @@ impl<V: Copy> Flights<V> {
         stripe.iter().find(|flight| flight.print == print).map_or(0, |flight| Arc::strong_count(flight) - 2)
     }
 
-    /// Detaches all flights.
-    pub fn detach_all(&self) {
-        self.stripes.iter().for_each(|stripe| lock(stripe).clear());
+    /// Whether a thread has the lock by which the flight of this key is detached.
+    #[cfg(test)]
+    pub fn is_locked(&self, print: Print) -> bool {
+        self.stripe(print).try_lock().is_err()
     }
 }
 
@@ -114,28 +124,52 @@ impl<V: Copy> Flight<V> {
             Outcome::Running | Outcome::None => None,
         }
     }
+
+    /// Whether `wait` would return at once.
+    #[cfg(test)]
+    pub fn has_outcome(&self) -> bool {
+        !matches!(*lock(&self.outcome), Outcome::Running)
+    }
 }
 
 impl<V: Copy> Leader<'_, V> {
-    /// Ends the flight with this value, which is put first, unless a write has detached the flight. `put` returns the value that the key
-    /// has then.
-    pub fn end(self, value: V, put: impl FnOnce() -> V) -> V {
-        let value = self.put(put).unwrap_or(value);
-        *lock(&self.flight.outcome) = Outcome::Value(value);
-        value
+    /// Ends the flight with this value, which is put first, unless a write has detached the flight. No thread joins the flight after the
+    /// put: the value may be removed before the thread's call begins. If the key has another value, `put` returns that, and so does this.
+    /// Then the flight ends without a value: the other one may be older than a removal.
+    pub fn end(&self, value: V, put: impl FnOnce() -> Option<V>) -> V {
+        let mut stripe = self.stripe();
+        let other = self.is_in(&stripe).then(put).flatten();
+        self.leave(&mut stripe);
+        drop(stripe);
+        if other.is_none() {
+            *lock(&self.flight.outcome) = Outcome::Value(value);
+        }
+        other.unwrap_or(value)
     }
 
     /// Makes this put, unless a write has detached the flight. No write can detach it meanwhile.
+    #[cfg(any(test, feature = "objects"))]
     pub fn put<T>(&self, put: impl FnOnce() -> T) -> Option<T> {
-        let stripe = lock(self.flights.stripe(self.flight.print));
-        let attached = stripe.iter().any(|flight| Arc::ptr_eq(flight, &self.flight));
-        attached.then(put)
+        let stripe = self.stripe();
+        self.is_in(&stripe).then(put)
+    }
+
+    fn stripe(&self) -> MutexGuard<'_, Vec<Arc<Flight<V>>>> {
+        lock(self.flights.stripe(self.flight.print))
+    }
+
+    fn is_in(&self, stripe: &[Arc<Flight<V>>]) -> bool {
+        stripe.iter().any(|flight| Arc::ptr_eq(flight, &self.flight))
+    }
+
+    fn leave(&self, stripe: &mut Vec<Arc<Flight<V>>>) {
+        stripe.retain(|flight| !Arc::ptr_eq(flight, &self.flight));
     }
 }
 
 impl<V: Copy> Drop for Leader<'_, V> {
     fn drop(&mut self) {
-        lock(self.flights.stripe(self.flight.print)).retain(|flight| !Arc::ptr_eq(flight, &self.flight));
+        self.leave(&mut self.stripe());
         self.flights.running.fetch_sub(1, SeqCst);
         let mut outcome = lock(&self.flight.outcome);
         if let Outcome::Running = *outcome {

@@ -53,6 +53,7 @@ impl<P: 'static> Slots<P> {
         let shared = passes.pop().expect("opening makes one pass at least");
         let slots: Box<[Slot<P>]> = passes.into_iter().map(Slot::new).collect();
         Slots {
+            // Relaxed: it is enough that no two numbers are the same.
             id: NEXT.fetch_add(1, Relaxed),
             free: Mutex::new((0..slots.len()).rev().collect()),
             free_count: AtomicUsize::new(slots.len()),
@@ -138,6 +139,7 @@ impl<P: 'static> Slots<P> {
 
 impl<P> Slots<P> {
     fn take_free(&self) -> Option<usize> {
+        // Relaxed: a guess that saves the lock. If it is wrong, the thread's next call tries again, or finds the list empty.
         if self.free_count.load(Relaxed) == 0 {
             return None;
         }

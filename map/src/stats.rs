@@ -54,6 +54,7 @@ const NUMBERS: usize = Kind::Shared as usize + 1;
 #[derive(Default)]
 pub(crate) struct Counts([AtomicU64; NUMBERS]);
 
+// Relaxed: a number says nothing of other memory.
 impl Counts {
     /// Counts one more. Only one thread at a time may call it.
     #[inline]

@@ -100,7 +100,7 @@ impl<V: Copy, S: BuildHasher> Inner<V, S> {
         Ok(new.expect("`change` always gives a value"))
     }
 
-    // Like `change`, as a write of its own: it detaches the key's flight, and counts a refusal.
+    // Like `change`, as a write of its own: before each put it detaches the key's flight. It counts a refusal.
     fn change_detached(
         &self,
         print: Print,
@@ -109,9 +109,9 @@ impl<V: Copy, S: BuildHasher> Inner<V, S> {
         mut change: impl FnMut(Option<V>) -> Option<V>,
     ) -> Result<Option<V>, UpdateError> {
         let changed = self.change(print, tries, anew, |old| {
-            let new = change(old);
+            let new = change(old)?;
             self.flights.detach(print);
-            new
+            Some(new)
         });
         changed.map_err(|why| self.refused(why))
     }

@@ -13,8 +13,16 @@ pub(crate) const LOOKS: u32 = 1_000;
 /// How often a call tries to list the entries. A list has a turn at each shard and takes memory, so these are few.
 pub(crate) const LISTS: u32 = 100;
 
-// The first pauses spin, each twice as long as the one before. Then the thread yields, and at last it sleeps: the thread that has the turn
-// may have to wait for a processor.
+/// How a call waits before it tries again. The first pauses spin, each twice as long as the one before. Then the thread yields, and at last it
+/// sleeps: the thread that has the turn may have to wait for a processor.
+#[derive(Clone, Copy, Debug, PartialEq, Eq)]
+pub(crate) enum Pause {
+    /// So many spins.
+    Spin(u32),
+    Yield,
+    Sleep(Duration),
+}
+
 const SPINS: u32 = 7;
 const YIELDS: u32 = 200;
 const SLEEP: Duration = Duration::from_micros(100);
@@ -43,11 +51,32 @@ pub(crate) fn in_turn<T, E>(tries: u32, mut attempt: impl FnMut() -> Result<T, T
 }
 
 fn pause(number: u32) {
-    if number < SPINS {
-        (0..1 << number).for_each(|_| spin_loop());
-    } else if number < YIELDS {
-        yield_now();
-    } else {
-        sleep(SLEEP);
+    #[cfg(test)]
+    if let Some(act) = IN_PAUSE.take() {
+        act();
     }
+    match Pause::of(number) {
+        Pause::Spin(spins) => (0..spins).for_each(|_| spin_loop()),
+        Pause::Yield => yield_now(),
+        Pause::Sleep(time) => sleep(time),
+    }
+}
+
+impl Pause {
+    /// That after so many others.
+    pub fn of(number: u32) -> Pause {
+        if number < SPINS {
+            Pause::Spin(1 << number)
+        } else if number < YIELDS {
+            Pause::Yield
+        } else {
+            Pause::Sleep(SLEEP)
+        }
+    }
+}
+
+#[cfg(test)]
+thread_local! {
+    /// What a test does in the next pause of this thread.
+    pub(crate) static IN_PAUSE: std::cell::Cell<Option<Box<dyn FnOnce()>>> = const { std::cell::Cell::new(None) };
 }

@@ -113,7 +113,7 @@ fn write<V: Copy>(value: &V, words: &mut [u64]) {
     // SAFETY: `value` can be read for its size, and `words` written for as much, by the assertion. They don't overlap, since `words` is
     // borrowed as `&mut`. The copied bytes need not be initialized: `value` may have padding. The instructions (there are none) may write
     // what `bytes` points to. So for all that the compiler knows, they initialize each byte there, and reading the words is allowed. They
-    // leave each byte as it was, and use no stack and no flag.
+    // leave each byte as it was, and use no stack and no flag. They order no memory between threads: the index does that.
     unsafe {
         ptr::copy_nonoverlapping(ptr::from_ref(value).cast::<MaybeUninit<u8>>(), bytes, size_of::<V>());
         asm!("/* {0} */", in(reg) bytes, options(nostack, preserves_flags));

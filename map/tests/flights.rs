@@ -1,7 +1,6 @@
 //! `get_or_insert_with`: one thread computes and the others wait. What `inside/flights.rs` leaves open.
 use cefrodil_map::Map;
-use std::hint::spin_loop;
-use std::sync::atomic::{AtomicBool, AtomicU64, Ordering::SeqCst};
+use std::sync::atomic::{AtomicU64, Ordering::SeqCst};
 use std::sync::Barrier;
 use std::thread;
 
@@ -88,34 +87,5 @@ fn a_map_before_a_store_does_not_fall_behind() {
                 }
             });
         }
-    });
-}
-
-// One thread fills what another one removes, as fast as they can.
-#[test]
-fn a_removal_is_not_undone() {
-    let (store, end) = (AtomicU64::new(0), AtomicBool::new(false));
-    let map = Numbers::new(100).unwrap();
-    thread::scope(|threads| {
-        threads.spawn(|| {
-            for round in 0.. {
-                if end.load(SeqCst) {
-                    return;
-                }
-                map.get_or_insert_with(&KEY, || {
-                    let read = store.load(SeqCst);
-                    (0..round % 64).for_each(|_| spin_loop());
-                    read
-                });
-            }
-        });
-        let late = (0..20_000).filter(|_| {
-            let least = store.fetch_add(1, SeqCst) + 1;
-            map.remove(&KEY).unwrap();
-            map.get(&KEY).is_some_and(|value| value < least)
-        });
-        let late = late.count();
-        end.store(true, SeqCst);
-        assert_eq!(late, 0, "lookups found a value that had been removed");
     });
 }

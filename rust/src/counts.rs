@@ -105,6 +105,7 @@ const REFUSALS: usize = BUSY + 3;
 #[repr(align(128))]
 struct Line([AtomicU64; NUMBERS]);
 
+// Relaxed: a number says nothing of other memory.
 impl Line {
     fn add(&self, number: usize, more: u64) {
         self.0[number].store(self.0[number].load(Ordering::Relaxed) + more, Ordering::Relaxed);

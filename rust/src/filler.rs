@@ -19,6 +19,7 @@ impl Tickets {
     /// Take one before you read the store, and send it to the [`Filler`] with the value that you read.
     #[must_use]
     pub fn take(&self) -> Ticket {
+        // With the release in `changed`: a thread whose ticket counts a change of the store sees that change when it reads the store.
         Ticket(self.0.load(Ordering::Acquire))
     }
 }
@@ -119,8 +120,10 @@ impl<const WORDS: usize> Filler<WORDS> {
     }
 
     fn changed(&mut self, key: u64) {
+        // Relaxed: this thread alone changes the count. So too in `is_stale`.
         let (count, places) = (self.count.load(Ordering::Relaxed), self.keys.len() as u64);
         self.keys[(count % places) as usize] = key;
+        // Else a ticket could count this change though its thread still reads the old value, and `fill` would put that.
         self.count.store(count + 1, Ordering::Release);
     }
 

@@ -47,6 +47,7 @@ impl<T> Shared<T> {
 
 impl<T> Clone for Shared<T> {
     fn clone(&self) -> Shared<T> {
+        // Relaxed: this owner keeps the block meanwhile, and whatever hands the new owner to another thread orders the rest.
         self.block().owners.fetch_add(1, Ordering::Relaxed);
         Shared(self.0)
     }
@@ -62,7 +63,7 @@ impl<T> Deref for Shared<T> {
 
 impl<T> Drop for Shared<T> {
     fn drop(&mut self) {
-        // What the other owners did comes before the block is freed.
+        // By the release, what this owner did comes before its end. By the acquire, the last one frees the block after all that.
         if self.block().owners.fetch_sub(1, Ordering::AcqRel) == 1 {
             let capacity = self.block().capacity;
             // SAFETY: this was the last owner, and the block is in a list of one that `new` took apart.

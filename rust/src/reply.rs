@@ -166,8 +166,12 @@ impl<const WORDS: usize> Reply<WORDS> {
     }
 }
 
-// How many keys one call of the archive gets: a multiple of 16, so that the groups of a desk's pass begin where the caller's do.
+// How many entries of a batch have one turn at a desk.
+const GROUP: usize = 16;
+
+// How many keys one call of the archive gets. The groups of a desk's pass begin where the caller's do.
 const KEYS_A_CALL: usize = 32;
+const _: () = assert!(KEYS_A_CALL % GROUP == 0);
 
 /// Looks the keys up in order.
 pub(crate) fn many<const WORDS: usize>(handle: &mut Handle, keys: &[u64], replies: &mut [Reply<WORDS>]) {

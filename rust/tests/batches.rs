@@ -1,6 +1,14 @@
 //! Puts of many entries in one call, and lookups that are no use of a key.
 use cefrodil::{Cache, Desk, Put, PutError, Reply, Shape, Shards, TurnError};
 use std::error::Error;
+use std::sync::atomic::{AtomicBool, Ordering::SeqCst};
+use std::thread;
+use std::time::{Duration, Instant};
+
+// So often the turn must change hands within batches. If half of the places where it may were wrong, one of these would be seen.
+const CHANGES: usize = 30;
+
+const LONG: Duration = Duration::from_secs(60);
 
 /// More entries than one call of the archive takes.
 const MANY: usize = 70;
@@ -63,6 +71,35 @@ fn passes_put_many_and_peek() -> Result<(), Box<dyn Error>> {
     assert!(told.iter().all(Result::is_ok));
     assert_eq!((0..60).filter(|key| shards[0].try_peek(*key).and_then(Reply::value).is_some()).count(), 60);
     assert_eq!(shards[0].try_peek(3).and_then(Reply::value), Some([63, 126]));
+    Ok(())
+}
+
+// Another thread lists the entries again and again, so that it has the turn for some groups of a batch and not for others.
+#[test]
+fn each_group_of_sixteen_has_one_turn() -> Result<(), Box<dyn Error>> {
+    const ENTRIES: usize = 960;
+    let mut passes = Desk::<1>::open(&Shape::for_items(4_000)?, 2)?.into_passes();
+    let (mut lists, mut puts) = (passes.remove(0), passes.remove(0));
+    let entries: Vec<(u64, [u64; 1])> = (0..ENTRIES as u64).map(|key| (key, [key])).collect();
+    let (end, begin) = (AtomicBool::new(false), Instant::now());
+    let (mut changes, mut broken) = (0, 0);
+    thread::scope(|threads| {
+        threads.spawn(|| {
+            while !end.load(SeqCst) {
+                let _ = lists.try_entries();
+            }
+        });
+        while changes < CHANGES && begin.elapsed() < LONG {
+            let mut told = vec![Err(TurnError::Held); ENTRIES];
+            puts.try_put_many(&entries, &mut told);
+            let held: Vec<bool> = told.iter().map(|put| *put == Err(TurnError::Held)).collect();
+            changes += held.windows(2).filter(|two| two[0] != two[1]).count();
+            broken += held.chunks(16).filter(|group| group.contains(&true) && group.contains(&false)).count();
+        }
+        end.store(true, SeqCst);
+    });
+    assert!(changes >= CHANGES, "the turn changed only {changes} times within a batch");
+    assert_eq!(broken, 0, "groups of which a part had the turn, in {changes} changes");
     Ok(())
 }
 

@@ -29,7 +29,7 @@ pub(crate) struct Epochs {
 #[repr(align(128))]
 struct Pin {
     since: AtomicU64,
-    // Only the thread uses it.
+    // Only the thread that has the slot uses it, so its loads and stores are relaxed.
     depth: AtomicUsize,
 }
 
@@ -73,6 +73,7 @@ impl Epochs {
                 let pin = &self.pins[index];
                 let depth = pin.depth.load(Relaxed);
                 if depth == 0 {
+                    // Sequentially consistent, so that it comes before the lookups of this call.
                     pin.since.store(self.retired.load(SeqCst), SeqCst);
                 }
                 pin.depth.store(depth + 1, Relaxed);
@@ -136,6 +137,7 @@ impl Drop for Guard<'_> {
                 let depth = pin.depth.load(Relaxed) - 1;
                 pin.depth.store(depth, Relaxed);
                 if depth == 0 {
+                    // What this call did with objects comes before they are freed: who frees them has read this.
                     pin.since.store(NONE, Release);
                 }
             }

@@ -1,9 +1,9 @@
 //! An object on the heap, and its address as the word of an entry.
-use std::sync::atomic::{AtomicU64, Ordering::SeqCst};
+use std::sync::atomic::{AtomicU64, Ordering::Relaxed};
 
 pub(crate) struct Object<K, V> {
     pub key: K,
-    // A renewal moves it.
+    // A renewal moves it. Relaxed: it says nothing of other memory. What moves or keeps it has the lock of the key's stripe.
     deadline: AtomicU64,
     pub value: V,
 }
@@ -15,11 +15,11 @@ impl<K, V> Object<K, V> {
 
     #[inline]
     pub fn deadline(&self) -> u64 {
-        self.deadline.load(SeqCst)
+        self.deadline.load(Relaxed)
     }
 
     pub fn set_deadline(&self, deadline: u64) {
-        self.deadline.store(deadline, SeqCst);
+        self.deadline.store(deadline, Relaxed);
     }
 
     /// The object's address. It stays allocated until a `Box` is made of it again.

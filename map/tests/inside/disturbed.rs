@@ -132,7 +132,7 @@ fn a_value_is_made_without_waiting_after_one_lookup() {
         assert!(matches!(found, Ok(10) | Err(GetError::Busy)), "{found:?}");
         assert_eq!(map.stats().busy, before + u64::from(found.is_err()));
         let Boarding::First(leader) = inner.flights.board(print) else { panic!("there is no other flight") };
-        let made = inner.compute(print, leader, 1, || Err("it was not found"));
+        let made = inner.compute(print, &leader, 1, || Err("it was not found"));
         [found.is_err(), made.is_err()]
     });
 }

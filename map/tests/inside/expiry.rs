@@ -93,6 +93,18 @@ fn a_value_may_have_a_time_of_its_own() {
     assert_eq!(map.get(&1), Some(10));
 }
 
+// The clock's nanoseconds suffice for 584 years.
+#[test]
+fn a_life_that_is_too_long_to_be_counted_never_ends() {
+    const YEAR: Duration = seconds(365 * 86_400);
+    let map = timed(585 * YEAR);
+    map.insert(&1, 10).unwrap();
+    map.insert_for(&2, 20, 600 * YEAR).unwrap();
+    map.insert_for(&3, 30, 10_000 * YEAR).unwrap();
+    turn(&map, 580 * YEAR);
+    assert_eq!((map.get(&1), map.get(&2), map.get(&3)), (Some(10), Some(20), Some(30)));
+}
+
 #[test]
 fn what_has_expired_is_computed_anew() {
     let map = timed(seconds(100));

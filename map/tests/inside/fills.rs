@@ -1,44 +1,142 @@
-//! A computed value beside a write that begins or ends in the middle of the computation.
+//! A computed value beside a write that begins or ends in the middle of the computation, and what those get that wait for it.
+use super::waiting::LONG;
 use crate::clock::NEVER;
-use crate::flight::Boarding;
+use crate::flight::{Boarding, Leader};
 use crate::Map;
+use std::thread::{self, JoinHandle};
+use std::time::Instant;
+
+type Numbers = Map<u64, u64>;
+
+const KEY: u64 = 1;
+
+// The leader of a flight of the key, as if its thread had missed the key.
+fn board(map: &Numbers) -> Leader<'_, u64> {
+    let Boarding::First(leader) = map.inner.flights.board(map.inner.print(&KEY)) else { panic!("there is another flight") };
+    leader
+}
+
+// Puts the key, as a write does that has detached the flight of the key before this one.
+fn put(map: &Numbers, value: u64) {
+    let print = map.inner.print(&KEY);
+    let words = map.inner.words(print, value, NEVER);
+    map.inner.slots.call(|pass| pass.put(print.key, &words)).unwrap();
+}
+
+// Removes the key, as a removal does that has detached the flight of the key before this one.
+fn remove(map: &Numbers) {
+    let key = map.inner.print(&KEY).key;
+    map.inner.slots.call(|pass| pass.remove(key)).unwrap();
+    assert_eq!(map.get(&KEY), None);
+}
+
+// A call that begins now, in another thread, once it has joined the key's flight or has ended. It makes 2.
+fn call(map: &Numbers) -> JoinHandle<u64> {
+    let (calls, print, begin) = (map.clone(), map.inner.print(&KEY), Instant::now());
+    let before = map.inner.flights.passengers(print);
+    let thread = thread::spawn(move || calls.get_or_insert_with(&KEY, || 2));
+    while map.inner.flights.passengers(print) == before && !thread.is_finished() {
+        assert!(begin.elapsed() < LONG, "the call neither waits nor ends");
+        thread::yield_now();
+    }
+    thread
+}
 
 #[test]
-fn a_value_that_came_meanwhile_stays_and_is_returned() {
-    let map = Map::<u64, u64>::new(100).unwrap();
-    let inner = &map.inner;
-    let print = inner.print(&1_u64);
-    let value = map.get_or_insert_with(&1, || {
-        let words = inner.words(print, 10, NEVER);
-        inner.slots.call(|pass| pass.put(print.key, &words)).unwrap();
-        11
+fn a_value_that_came_meanwhile_stays_and_all_get_it() {
+    let map = Numbers::new(100).unwrap();
+    let (leader, waiting) = (board(&map), call(&map));
+    let made = map.inner.compute(map.inner.print(&KEY), &leader, 1, || {
+        put(&map, 10);
+        Ok::<u64, ()>(11)
     });
-    assert_eq!((value, map.get(&1)), (10, Some(10)));
+    drop(leader);
+    assert_eq!((made, waiting.join().unwrap(), map.get(&KEY)), (Ok(10), 10, Some(10)));
 }
 
 #[test]
 fn a_value_begun_before_an_update_puts_is_not_put() {
-    let map = Map::<u64, u64>::new(100).unwrap();
-    let inner = &map.inner;
+    let map = Numbers::new(100).unwrap();
     let mut leader = None;
-    let updated = map.update(&1, |_| {
-        if let Boarding::First(first) = inner.flights.board(inner.print(&1_u64)) {
-            leader = Some(first);
-        }
+    let updated = map.update(&KEY, |_| {
+        leader = Some(board(&map));
         5
     });
     let value = leader.unwrap().end(4, || unreachable!("a value that is too old is put"));
-    assert_eq!((updated, value, map.get(&1)), (Ok(5), 4, Some(5)));
+    assert_eq!((updated, value, map.get(&KEY)), (Ok(5), 4, Some(5)));
 }
 
 #[test]
 fn a_value_that_came_before_the_flight_is_not_computed_again() {
-    let map = Map::<u64, u64>::new(100).unwrap();
-    let inner = &map.inner;
-    let print = inner.print(&1_u64);
-    map.insert(&1, 10).unwrap();
-    // As if the lookup before had missed it.
-    let Boarding::First(leader) = inner.flights.board(print) else { panic!("there is no other flight") };
-    let value = inner.compute(print, leader, 1, || Err("it is computed again"));
-    assert_eq!((value, map.get(&1), map.len()), (Ok(10), Some(10), 1));
+    let map = Numbers::new(100).unwrap();
+    map.insert(&KEY, 10).unwrap();
+    let value = map.inner.compute(map.inner.print(&KEY), &board(&map), 1, || Err("it is computed again"));
+    assert_eq!((value, map.get(&KEY), map.len()), (Ok(10), Some(10), 1));
+}
+
+#[test]
+fn nobody_gets_the_value_before_it_is_put() {
+    let map = Numbers::new(100).unwrap();
+    let (leader, print) = (board(&map), map.inner.print(&KEY));
+    let flight = thread::scope(|threads| {
+        let joined = threads.spawn(|| match map.inner.flights.board(print) {
+            Boarding::Other(flight) => flight,
+            _ => panic!("there is a flight"),
+        });
+        joined.join().unwrap()
+    });
+    leader.end(1, || {
+        assert!(!flight.has_outcome());
+        None
+    });
+    assert_eq!(flight.wait(), Some(1));
+}
+
+// In this test and the next two a removal has detached the flight of the key before this flight began. It takes out a value that the leader of
+// this flight has found or put, and returns. A call that begins then must not get that value.
+#[test]
+fn a_value_that_was_found_and_removed_is_not_for_those_that_wait() {
+    let map = Numbers::new(100).unwrap();
+    let (leader, earlier) = (board(&map), call(&map));
+    put(&map, 1);
+    assert_eq!(map.inner.compute(map.inner.print(&KEY), &leader, 1, || Err("it is there")), Ok(1));
+    remove(&map);
+    let later = call(&map);
+    drop(leader);
+    assert_eq!((earlier.join().unwrap(), later.join().unwrap(), map.get(&KEY)), (2, 2, Some(2)));
+}
+
+#[test]
+fn nor_is_one_that_came_meanwhile_and_was_removed() {
+    let map = Numbers::new(100).unwrap();
+    let (leader, earlier) = (board(&map), call(&map));
+    let made = map.inner.compute(map.inner.print(&KEY), &leader, 1, || {
+        put(&map, 1);
+        Ok::<u64, ()>(3)
+    });
+    remove(&map);
+    let later = call(&map);
+    drop(leader);
+    let told = (earlier.join().unwrap(), later.join().unwrap());
+    assert_eq!((made, told, map.get(&KEY)), (Ok(1), (2, 2), Some(2)));
+}
+
+#[test]
+fn one_that_was_computed_and_removed_is_not_for_later_calls() {
+    let map = Numbers::new(100).unwrap();
+    let (leader, earlier) = (board(&map), call(&map));
+    assert_eq!(map.inner.compute(map.inner.print(&KEY), &leader, 1, || Ok::<u64, ()>(1)), Ok(1));
+    remove(&map);
+    let later = call(&map);
+    drop(leader);
+    assert_eq!((earlier.join().unwrap(), later.join().unwrap(), map.get(&KEY)), (1, 2, Some(2)));
+}
+
+#[test]
+fn a_failure_lets_those_that_wait_find_what_was_put_since() {
+    let map = Numbers::new(100).unwrap();
+    let (leader, waiting) = (board(&map), call(&map));
+    put(&map, 10);
+    drop(leader);
+    assert_eq!((waiting.join().unwrap(), map.get(&KEY)), (10, Some(10)));
 }

@@ -1,16 +1,14 @@
 //! One thread computes a value, and others wait for it. A value that was computed before a write of its key is not put after it.
+use super::waiting::LONG;
 use crate::{GetError, Inserted, Map};
 use std::panic::catch_unwind;
 use std::sync::mpsc::{channel, Receiver, Sender};
 use std::thread::{self, JoinHandle};
-use std::time::{Duration, Instant};
+use std::time::Instant;
 
 type Numbers = Map<u64, u64>;
 
 const KEY: u64 = 7;
-
-// How long a thread may take to do what it must do at once.
-const LONG: Duration = Duration::from_secs(60);
 
 /// A thread that has begun to compute a value, and waits before it goes on.
 struct Computation {

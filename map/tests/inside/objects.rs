@@ -1,13 +1,14 @@
 //! Objects expire by a clock that the tests turn. What is refused comes back.
+use super::done;
 use crate::clock::NEVER;
-use crate::objects::State;
+use crate::objects::{State, BATCH};
 use crate::{
     AbsentError, ClearError, IfError, InsertError, Inserted, Look, ObjectBuilder, ObjectMap, Reason, RemoveError, UpdateError,
 };
 use cefrodil::Shape;
 use std::hint::spin_loop;
 use std::sync::atomic::{AtomicBool, Ordering::SeqCst};
-use std::sync::{Arc, Mutex};
+use std::sync::{Arc, Mutex, OnceLock};
 use std::thread;
 use std::time::{Duration, Instant};
 
@@ -20,9 +21,6 @@ type Names = ObjectMap<u64, String>;
 fn text(text: &str) -> String {
     text.into()
 }
-
-// Takes what a call returned that a test has no use for.
-fn done<T>(_: T) {}
 
 fn timed(life: Duration) -> Names {
     ObjectMap::builder(100).time_to_live(life).open().unwrap()
@@ -172,6 +170,38 @@ fn what_has_expired_is_removed_and_nothing_else() {
     assert_eq!((map.remove_expired(), map.remove_expired(), map.len()), (Ok(100), Ok(0), 100));
     assert!(heard.lock().unwrap().iter().all(|(key, reason)| key % 3 < 2 && *reason == Reason::Expired));
     assert!((0..300).all(|key| map.contains_key(&key) == (key % 3 == 2)));
+}
+
+// The listener hears of the first one, and puts all keys anew that the call has listed.
+#[test]
+fn what_was_put_since_the_list_is_not_removed() {
+    let (map, renewed) = (OnceLock::<Names>::new(), AtomicBool::new(false));
+    let shared = Arc::new((map, renewed));
+    let hears = Arc::downgrade(&shared);
+    let renew = move |_: &u64, _: &String, _| {
+        let shared = hears.upgrade().unwrap();
+        if !shared.1.swap(true, SeqCst) {
+            (0..10).for_each(|key| done(shared.0.get().unwrap().insert(key, text("b")).unwrap()));
+        }
+    };
+    let map = shared.0.get_or_init(|| ObjectMap::builder(100).listener(renew).open().unwrap());
+    (0..10).for_each(|key| done(map.insert_for(key, text("a"), Duration::ZERO).unwrap()));
+    assert_eq!(map.remove_expired(), Ok(1));
+    assert!((0..10).all(|key| map.get(&key) == Some(text("b"))));
+}
+
+// What waited while a closure ran is freed after it, and later objects wait no longer than before.
+#[test]
+fn few_objects_wait_once_a_long_closure_has_ended() {
+    let map = ObjectMap::<u64, u64>::new(100).unwrap();
+    let put = |count| (0..count).for_each(|number| done(map.insert(2, number).unwrap()));
+    map.insert(1, 1).unwrap();
+    let waited = map.get_with(&1, |_| {
+        put(1_000);
+        map.inner.epochs.waiting()
+    });
+    put(100);
+    assert_eq!((waited, map.inner.epochs.waiting() < BATCH), (Some(999), true));
 }
 
 #[test]

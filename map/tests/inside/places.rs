@@ -2,7 +2,7 @@
 use crate::words::Layout;
 use crate::{GetError, InsertError, Inserted, Map, RemoveError, UpdateError};
 use cefrodil::Shape;
-use std::hash::{BuildHasher, Hasher};
+use std::hash::{BuildHasher, BuildHasherDefault, Hasher};
 
 #[test]
 fn an_insert_without_a_place_says_so() {
@@ -84,6 +84,30 @@ impl BuildHasher for BuildPoor {
     fn build_hasher(&self) -> Poor {
         Poor::default()
     }
+}
+
+/// Spreads the upper bits of a hash alone: the lower half is the same for all keys.
+#[derive(Default)]
+struct Upper(u64);
+
+impl Hasher for Upper {
+    fn write(&mut self, _: &[u8]) {
+        unreachable!("the keys are numbers")
+    }
+
+    fn write_u64(&mut self, number: u64) {
+        self.0 = self.0 << 16 | number << 32;
+    }
+
+    fn finish(&self) -> u64 {
+        self.0
+    }
+}
+
+#[test]
+fn keys_of_a_hasher_that_spreads_few_bits_find_a_place() {
+    let map = Map::<u64, u64>::builder(4_000).hasher(BuildHasherDefault::<Upper>::default()).open().unwrap();
+    assert_eq!((0..2_000).filter(|key| map.insert(key, 1).is_err()).count(), 0);
 }
 
 #[test]

@@ -1,9 +1,10 @@
 //! No two calls use a pass at once, whether threads own one or share it, and no count is lost.
+use crate::slots::Slots;
 use crate::stats::Kind;
 use crate::Map;
 use std::collections::HashSet;
 use std::ptr;
-use std::sync::{Barrier, Mutex};
+use std::sync::{Arc, Barrier, Mutex};
 use std::thread;
 
 const THREADS: usize = 6;
@@ -39,20 +40,21 @@ fn no_two_calls_use_a_pass_at_once() {
     assert_eq!((passes_used(0), passes_used(2), passes_used(THREADS)), (1, 3, THREADS));
 }
 
+// So many counts of each thread show one that isn't atomic also where there are few processors.
 #[test]
 fn no_count_is_lost() {
-    const MANY: u64 = 20_000;
+    const MANY: u64 = 200_000;
     for owners in [0, 1, THREADS] {
-        let map: Map<u64, u64> = Map::builder(10).threads(owners).open().unwrap();
+        let slots = Arc::new(Slots::new(vec![(); owners + 1]));
         let start = Barrier::new(THREADS);
         thread::scope(|threads| {
             for _ in 0..THREADS {
                 threads.spawn(|| {
                     start.wait();
-                    (0..MANY).for_each(|_| map.inner.slots.count(Kind::Hit));
+                    (0..MANY).for_each(|_| slots.count(Kind::Hit));
                 });
             }
         });
-        assert_eq!(map.stats().hits, THREADS as u64 * MANY);
+        assert_eq!(slots.stats().hits, THREADS as u64 * MANY);
     }
 }

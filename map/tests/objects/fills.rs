@@ -1,7 +1,7 @@
 //! `get_or_insert_with`: one thread computes and the others wait. A value that was computed before a write of its key is not put after it.
 use crate::ledger::done;
-use cefrodil_map::{GetError, Inserted, Look, ObjectMap};
-use std::sync::atomic::{AtomicBool, AtomicU64, Ordering::SeqCst};
+use cefrodil_map::{GetError, Inserted, ObjectMap};
+use std::sync::atomic::{AtomicU64, Ordering::SeqCst};
 use std::sync::mpsc::{channel, Receiver, Sender};
 use std::sync::Barrier;
 use std::thread::{self, JoinHandle};
@@ -181,29 +181,4 @@ fn a_value_that_came_meanwhile_is_returned() {
         text("b")
     });
     assert_eq!((value.as_str(), map.get("key").as_deref()), ("a", Some("a")));
-}
-
-// One thread fills what another one removes, as fast as they can.
-#[test]
-fn a_removal_is_not_undone() {
-    let (store, end) = (AtomicU64::new(0), AtomicBool::new(false));
-    let map = ObjectMap::<u64, u64>::new(100).unwrap();
-    thread::scope(|threads| {
-        threads.spawn(|| {
-            while !end.load(SeqCst) {
-                map.get_or_insert_with(&7, || store.load(SeqCst));
-            }
-        });
-        let late = (0..10_000).filter(|round| {
-            let least = store.fetch_add(1, SeqCst) + 1;
-            match (round % 2, map.look(&7, |_| ())) {
-                (0, Ok(Look::Found { since, .. })) => done(map.remove_if(&7, since)),
-                _ => done(map.remove(&7).unwrap()),
-            }
-            round % 2 == 1 && map.get(&7).is_some_and(|value| value < least)
-        });
-        let late = late.count();
-        end.store(true, SeqCst);
-        assert_eq!(late, 0, "lookups found a value that had been removed");
-    });
 }

@@ -3,6 +3,7 @@ use crate::ledger::done;
 use cefrodil_map::{AbsentError, IfError, Inserted, Look, ObjectMap};
 use std::sync::atomic::{AtomicU64, Ordering::SeqCst};
 use std::thread;
+use std::time::Duration;
 
 type Names = ObjectMap<String, String>;
 
@@ -103,12 +104,24 @@ fn an_update_that_another_write_overtakes_begins_again() {
     map.update(text("one"), change).unwrap();
     assert_eq!(seen, [Some(text("a")), Some(text("b")), None, Some(text("c"))]);
     assert_eq!(map.get("one"), Some(text("c!")));
-    // A modification doesn't bring back what has gone.
-    let modified = map.modify("one", |old| {
-        assert!(map.remove("one").unwrap());
-        old.clone()
-    });
-    assert_eq!((modified.unwrap(), map.get("one")), (None, None));
+}
+
+#[test]
+fn a_modification_does_not_bring_back_what_has_gone() {
+    type Modify = fn(&Names, &mut dyn FnMut(&String) -> String) -> bool;
+    let modifications: [Modify; 2] = [
+        |map, change| map.modify("one", change).unwrap().is_some(),
+        |map, change| map.modify_for("one", Duration::from_secs(100), change).unwrap().is_some(),
+    ];
+    for modify in modifications {
+        let map = open();
+        map.insert(text("one"), text("a")).unwrap();
+        let modified = modify(&map, &mut |old| {
+            assert!(map.remove("one").unwrap());
+            old.clone()
+        });
+        assert_eq!((modified, map.get("one")), (false, None));
+    }
 }
 
 #[test]
