@@ -18,7 +18,7 @@ template <class Parts> class FlightOf;
 // The flights for some keys of a map.
 template <class Parts> class alignas(64) FlightsOf {
   public:
-    // Call it before a change of this key. Each flight that began before is told, or has put its value.
+    // Call it before a change of this key. Each flight that began before is outdated then, or has put its value.
     //
     // Without the fence a processor may read `count_` while what the caller did before, such as a change of the store behind the map, still waits
     // to be written. A flight that begins then would not be counted, and its function would read the old store. A flight has a fence, too, between

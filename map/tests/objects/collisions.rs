@@ -59,7 +59,7 @@ fn a_removal_takes_its_own_key_alone() {
     let since = map.put(2, ledger.make(2), None).unwrap().at;
     assert!(!map.remove(&4).unwrap());
     assert!(matches!(map.remove_with(&4, |_| ()), Ok(Look::Absent { .. })));
-    // The shard has changed since, and it is the moment of the answer that is told.
+    // The shard has changed since. The error has the moment of the answer.
     let at = map.put(3, ledger.make(3), None).unwrap().at;
     assert_eq!(map.remove_if(&4, since), Err(IfError::NotThere { at }));
     assert!(!map.touch(&4, std::time::Duration::ZERO));
