@@ -6,6 +6,7 @@ ghost use Rattle.mc_executions.specs.ShardedTime.{ShardsAreTimed};
 ghost use Rattle.mc_executions.specs.TimeOrder.{MomentsKeepOrder, WritesAreSeen, ChangesAreSteps, LogIsOne, RecordIsOne, RecordsPass};
 ghost use Rattle.mc_executions.specs.ClearVictims.{VictimsWereClear};
 ghost use Rattle.mc_executions.specs.RunningSteps.{EachIsAStep};
+ghost use Rattle.mc_executions.specs.Example.{PutBesideGet};
 
 /// For every order of a lawful writer's and any readers' atomic steps, each completed lookup answers what the map of the writer's changes held
 /// of its key at one moment between the lookup's first and last step; every victim's recency bit was clear when the hand read it; each
@@ -22,6 +23,12 @@ pub fn executions_grow()
 /// A reader may be seated on a new table, and may read any word next.
 pub fn readers_may_come()
     ensures { AllReadersMayCome }
+{}
+
+/// There is an execution in which a put and a lookup of its key overlap: the lookup begins before the change of the map, is spoiled by
+/// the put once, and finds the new value, which the map held between two of its steps.
+pub fn put_beside_get()
+    ensures { PutBesideGet }
 {}
 
 /// In every execution each lookup of each reader is true at a moment between the step that entered its first entry and the step that
