@@ -21,6 +21,8 @@ mod desk_gate;
 #[cfg(test)]
 mod evictions;
 #[cfg(test)]
+mod gate_counts;
+#[cfg(test)]
 mod journal;
 #[cfg(test)]
 mod large;
