@@ -5,7 +5,7 @@ use std::time::Duration;
 
 #[test]
 fn a_round_ends_though_clients_keep_coming() {
-    for answer in [Ok(()), Err(ErrorKind::ConnectionAborted)] {
+    for answer in [Ok(()), Err(ErrorKind::ConnectionAborted), Err(ErrorKind::Interrupted)] {
         let mut calls = 0;
         let next = accept_some(
             || {

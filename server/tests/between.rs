@@ -87,7 +87,7 @@ fn an_item_that_was_not_put_is_not_counted() {
 #[test]
 fn a_new_time_to_live_waits_for_a_change_that_keeps_the_old_one() {
     for command in ["touch n 100\n", "gat 100 n\n", "mg n T100\n"] {
-        for change in ["incr n 1\n", "append n 0 0 1\n1\n"] {
+        for change in ["incr n 1\n", "append n 0 0 1\n1\n", "prepend n 0 0 1\n1\n"] {
             let (mut client, (sender, threads)) = (client_with("1"), channel());
             client.ask_beside(change, move |mut other| {
                 let (asking, end) = (thread::spawn(move || other.ask(command)), Instant::now() + WHILE);

@@ -70,6 +70,33 @@ fn keys_of_a_long_line_are_answered_as_they_come() {
 }
 
 #[test]
+fn so_are_those_that_get_a_new_time_to_live() {
+    let mut client = Client::new(MEGABYTE);
+    client.ask(&format!("set k 0 0 5000\n{}\n", "x".repeat(5000)));
+    let one = format!("VALUE k 0 5000\n{}\n", "x".repeat(5000));
+    assert_eq!(client.ask(&format!("gat 100{}\n", " k".repeat(1_000))), one.repeat(1_000) + "END\n");
+    assert_ne!(client.ask("mg k t\n"), "HD t-1\n");
+}
+
+#[test]
+fn keys_of_long_values_are_answered_one_after_the_other() {
+    let mut client = Client::new(2 * MEGABYTE);
+    client.ask(&format!("set k 0 0 {MEGABYTE}\n{}\n", "x".repeat(MEGABYTE)));
+    // The client asserts that the output never has two of them.
+    let answer = client.ask("get k k k\n");
+    assert_eq!(answer.len(), 3 * (format!("VALUE k 0 {MEGABYTE}\n\n").len() + MEGABYTE) + "END\n".len());
+}
+
+#[test]
+fn each_value_is_under_its_key() {
+    let mut client = Client::new(MEGABYTE);
+    client.ask("set a 1 0 1\nA\nset b 2 0 1\nB\n");
+    let answer = "VALUE b 2 1\nB\nVALUE a 1 1\nA\nVALUE b 2 1\nB\nEND\n";
+    assert_eq!(client.ask("get b x a b\n"), answer);
+    assert_eq!(client.ask("gat 100 b x a b\n"), answer);
+}
+
+#[test]
 fn the_longest_key_ends_a_long_line_that_is_cut_within_its_end() {
     let (mut client, key) = (Client::new(MEGABYTE), "k".repeat(250));
     client.ask(&format!("set {key} 0 0 1\n1\n"));
@@ -111,6 +138,52 @@ fn a_flush_at_a_time_of_day_that_is_over() {
 fn what_was_flushed_stays_so_when_another_flush_is_to_come() {
     let mut client = Client::new(MEGABYTE);
     assert_eq!(client.ask("set a 0 0 1\n1\nflush_all\nflush_all 1000\nget a\n"), "STORED\nOK\nOK\nEND\n");
+}
+
+#[test]
+fn a_block_that_does_not_end_where_it_should() {
+    let mut client = Client::new(MEGABYTE);
+    client.ask("set a 0 0 3\nold\n");
+    for block in ["newX\n", "new\rX"] {
+        let (answer, ends) = client.ask_bytes(format!("set a 0 0 3\r\n{block}mn\r\n").as_bytes());
+        assert_eq!((&answer[..], ends), (&b"CLIENT_ERROR bad data chunk\r\nMN\r\n"[..], false), "{block:?}");
+        assert_eq!(client.ask("get a\n"), "VALUE a 0 3\nold\nEND\n", "{block:?}");
+    }
+}
+
+#[test]
+fn meta_commands_ask_for_a_token() {
+    let mut client = Client::new(MEGABYTE);
+    // The first item of a store has the token 1.
+    client.ask("set n 7 0 1\n5\n");
+    for command in ["ms n 1 C2\n6\n", "ms n 1 C2 MA\n6\n", "ms n 1 C2 MP\n6\n", "ms n 1 C2 MR\n6\n", "md n C2\n", "ma n C2\n"] {
+        assert_eq!(client.ask(command), "EX\n", "{command}");
+        assert_eq!(client.ask("mg n v c\n"), "VA 1 c1\n5\n", "{command}");
+    }
+    assert_eq!(client.ask("ma n C1 v c\nms n 1 C2 MA c\n0\nmd n C3\nmg n\n"), "VA 1 c2\n6\nHD c3\nHD\nEN\n");
+}
+
+#[test]
+fn what_is_appended_to_keeps_its_flags_and_its_time_to_live() {
+    let mut client = Client::new(MEGABYTE);
+    client.ask("set a 7 0 1\nb\n");
+    assert_eq!(client.ask("append a 8 100 1\nc\nprepend a 9 -1 1\na\n"), "STORED\nSTORED\n");
+    assert_eq!(client.ask("mg a v f t\n"), "VA 3 f7 t-1\nabc\n");
+}
+
+#[test]
+fn arithmetic_makes_a_number_that_is_missing() {
+    let mut client = Client::new(MEGABYTE);
+    // Quiet is only the usual answer, and this is not.
+    assert_eq!(client.ask("ma n N0 J5 D3 q v\nma n N0 J5 D3 q v\nmg n v f t\n"), "VA 1\n5\nVA 1 f0 t-1\n8\n");
+    assert_eq!(client.ask("ma m\nma m N100 T0\n"), "NF\nHD\n");
+    assert_ne!(client.ask("mg m t\n"), "HD t-1\n", "it has the time to live of N");
+}
+
+#[test]
+fn a_number_may_have_blanks_around_it() {
+    let mut client = Client::new(MEGABYTE);
+    assert_eq!(client.ask("set n 0 0 3\n 5 \nincr n 1\n"), "STORED\n6\n");
 }
 
 #[test]

@@ -64,6 +64,16 @@ fn who_wants_no_answer() {
         ("delete k noreply", true),
         ("version noreply", false),
         ("delete noreply", false),
+        ("add k 0 0 1 noreply", true),
+        ("replace k 0 0 1 noreply", true),
+        ("append k 0 0 1 noreply", true),
+        ("prepend k 0 0 1 noreply", true),
+        ("cas k 0 0 1 9 noreply", true),
+        ("incr k 1 noreply", true),
+        ("decr k 1 noreply", true),
+        ("touch k 0 noreply", true),
+        ("flush_all noreply", true),
+        ("verbosity 1 noreply", true),
     ] {
         assert_eq!(parse(line.as_bytes()).1, is_quiet, "{line}");
     }
@@ -155,6 +165,21 @@ fn meta_commands() {
     assert_eq!((delete.verb, delete.order.compare, delete.is_quiet), (Verb::Delete, Some(9), true));
     let Request::Meta(sum) = read("ma key N60 J5 D3 M- T90") else { panic!() };
     assert_eq!((sum.create, sum.initial, sum.delta, sum.subtracts, sum.expiry), (Some(60), 5, 3, true, Some(90)));
+}
+
+#[test]
+fn modes_are_capital_or_small_letters() {
+    let modes = [("Ee", How::Add), ("Aa", How::Append), ("Pp", How::Prepend), ("Rr", How::Replace), ("Ss", How::Set)];
+    for (letter, how) in modes.iter().flat_map(|(letters, how)| letters.chars().map(move |letter| (letter, *how))) {
+        let line = format!("ms k 1 M{letter}");
+        let Request::Meta(meta) = read(&line) else { panic!("{line}") };
+        assert_eq!(meta.order.how, how, "{line}");
+    }
+    for (letter, subtracts) in "Ii+".chars().map(|letter| (letter, false)).chain("Dd-".chars().map(|letter| (letter, true))) {
+        let line = format!("ma k M{letter}");
+        let Request::Meta(meta) = read(&line) else { panic!("{line}") };
+        assert_eq!(meta.subtracts, subtracts, "{line}");
+    }
 }
 
 #[test]

@@ -114,6 +114,51 @@ fn an_item_that_finds_no_room_is_not_counted() {
     assert_eq!(there(&mut client, "abc"), "bc");
 }
 
+#[test]
+fn items_that_could_not_be_looked_at_give_way_later() {
+    let mut client = room_for(2, 0);
+    set(&mut client, "ab");
+    client.control.refuses_looks.store(true, SeqCst);
+    assert_eq!(client.ask("add c 0 0 1\n5\n"), "SERVER_ERROR busy, and nothing was changed\n");
+    assert_eq!(client.ask("set c 0 0 1\n5\n"), "SERVER_ERROR not stored, and the old value may still be found\n");
+    client.control.refuses_looks.store(false, SeqCst);
+    set(&mut client, "c");
+    assert_eq!(there(&mut client, "abc"), "bc");
+}
+
+#[test]
+fn the_queue_forgets_no_item_that_could_not_be_looked_at() {
+    let mut client = Client::new(MEGABYTE);
+    set(&mut client, "abcdefgh");
+    client.control.refuses_looks.store(true, SeqCst);
+    for _ in 0..5_000 {
+        set(&mut client, "x");
+    }
+    client.control.refuses_looks.store(false, SeqCst);
+    // There is no room for this beside any other item.
+    let most = MEGABYTE - cost(3, 0) as usize;
+    assert_eq!(client.ask(&format!("set big 0 0 {most}\n{}\n", "x".repeat(most))), "STORED\n");
+    assert_eq!(client.store.room.items(), 1);
+}
+
+#[test]
+fn an_item_that_a_command_could_not_change_gives_way_in_its_turn() {
+    let mut client = room_for(2, 1);
+    set(&mut client, "ab");
+    client.control.refuses_puts.store(true, SeqCst);
+    assert_eq!(client.ask("incr a 5\n"), FULL);
+    client.control.refuses_puts.store(false, SeqCst);
+    assert_eq!(client.store.room.items(), 1, "another one gave way to the number");
+    // The command has read it, which spares it once.
+    set(&mut client, "cde");
+    assert_eq!(there(&mut client, "acde"), "de");
+}
+
+#[test]
+fn what_an_item_counts() {
+    assert_eq!((cost(0, 0), cost(3, 5)), (180, 188));
+}
+
 /// A command that changes what `a` has, and its answer.
 const CHANGES: [(&str, &str); 6] = [
     ("append a 0 0 1\n5\n", "STORED\n"),

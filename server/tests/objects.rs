@@ -36,3 +36,41 @@ fn a_stamp_names_one_put_of_one_key() {
         assert_eq!((room.items(), room.used()), (0, 0), "its bytes are given back");
     }
 }
+
+#[test]
+fn a_condition_that_is_not_met_changes_nothing() {
+    let room = Arc::new(Room::new(1 << 20));
+    let objects = Objects::open(1000, 1, &room, None).expect("there is memory");
+    let (key, item) = (b"key".as_slice(), |flags| Item::new(1, flags, u64::MAX, Box::new([0])));
+    assert_eq!(objects.put_if(key, 1, item(1)), Ok(Outcome::Absent));
+    assert_eq!(objects.remove_if(key, 1), Ok(Outcome::Absent));
+    let old = put(&objects, &room, key, 2);
+    let new = put(&objects, &room, key, 3);
+    assert_eq!(objects.put_new(key, item(4)), Ok(Outcome::Changed));
+    assert_eq!(objects.put_if(key, old, item(5)), Ok(Outcome::Changed));
+    assert_eq!(objects.remove_if(key, old), Ok(Outcome::Changed));
+    assert_eq!(flags_of(&objects, Stamp { hash: objects.hash_of(key), token: new }), Some(3));
+    assert_eq!((room.items(), room.used()), (1, cost(key.len(), 1)));
+}
+
+#[test]
+fn a_condition_that_is_met() {
+    let room = Arc::new(Room::new(1 << 20));
+    let objects = Objects::open(1000, 1, &room, None).expect("there is memory");
+    let (key, bytes) = (b"key".as_slice(), cost(3, 1));
+    let item = |flags| Item::new(1, flags, u64::MAX, Box::new([0]));
+    room.take(bytes);
+    let Ok(Outcome::Done(first)) = objects.put_new(key, item(1)) else { panic!("it was absent") };
+    room.take(bytes);
+    let Ok(Outcome::Done(second)) = objects.put_if(key, first, item(2)) else { panic!("it has this token") };
+    assert_eq!(flags_of(&objects, Stamp { hash: objects.hash_of(key), token: second }), Some(2));
+    assert!(matches!(objects.remove_if(key, second), Ok(Outcome::Done(_))));
+    objects.look(&[key], &mut |_, seen| assert!(matches!(seen, Ok(None))));
+    assert_eq!((room.items(), room.used()), (0, 0));
+}
+
+#[test]
+fn nobody_can_choose_keys_that_collide() {
+    let open = || Objects::open(1000, 1, &Arc::new(Room::new(1 << 20)), None).expect("there is memory");
+    assert_ne!(open().hash_of(b"key"), open().hash_of(b"key"), "each index has a secret of its own");
+}

@@ -16,9 +16,10 @@ fn options(words: &str) -> Options {
 fn memcached_s_names() {
     let plain = options("");
     assert_eq!(
-        (plain.listen.to_string(), plain.threads, plain.memory, plain.connections),
-        ("127.0.0.1:11211".into(), 4, 64 << 20, 1024)
+        (plain.listen.to_string(), plain.threads, plain.memory, plain.connections, plain.longest),
+        ("127.0.0.1:11211".into(), 4, 64 << 20, 1024, 1 << 20)
     );
+    assert_eq!(plain.items, (64 << 20) / 256, "one item for each 256 bytes of the memory limit");
     let short = options("-p 1234 -l ::1 -t2 -m 100 -c 10 -U 0 -I 2m");
     let long =
         options("--port=1234 --listen ::1 --threads=2 --memory-limit 100 --conn-limit=10 --udp-port=0 --max-item-size=2048k");
@@ -44,6 +45,13 @@ fn faults() {
         ("-t 0", "-t"),
         ("-m 15", "-m"),
         ("-l nowhere", "'nowhere' is no address"),
+        ("-c 0", "-c"),
+        ("-n 0", "-n"),
+        ("-t 65", "-t"),
+        ("-m 1048577", "-m"),
+        ("-I 1023", "-I"),
+        ("-I 129m", "-I"),
+        ("-I m", "-I"),
         ("-I 1", "-I"),
         ("-hx", "-hx takes no value"),
         ("-A x", "'-A'"),

@@ -6,9 +6,9 @@ import subprocess
 TIMEOUT = 10
 
 
-def start(program, *options, port=0):
+def start(program, *options, port=0, stderr=None):
     """Starts the server: its process and its port."""
-    server = subprocess.Popen([program, '-p', str(port), *options], stdout=subprocess.PIPE, text=True)
+    server = subprocess.Popen([program, '-p', str(port), *options], stdout=subprocess.PIPE, stderr=stderr, text=True)
     line = server.stdout.readline()
     if not line.startswith('cefrodild: listening on 127.0.0.1:'):
         server.kill()
@@ -22,9 +22,9 @@ def stop(process):
 
 
 @contextlib.contextmanager
-def running(program, *options):
+def running(program, *options, stderr=None):
     """The process and the port of a server, which is killed in the end."""
-    server, port = start(program, *options)
+    server, port = start(program, *options, stderr=stderr)
     try:
         yield server, port
     finally:

@@ -1,6 +1,8 @@
 //! The clock, deadlines, and what a flush hits.
 use cefrodild::clock::{unix_time, Clock, NEVER};
 use cefrodild::item::{Flushes, Item};
+use std::thread;
+use std::time::Duration;
 
 const SECOND: u64 = 1_000_000_000;
 const DAYS_30: i64 = 60 * 60 * 24 * 30;
@@ -28,6 +30,15 @@ fn times_to_live() {
     assert_eq!(clock.deadline(DAYS_30 + 1), 0);
     let (before, deadline, after) = (clock.now(), clock.deadline(unix_time() as i64 + 1000), clock.now());
     assert!((999..=1000).any(|seconds| is_after(deadline, seconds, before, after)));
+}
+
+#[test]
+fn the_longest_times_to_live() {
+    let clock = Clock::new();
+    // So many seconds don't fit into 64 bits as nanoseconds.
+    for seconds in [30_000_000_000, i64::MAX] {
+        assert_eq!(clock.deadline(seconds), NEVER, "{seconds}");
+    }
 }
 
 #[test]
@@ -83,6 +94,23 @@ fn a_flush_does_not_undo_one_that_has_come() {
     // It came at 10.
     flushes.flush(20, 11);
     assert!(!item.is_live(12, &flushes));
+}
+
+#[test]
+fn a_flush_waits_for_another_one() {
+    let (item, flushes) = (item(5, NEVER), Flushes::default());
+    thread::scope(|threads| {
+        // Else each would take the place of the other, and one would be lost.
+        let mut other = None;
+        flushes.flush_with(20, 6, || {
+            let asking = threads.spawn(|| flushes.flush(6, 6));
+            thread::sleep(Duration::from_millis(20));
+            assert!(!asking.is_finished());
+            other = Some(asking);
+        });
+        other.expect("it was asked for").join().expect("it is done");
+    });
+    assert!(!item.is_live(7, &flushes));
 }
 
 #[test]

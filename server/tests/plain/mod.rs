@@ -87,6 +87,9 @@ impl Index for Plain {
     }
 
     fn look_stamped(&self, stamp: Stamp, see: &mut dyn FnMut(Seen<'_>)) {
+        if self.control.refuses_looks.load(SeqCst) {
+            return see(Err(Refused::Held));
+        }
         let (items, _) = &*self.items.lock().unwrap();
         let entry = items.get(&stamp.hash).filter(|entry| entry.token == stamp.token);
         see(Ok(entry.map(|entry| (&entry.item, entry.token))));

@@ -1,0 +1,183 @@
+//! Connections of clients, turn by turn.
+mod plain;
+use cefrodild::connection::{Connection, Next};
+use plain::client::{Client, MEGABYTE};
+use std::io::{ErrorKind, Read, Write};
+use std::net::{TcpListener, TcpStream};
+use std::thread::yield_now;
+use std::time::{Duration, Instant};
+
+/// How long answers that were sent may be on their way.
+const LIMIT: Duration = Duration::from_secs(2);
+
+/// A client over a connection, and the other end of that.
+struct Both {
+    /// Its store.
+    client: Client,
+    connection: Connection,
+    /// The connection's end, for seeing what has arrived.
+    arrived: TcpStream,
+    stream: TcpStream,
+}
+
+impl Both {
+    fn new() -> Both {
+        let listener = TcpListener::bind("127.0.0.1:0").expect("a port is free");
+        let stream = TcpStream::connect(listener.local_addr().expect("it is bound")).expect("it listens");
+        let (accepted, _) = listener.accept().expect("one has connected");
+        for stream in [&accepted, &stream] {
+            stream.set_nonblocking(true).and(stream.set_nodelay(true)).expect("it is a socket");
+        }
+        let arrived = accepted.try_clone().expect("there is a descriptor");
+        let client = Client::new(4 * MEGABYTE);
+        let seat = client.store.seats.take().expect("a seat is free");
+        Both { client, connection: Connection::new(mio::net::TcpStream::from_std(accepted), seat), arrived, stream }
+    }
+
+    fn turn(&mut self) -> Next {
+        // As if an event had come.
+        self.connection.read_again();
+        self.connection.turn(&self.client.store).expect("nobody closes the connection")
+    }
+
+    /// Sends this, and gives the connection turns until it waits for an event.
+    fn send(&mut self, bytes: &[u8]) -> Next {
+        self.write(bytes);
+        for _ in 0..1_000 {
+            match self.turn() {
+                Next::Turn => {}
+                next => return next,
+            }
+        }
+        panic!("it has one turn after the other");
+    }
+
+    fn write(&mut self, bytes: &[u8]) {
+        self.stream.write_all(bytes).expect("the system takes so many bytes");
+        let mut room = vec![0; bytes.len()];
+        while self.arrived.peek(&mut room).unwrap_or(0) < bytes.len() {
+            yield_now();
+        }
+    }
+
+    /// What the client has been sent and has not read.
+    fn read(&mut self) -> Vec<u8> {
+        let mut bytes = Vec::new();
+        match self.stream.read_to_end(&mut bytes) {
+            Err(why) if why.kind() != ErrorKind::WouldBlock => panic!("{why}"),
+            _ => bytes,
+        }
+    }
+
+    /// The same, as soon as there are so many bytes.
+    fn read_all(&mut self, bytes: usize) -> Vec<u8> {
+        let (mut read, end) = (self.read(), Instant::now() + LIMIT);
+        while read.len() < bytes && Instant::now() < end {
+            yield_now();
+            read.append(&mut self.read());
+        }
+        read
+    }
+
+    /// Asks until the system has no room for the last answer. Returns how many bytes all answers have.
+    fn fill(&mut self) -> usize {
+        const SIZE: usize = 50_000;
+        self.store(SIZE);
+        for asked in 1..1_000 {
+            assert_eq!(self.send(b"get k\r\n"), Next::Event);
+            if !self.connection.is_idle() {
+                return asked * answer(SIZE);
+            }
+        }
+        panic!("the connection is idle, though nobody reads its answers");
+    }
+
+    /// Stores a value of this size under `k`.
+    fn store(&mut self, size: usize) {
+        let answer = self.client.ask(&format!("set k 0 0 {size}\n{}\n", "x".repeat(size)));
+        assert_eq!(answer, "STORED\n");
+    }
+}
+
+/// The length of what `get k` answers.
+fn answer(size: usize) -> usize {
+    format!("VALUE k 0 {size}\r\n\r\nEND\r\n").len() + size
+}
+
+#[test]
+fn many_commands_behind_a_long_one() {
+    let mut both = Both::new();
+    let long = format!("set k 0 0 3000\r\n{}\r\n", "x".repeat(3_000));
+    // It comes in two parts, so the connection waits for as many bytes. What follows has fewer in the end.
+    assert_eq!(both.send(&long.as_bytes()[..20]), Next::Event);
+    let rest = [&long.as_bytes()[20..], &b"mn\r\n".repeat(1_000)].concat();
+    assert_eq!(both.send(&rest), Next::Event);
+    let answers = [&b"STORED\r\n"[..], &b"MN\r\n".repeat(1_000)].concat();
+    assert_eq!(both.read_all(answers.len()), answers);
+}
+
+#[test]
+fn a_client_that_sends_much_does_not_keep_others_waiting() {
+    let mut both = Both::new();
+    both.write(&b"mn\r\n".repeat(5_000));
+    assert_eq!(both.turn(), Next::Turn);
+    assert!(both.read().len() < 4 * 5_000, "there is more to do");
+}
+
+#[test]
+fn a_client_that_does_not_read_is_left_alone_until_it_does() {
+    const SIZE: usize = 100_000;
+    let mut both = Both::new();
+    both.store(SIZE);
+    assert_eq!(both.send(&b"get k\r\n".repeat(200)), Next::Event);
+    for _ in 0..10 {
+        assert_eq!(both.turn(), Next::Event);
+    }
+    assert!(!both.connection.is_idle());
+    let mut bytes = 0;
+    while bytes < 200 * answer(SIZE) {
+        bytes += both.read().len();
+        both.turn();
+        yield_now();
+    }
+    assert!(bytes == 200 * answer(SIZE) && both.connection.is_idle());
+}
+
+#[test]
+fn a_client_that_quits_gets_all_its_answers() {
+    let mut both = Both::new();
+    let waiting = both.fill();
+    let (mut bytes, mut next) = (0, both.send(b"quit\r\n"));
+    assert_eq!(next, Next::Event);
+    while next != Next::Nothing {
+        bytes += both.read().len();
+        next = both.turn();
+        yield_now();
+    }
+    assert_eq!(bytes + both.read_all(waiting - bytes).len(), waiting);
+}
+
+#[test]
+fn a_client_is_idle_between_commands() {
+    let mut both = Both::new();
+    assert!(both.connection.is_idle());
+    for (part, is_idle) in
+        [("s", false), ("et k 0 0 5\r\n", false), ("va", false), ("lue\r\n", true), ("get k", false), ("\r\n", true)]
+    {
+        assert_eq!((both.send(part.as_bytes()), both.connection.is_idle()), (Next::Event, is_idle), "{part:?}");
+    }
+}
+
+#[test]
+fn a_client_is_not_idle_while_answers_wait() {
+    let mut both = Both::new();
+    let waiting = both.fill();
+    assert!(!both.connection.is_idle());
+    let mut bytes = 0;
+    while bytes < waiting {
+        bytes += both.read().len();
+        assert_eq!(both.turn(), Next::Event);
+        yield_now();
+    }
+    assert!(both.connection.is_idle());
+}

@@ -1,0 +1,74 @@
+//! What `stats` counts.
+mod plain;
+use cefrodild::counts::{take_place, Count, Counts};
+use cefrodild::room::cost;
+use plain::client::{Client, MEGABYTE};
+use std::thread;
+
+/// The values of these names in what `stats` answers, with this word behind it.
+fn stats(client: &mut Client, what: &str, names: &str) -> String {
+    let answer = client.ask(&format!("stats {what}\n"));
+    assert!(answer.ends_with("END\n"), "{answer}");
+    let value = |name: &str| answer.lines().find_map(|line| line.strip_prefix(&format!("STAT {name} "))).expect(name).to_owned();
+    names.split(' ').map(value).collect::<Vec<_>>().join(" ")
+}
+
+#[test]
+fn lookups() {
+    let mut client = Client::new(MEGABYTE);
+    client.ask("set a 0 0 1\n1\nget a b c\ngat 0 a\n");
+    assert_eq!(stats(&mut client, "", "cmd_get get_hits get_misses cmd_touch touch_hits"), "4 2 2 1 1");
+    client.ask("touch a 0\ntouch b 0\n");
+    assert_eq!(stats(&mut client, "", "cmd_get cmd_touch touch_hits touch_misses"), "4 3 2 1");
+}
+
+#[test]
+fn changes() {
+    let mut client = Client::new(MEGABYTE);
+    // The first item of a store has the token 1.
+    client.ask("set a 0 0 1\n1\ncas a 0 0 1 1\n2\ncas a 0 0 1 1\n2\ncas a 0 0 1 1\n2\nms x 1 C1\n1\n");
+    assert_eq!(stats(&mut client, "", "cmd_set total_items cas_hits cas_badval cas_misses"), "5 2 1 2 1");
+    client.ask("incr a 1\nincr a 1\nincr b 1\nma a\ndecr a 1\ndecr b 1\ndecr b 1\nma b MD\n");
+    assert_eq!(stats(&mut client, "", "incr_hits incr_misses decr_hits decr_misses"), "3 1 1 3");
+    client.ask("delete a\ndelete a\ndelete a\nflush_all\n");
+    assert_eq!(stats(&mut client, "", "delete_hits delete_misses cmd_flush"), "1 2 1");
+}
+
+#[test]
+fn memory() {
+    let mut client = Client::new(2 * cost(1, 10) as usize);
+    client.ask("set a 0 0 10\n1234567890\n");
+    assert_eq!(stats(&mut client, "", "bytes curr_items evictions"), format!("{} 1 0", cost(1, 10)));
+    client.ask("set b 0 0 10\n1234567890\nset c 0 0 10\n1234567890\n");
+    assert_eq!(stats(&mut client, "", "bytes curr_items evictions"), format!("{} 2 1", 2 * cost(1, 10)));
+    client.ask(&format!("set d 0 0 2000000\n{}\nset d 0 0 1000\n{}\n", "x".repeat(2_000_000), "x".repeat(1_000)));
+    assert_eq!(stats(&mut client, "", "store_too_large store_no_memory curr_items"), "1 1 2");
+}
+
+#[test]
+fn what_was_asked_for() {
+    let mut client = Client::new(MEGABYTE);
+    assert_eq!(stats(&mut client, "", "threads max_connections limit_maxbytes curr_connections"), "1 1024 67108864 0");
+    assert_eq!(stats(&mut client, "settings", "maxbytes maxconns item_size_max num_threads"), "67108864 1024 1048576 1");
+}
+
+#[test]
+fn a_reset_keeps_what_is_there() {
+    let mut client = Client::new(MEGABYTE);
+    assert_eq!(client.ask("set a 0 0 1\n1\nget a b\nstats reset\n").lines().last(), Some("RESET"));
+    assert_eq!(stats(&mut client, "", "cmd_get get_hits get_misses cmd_set curr_items"), "0 0 0 0 1");
+}
+
+#[test]
+fn the_counts_of_all_threads() {
+    let counts = Counts::new(3);
+    let sum = || counts.sums().find(|(name, _)| *name == "cmd_get").map(|(_, sum)| sum);
+    let count = |place| {
+        take_place(place);
+        counts.add_many(Count::Gets, 10);
+    };
+    thread::scope(|threads| (0..3).for_each(|place| drop(threads.spawn(move || count(place)))));
+    assert_eq!(sum(), Some(30));
+    counts.reset();
+    assert_eq!(sum(), Some(0));
+}
