@@ -72,6 +72,10 @@ fn nothing_that_came_meanwhile_is_overwritten_by_add() {
     let mut client = Client::new(MEGABYTE);
     assert_eq!(client.ask_beside("add n 0 0 1\nx\n", |mut other| set(&mut other, "b")), "NOT_STORED\n");
     assert_eq!(value(&mut client), "b");
+    // Nor if an expired item was there.
+    assert_eq!(client.ask("touch n -1\n"), "TOUCHED\n");
+    assert_eq!(client.ask_beside("add n 0 0 1\nx\n", |mut other| set(&mut other, "c")), "NOT_STORED\n");
+    assert_eq!(value(&mut client), "c");
 }
 
 #[test]

@@ -181,3 +181,12 @@ fn a_client_is_not_idle_while_answers_wait() {
     }
     assert!(both.connection.is_idle());
 }
+
+#[test]
+fn bytes_are_counted() {
+    let mut both = Both::new();
+    assert_eq!(both.send(&b"mn\r\n".repeat(100)), Next::Event);
+    assert_eq!(both.read_all(400).len(), 400);
+    let of = |sought| both.client.store.counts.sums().find(|(name, _)| *name == sought).map(|(_, sum)| sum);
+    assert_eq!((of("bytes_read"), of("bytes_written")), (Some(400), Some(400)));
+}

@@ -1,5 +1,6 @@
 //! Dialogues over a plain index: what is answered, also when the index refuses.
 mod plain;
+use cefrodild::dialogue::{Dialogue, Turn};
 use plain::client::{Client, MEGABYTE};
 use std::sync::atomic::Ordering::SeqCst;
 
@@ -54,6 +55,29 @@ fn a_value_that_is_too_long() {
         client.ask(&format!("set a 0 0 {}\n{most}y\nget a\n", MEGABYTE + 1)),
         "SERVER_ERROR object too large for cache\nEND\n"
     );
+}
+
+#[test]
+fn the_longest_value_is_that_of_the_options() {
+    for (most, option) in [(2 << 10, "-I2k"), (2 * MEGABYTE, "-I2m")] {
+        let (mut client, value) = (Client::with(8 * MEGABYTE, option), "x".repeat(most));
+        assert_eq!(client.ask(&format!("set a 0 0 {most}\n{value}\n")), "STORED\n");
+        for command in ["append a 0 0 1\ny\n", "prepend a 0 0 1\ny\n", &format!("set b 0 0 {}\n{value}y\n", most + 1)] {
+            assert_eq!(client.ask(command), "SERVER_ERROR object too large for cache\n");
+        }
+        assert_eq!(client.ask("mg a s\nmg b\n"), format!("HD s{most}\nEN\n"));
+    }
+}
+
+#[test]
+fn what_has_come_of_a_block_that_is_refused_is_not_kept() {
+    for line in ["set a 0 0 2000000\r\n", "ms a 2000000\r\n", "ms a 2000000 MX\r\n"] {
+        let (store, mut dialogue) = (Client::new(MEGABYTE).store, Dialogue::default());
+        for part in [line.as_bytes(), &[b'x'; 100], &[b'x'; 100]] {
+            // So it goes on with any byte that comes, and does not wait for the rest of the block.
+            assert_eq!(dialogue.turn(&store, part, &mut Vec::new()), (part.len(), Turn::Needs(1)), "{line}");
+        }
+    }
 }
 
 #[test]
@@ -152,6 +176,12 @@ fn a_block_that_does_not_end_where_it_should() {
 }
 
 #[test]
+fn a_client_that_wants_no_answer_is_not_told_of_such_a_block() {
+    let mut client = Client::new(MEGABYTE);
+    assert_eq!(client.ask_bytes(b"set a 0 0 3 noreply\r\nnewX\nmn\r\nget a\r\n").0, b"MN\r\nEND\r\n");
+}
+
+#[test]
 fn meta_commands_ask_for_a_token() {
     let mut client = Client::new(MEGABYTE);
     // The first item of a store has the token 1.
@@ -181,9 +211,37 @@ fn arithmetic_makes_a_number_that_is_missing() {
 }
 
 #[test]
+fn arithmetic_changes_the_time_to_live_if_it_is_asked_to() {
+    let mut client = Client::new(MEGABYTE);
+    assert_eq!(client.ask("set n 0 0 1\n5\nma n\nmg n t\nma n T100\n"), "STORED\nHD\nHD t-1\nHD\n");
+    assert_ne!(client.ask("mg n t\n"), "HD t-1\n");
+    assert_eq!(client.ask("ma n T0 v\nmg n t\nma n T-1\nmg n\n"), "VA 1\n8\nHD t-1\nHD\nEN\n");
+}
+
+#[test]
+fn a_value_that_is_no_number_is_told_of_also_by_quiet_commands() {
+    let mut client = Client::new(MEGABYTE);
+    let answer = "CLIENT_ERROR cannot increment or decrement non-numeric value\n";
+    assert_eq!(client.ask("set n 0 0 1\nx\nma n q\nma n MD q v\n"), format!("STORED\n{answer}{answer}"));
+}
+
+#[test]
 fn a_number_may_have_blanks_around_it() {
     let mut client = Client::new(MEGABYTE);
     assert_eq!(client.ask("set n 0 0 3\n 5 \nincr n 1\n"), "STORED\n6\n");
+}
+
+#[test]
+fn a_number_may_have_a_plus_before_it() {
+    let mut client = Client::new(MEGABYTE);
+    assert_eq!(client.ask("set n +7 +100 +2\n+5\nincr n +1\nget n\n"), "STORED\n6\nVALUE n 7 1\n6\nEND\n");
+}
+
+#[test]
+fn the_longest_opaque_token_is_sent_back() {
+    let mut client = Client::new(MEGABYTE);
+    let opaque = "o".repeat(32);
+    assert_eq!(client.ask(&format!("set n 0 0 1\n5\nmg n O{opaque}\n")), format!("STORED\nHD O{opaque}\n"));
 }
 
 #[test]
@@ -191,6 +249,15 @@ fn arithmetic_keeps_the_flags() {
     let mut client = Client::new(MEGABYTE);
     assert_eq!(client.ask("set n 7 0 1\n5\nincr n 1\nget n\n"), "STORED\n6\nVALUE n 7 1\n6\nEND\n");
     assert_eq!(client.ask("ma n MD\nget n\n"), "HD\nVALUE n 7 1\n5\nEND\n");
+}
+
+#[test]
+fn the_version_begins_with_that_of_a_memcached() {
+    // Clients choose commands by it.
+    let answer = Client::new(MEGABYTE).ask("version\n");
+    let numbers = answer.strip_prefix("VERSION ").and_then(|version| version.split('-').next()).expect("a version");
+    assert_eq!(numbers.split('.').filter_map(|number| number.parse::<u32>().ok()).count(), 3, "{answer}");
+    assert_eq!(answer.lines().count(), 1);
 }
 
 #[test]

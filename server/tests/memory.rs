@@ -182,6 +182,17 @@ fn the_item_that_a_command_changes_does_not_give_way_to_it() {
 }
 
 #[test]
+fn an_item_that_was_changed_gives_way_in_its_turn() {
+    for (change, answer) in CHANGES {
+        let mut client = room_for(2, 1);
+        set(&mut client, "a");
+        assert_eq!(client.ask(change), answer, "{change}");
+        set(&mut client, "bcd");
+        assert_eq!(there(&mut client, "abcd"), "cd", "{change}");
+    }
+}
+
+#[test]
 fn nor_does_it_give_way_to_another_command_meanwhile() {
     for (change, answer) in CHANGES {
         let mut client = room_for(4, 1);

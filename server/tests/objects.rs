@@ -1,4 +1,5 @@
 //! The index of items over Cefrodil's.
+use cefrodild::audit::Audit;
 use cefrodild::index::{Index, Outcome, Stamp, Token};
 use cefrodild::item::Item;
 use cefrodild::objects::Objects;
@@ -67,6 +68,34 @@ fn a_condition_that_is_met() {
     assert!(matches!(objects.remove_if(key, second), Ok(Outcome::Done(_))));
     objects.look(&[key], &mut |_, seen| assert!(matches!(seen, Ok(None))));
     assert_eq!((room.items(), room.used()), (0, 0));
+}
+
+#[test]
+fn there_is_a_place_for_each_item_that_was_asked_for() {
+    for (items, threads) in [(1, 1), (1_000, 4), (100_000, 1), (100_000, 64)] {
+        let objects = Objects::open(items, threads, &Arc::new(Room::new(1 << 20)), None).expect("there is memory");
+        assert!(objects.capacity() >= items, "{items} {}", objects.capacity());
+    }
+}
+
+#[test]
+fn an_index_with_a_log_has_one_history() {
+    let (room, log) = (Arc::new(Room::new(1 << 20)), Audit::create("/dev/null").expect("it can be opened"));
+    let objects = Objects::open(100_000, 4, &room, Some(Arc::new(log))).expect("there is memory");
+    let tokens: Vec<_> = (0..100u32).map(|number| put(&objects, &room, &number.to_be_bytes(), 1)).collect();
+    assert!(tokens.is_sorted_by(|one, next| one < next), "{tokens:?}");
+}
+
+#[test]
+fn items_that_give_way_to_others_in_a_full_index_are_counted() {
+    let room = Arc::new(Room::new(1 << 20));
+    let objects = Objects::open(100, 1, &room, None).expect("there is memory");
+    let items = 2 * objects.capacity();
+    for number in 0..items {
+        put(&objects, &room, number.to_string().as_bytes(), 1);
+    }
+    assert!(room.items() as usize <= objects.capacity());
+    assert_eq!(room.evicted() + room.items(), items as u64);
 }
 
 #[test]

@@ -55,6 +55,7 @@ fn faults() {
         ("-I 1", "-I"),
         ("-hx", "-hx takes no value"),
         ("-A x", "'-A'"),
+        ("-\u{e9}", "'-\u{e9}'"),
         ("-n 1000000", "half of the memory"),
     ] {
         let why = read(words).expect_err(words);

@@ -69,7 +69,12 @@ def client_that_stops_halfway(program):
             client.sendall(b'set key 0 0 1048576\r\nv')
         assert ask(other, b'get key\r\n') == END
         assert memory_of(server) - before < 4 * MEGABYTE, memory_of(server) - before
-        assert ask(rude[0], b'v' * (MEGABYTE - 1) + b'\r\n') == b'STORED\r\n'
+        # Nor does a byte more.
+        for client in rude:
+            client.sendall(b'v')
+        assert ask(other, b'get key\r\n') == END
+        assert memory_of(server) - before < 4 * MEGABYTE, memory_of(server) - before
+        assert ask(rude[0], b'v' * (MEGABYTE - 2) + b'\r\n') == b'STORED\r\n'
         for client in rude:
             client.close()
         with connect(port) as endless:
@@ -94,6 +99,22 @@ def crowd(program):
         with stopped(server):
             clients = [stack.enter_context(connect(port)) for _ in range(200)]
         assert all(ask(client, b'mn\r\n') == b'MN\r\n' for client in clients)
+
+
+def clients_of_each_worker(program):
+    """Each has as many as any other. The system tells which connections it waits for."""
+    with running(program, '-t', '4') as (server, port), contextlib.ExitStack() as stack:
+        clients = [stack.enter_context(connect(port)) for _ in range(12)]
+        assert all(ask(client, b'mn\r\n') == b'MN\r\n' for client in clients)
+        folder, shares = f'/proc/{server.pid}', []
+        for number in os.listdir(f'{folder}/fd'):
+            with open(f'{folder}/fdinfo/{number}', encoding='ascii') as file:
+                waits_for = [line.split()[1] for line in file if line.startswith('tfd:')]
+            sockets = [other for other in waits_for if os.readlink(f'{folder}/fd/{other}').startswith('socket:')]
+            if waits_for:
+                shares.append(len(sockets))
+        # The fifth waits for clients.
+        assert sorted(shares) == [1, 3, 3, 3, 3], shares
 
 
 def client_that_sends_no_more(program):
@@ -202,7 +223,7 @@ def faults_of_the_command_line(program):
 
 
 def main():
-    tests = [too_many_clients, crowd, client_that_does_not_read, client_that_stops_halfway, client_that_sends_no_more, idle_clients, complaints_that_nobody_reads, noise, end, memory, faults_of_the_command_line]
+    tests = [too_many_clients, crowd, clients_of_each_worker, client_that_does_not_read, client_that_stops_halfway, client_that_sends_no_more, idle_clients, complaints_that_nobody_reads, noise, end, memory, faults_of_the_command_line]
     for test in tests:
         test(sys.argv[1])
     print(f'rude: {len(tests)} tests: ok')

@@ -3,6 +3,7 @@ mod plain;
 use cefrodild::counts::{take_place, Count, Counts};
 use cefrodild::room::cost;
 use plain::client::{Client, MEGABYTE};
+use std::sync::atomic::Ordering::SeqCst;
 use std::thread;
 
 /// The values of these names in what `stats` answers, with this word behind it.
@@ -20,6 +21,35 @@ fn lookups() {
     assert_eq!(stats(&mut client, "", "cmd_get get_hits get_misses cmd_touch touch_hits"), "4 2 2 1 1");
     client.ask("touch a 0\ntouch b 0\n");
     assert_eq!(stats(&mut client, "", "cmd_get cmd_touch touch_hits touch_misses"), "4 3 2 1");
+}
+
+#[test]
+fn keys_that_are_left_for_later_are_not_counted_before() {
+    let mut client = Client::new(2 * MEGABYTE);
+    client.ask(&format!("set k 0 0 {MEGABYTE}\n{}\nget k k k x\n", "x".repeat(MEGABYTE)));
+    assert_eq!(stats(&mut client, "", "cmd_get get_hits get_misses"), "4 3 1");
+}
+
+#[test]
+fn what_the_index_did_not_do() {
+    let mut client = Client::new(MEGABYTE);
+    client.ask("set a 0 0 1\n1\n");
+    client.control.refuses_puts.store(true, SeqCst);
+    client.ask("set b 0 0 1\n1\nset b 0 0 1\n1\n");
+    assert_eq!(stats(&mut client, "", "refused held busy"), "2 0 0");
+    client.control.refuses_removals.store(true, SeqCst);
+    client.ask("delete a\n");
+    assert_eq!(stats(&mut client, "", "refused held busy"), "2 1 0");
+    client.control.refuses_looks.store(true, SeqCst);
+    client.ask("get a\n");
+    assert_eq!(stats(&mut client, "", "refused held busy get_misses"), "2 1 1 1");
+}
+
+#[test]
+fn meta_commands() {
+    let mut client = Client::new(MEGABYTE);
+    client.ask("ms a 1\n1\nms a 1 q\n1\nmg a v\nmg b q\nma a q\nmd a q\n");
+    assert_eq!(stats(&mut client, "", "cmd_meta cmd_set cmd_get get_misses incr_hits"), "6 2 2 1 1");
 }
 
 #[test]
@@ -50,6 +80,12 @@ fn what_was_asked_for() {
     let mut client = Client::new(MEGABYTE);
     assert_eq!(stats(&mut client, "", "threads max_connections limit_maxbytes curr_connections"), "1 1024 67108864 0");
     assert_eq!(stats(&mut client, "settings", "maxbytes maxconns item_size_max num_threads"), "67108864 1024 1048576 1");
+}
+
+#[test]
+fn what_clients_ask_for_and_there_is_none_of() {
+    let mut client = Client::new(MEGABYTE);
+    assert_eq!(client.ask("stats items\nstats slabs\n"), "END\nEND\n");
 }
 
 #[test]

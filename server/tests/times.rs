@@ -58,6 +58,16 @@ fn the_time_that_is_left_is_rounded_up() {
 }
 
 #[test]
+fn the_server_counts_whole_seconds_since_its_start() {
+    let clock = Clock::new();
+    while clock.now() < SECOND / 20 {
+        let before = clock.now() / SECOND;
+        let uptime = clock.uptime();
+        assert!((before..=clock.now() / SECOND).contains(&uptime), "{uptime}");
+    }
+}
+
+#[test]
 fn an_item_lives_until_its_deadline() {
     let (item, flushes) = (item(5, 10), Flushes::default());
     assert!(item.is_live(9, &flushes) && !item.is_live(10, &flushes));

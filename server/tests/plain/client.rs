@@ -19,8 +19,13 @@ pub struct Client {
 impl Client {
     /// The client of a store of its own, whose items may take so many bytes.
     pub fn new(memory: usize) -> Client {
+        Client::with(memory, "-t1")
+    }
+
+    /// The same, with this option.
+    pub fn with(memory: usize, option: &str) -> Client {
         let (room, control) = (Arc::new(Room::new(memory as u64)), Arc::new(Control::default()));
-        let Ok(Asked::Serve(options)) = parse(["-t1".to_owned()]) else { panic!("these are options") };
+        let Ok(Asked::Serve(options)) = parse([option.to_owned()]) else { panic!("this is an option") };
         let store = Arc::new(Store::new(Box::new(Plain::new(&room, &control)), room, options));
         Client { store, control, dialogue: Dialogue::default(), input: Vec::new() }
     }
