@@ -62,18 +62,16 @@ def client_that_does_not_read(program):
 
 def client_that_stops_halfway(program):
     """Neither a promise of a long value nor a line takes memory, or keeps anybody waiting."""
-    with running(program, '-t', '1', '-c', '200') as (server, port), connect(port) as other:
+    with running(program, '-t', '1', '-c', '200') as (server, port), contextlib.ExitStack() as stack:
         before = memory_of(server)
-        rude = [connect(port) for _ in range(100)]
-        for client in rude:
-            client.sendall(b'set key 0 0 1048576\r\nv')
-        assert ask(other, b'get key\r\n') == END
-        assert memory_of(server) - before < 4 * MEGABYTE, memory_of(server) - before
-        # Nor does a byte more.
-        for client in rude:
-            client.sendall(b'v')
-        assert ask(other, b'get key\r\n') == END
-        assert memory_of(server) - before < 4 * MEGABYTE, memory_of(server) - before
+        rude = [stack.enter_context(connect(port)) for _ in range(100)]
+        # It connected last, so it has its turns behind theirs.
+        other = stack.enter_context(connect(port))
+        for part in [b'set key 0 0 1048576\r\nv', b'v']:
+            for client in rude:
+                client.sendall(part)
+            assert ask(other, b'get key\r\n') == END
+            assert memory_of(server) - before < 4 * MEGABYTE, memory_of(server) - before
         assert ask(rude[0], b'v' * (MEGABYTE - 2) + b'\r\n') == b'STORED\r\n'
         for client in rude:
             client.close()
