@@ -1,5 +1,6 @@
 // Each allocation of an opening and of a list is refused in turn, the library's and those of C++: then the call returns no_memory, does nothing
 // and keeps nothing. A list allocates in its turn, so other threads are held meanwhile. Linked with --wrap.
+#include "cefrodil_filler.hpp"
 #include "cefrodil_map.hpp"
 #include "must.h"
 #include <chrono>
@@ -166,6 +167,23 @@ static void by_passes() {
     MUST(passes.size() == 3 && !passes[1].get(7).value);
 }
 
+// A filler that finds no memory leaves the writer as it was.
+static void fillers() {
+    Writer<1> writer;
+    std::vector<Reader<1>> readers;
+    MUST(open(shape, 1, writer, readers) == Status::ok && writer.put(7, {70}).status == Status::ok);
+    std::optional<Filler<1>> filler;
+    long refusals = 0;
+    for (; !filler && refusals < 10; refusals++) {
+        const long before = kept;
+        left = refusals;
+        const bool is_made = inside::has_memory([&] { filler.emplace(std::move(writer), 10); });
+        left = -1;
+        MUST(is_made ? !writer.is_open() : kept == before && writer.get(7).value);
+    }
+    MUST(filler && refusals == 3 && filler->writer().get(7).value);
+}
+
 // A thread that has no memory to note its pass gives it back, and uses the shared one.
 static void passes_of_threads(const cefrodil_shape &one) {
     inside::Passes<1> passes;
@@ -302,6 +320,7 @@ int main() {
     const long before = kept;
     apart();
     by_passes();
+    fillers();
     batch_beside_a_list();
     std::thread(by_maps).join(); // with what the thread keeps
     MUST(kept == before);
