@@ -35,6 +35,8 @@ static void lookups() {
     MUST(readers[0].get(1).status == Status::absent && are(meter.counts(), {0, 1, 0, 0, 0, 0}));
     MUST(writer.put(1, {10}).status == Status::ok && readers[1].get(1).status == Status::ok && are(meter.counts(), {1, 1, 0, 0, 0, 0}));
     MUST(writer.get(1).status == Status::ok && writer.get(2).status == Status::absent && are(writer.meter().counts(), {2, 2, 0, 0, 0, 0}));
+    // A peek is no lookup.
+    MUST(writer.peek(1).value && writer.peek(2).status == Status::absent && are(meter.counts(), {2, 2, 0, 0, 0, 0}));
     const uint64_t keys[5] = {1, 2, 1, 3, 1};
     std::array<uint64_t, 1> values[5];
     cefrodil_answer answers[5];
@@ -228,6 +230,8 @@ static void work(Pass<1> &pass, Told &told, std::atomic<bool> &is_held) {
         told.wrote(pass.try_swap(key + 3, {n}));
         told.wrote(pass.try_swap_if(key, n, {n}));
         told.wrote(pass.try_take(key));
+        told.wrote(pass.try_take_if(key, n));
+        told.listed(pass.try_peek(key).status);
         told.wrote(pass.try_remove(key + 5));
         const Status len = pass.try_len(number);
         told.listed(len);
