@@ -135,12 +135,21 @@ static void put_batch(Status expected, uint64_t at) {
     MUST(at_desk[1].meter().counts().held == before + (expected == Status::held ? 40 : 0));
 }
 
-// While a list has the turn, each group of a batch is held, and nothing is changed.
+static void held_peek() {
+    const uint64_t before = at_desk[1].meter().counts().held;
+    const Answer<1> peeked = at_desk[1].try_peek(7);
+    MUST(peeked.status == Status::held && !peeked.value && at_desk[1].meter().counts().held == before + 1);
+}
+
+// While a list has the turn, a peek is held, and each group of a batch, and nothing is changed.
 static void batch_beside_a_list() {
     std::vector<uint64_t> list;
     list.reserve(100);
     MUST(open_desk(shape, 2, at_desk) == Status::ok && at_desk[0].try_put(7, {70}).status == Status::ok);
-    in_turn = [] { put_batch(Status::held, 0); };
+    in_turn = [] {
+        put_batch(Status::held, 0);
+        held_peek();
+    };
     MUST(at_desk[0].try_entries(list) == Status::ok && list.size() == 2 && in_turn == nullptr);
     put_batch(Status::ok, 2);
     MUST(at_desk[0].try_entries(list) == Status::ok && list.size() == 82 && at_desk[0].get(139).since == 41);
