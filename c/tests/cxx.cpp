@@ -243,6 +243,9 @@ static void within(Pass<1> &pass) {
     MUST(calls_within(pass, 1, 1, Status::held) == 1 && calls_within(pass, 0, 0, Status::absent) == 1);
     std::vector<uint64_t> list;
     MUST(pass.within(3, [&](Pass<1> &mine) { return mine.try_entries(list); }) == Status::ok);
+    int calls = 0;
+    const auto busy = [&](Pass<1> &) { return calls++, Status::busy; };
+    MUST(pass.within(5, busy) == Status::busy && calls == 1);
 }
 
 // A pass of shards doesn't list stamps.
