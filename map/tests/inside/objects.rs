@@ -79,6 +79,31 @@ fn a_put_begins_the_time_anew_and_a_change_does_not() {
 }
 
 #[test]
+fn the_time_begins_when_the_closure_has_ended() {
+    type Put = fn(&Names, &dyn Fn() -> String);
+    let puts: [Put; 3] = [
+        |map, slowly| done(map.update(1, |_| slowly()).unwrap()),
+        |map, slowly| done(map.get_or_insert_with(&1, slowly)),
+        |map, slowly| {
+            map.insert(1, text("a")).unwrap();
+            map.modify_for(&1, seconds(100), |_| slowly()).unwrap();
+        },
+    ];
+    for put in puts {
+        let map = timed(seconds(100));
+        let slowly = || {
+            turn(&map, seconds(50));
+            text("b")
+        };
+        put(&map, &slowly);
+        turn(&map, seconds(99));
+        assert_eq!(map.get(&1), Some(text("b")));
+        turn(&map, seconds(1));
+        assert_eq!(map.get(&1), None);
+    }
+}
+
+#[test]
 fn a_touch_changes_no_token_and_is_not_lost_by_a_change() {
     let map = timed(seconds(100));
     map.insert(1, text("a")).unwrap();
