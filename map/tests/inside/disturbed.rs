@@ -88,6 +88,25 @@ fn a_write_that_does_not_get_the_turn_says_so() {
     });
 }
 
+// The map's other calls would try until they get the turn.
+#[test]
+fn a_single_try_of_a_write_does_not_wait_for_the_turn() {
+    const HELD: Result<u64, UpdateError> = Err(UpdateError::Insert(InsertError::Held));
+    let map = filled(20_000, TRIES);
+    let list = || drop(map.inner.slots.call(AnyPass::keys));
+    beside(list, |number| {
+        let (key, other) = (number % 100, 100 + number % 100);
+        let inserted = map.try_insert(&key, number);
+        let added = map.try_update(&(number + 1_000_000), |_| number);
+        let updated = map.try_update(&other, |_| number);
+        let removed = map.try_remove(&key);
+        assert!(matches!(inserted, Ok(_) | Err(InsertError::Held)), "{inserted:?}");
+        assert!(matches!((added, updated), (Ok(_) | HELD, Ok(_) | HELD)), "{added:?}, {updated:?}");
+        assert!(matches!(removed, Ok(_) | Err(RemoveError::Held)), "{removed:?}");
+        [inserted.is_err(), added.is_err(), updated.is_err(), removed.is_err()]
+    });
+}
+
 #[test]
 fn each_refusal_is_counted() {
     let map = filled(20_000, 1);
@@ -138,8 +157,17 @@ fn a_value_is_made_without_waiting_after_one_lookup() {
 }
 
 #[test]
+fn a_single_lookup_does_not_wait() {
+    let map = restless(TRIES);
+    let write = || {
+        let _ = map.insert(&2, 20);
+    };
+    beside(write, |_| [map.try_get(&1) == Err(GetError::Busy)]);
+}
+
+#[test]
 fn a_clear_that_does_not_get_the_turn_says_so() {
-    let map = filled(20_000, 1);
+    let map = filled(20_000, TRIES);
     let list = || drop(map.inner.slots.call(AnyPass::keys));
     beside(list, |_| {
         let cleared = map.try_clear();
@@ -222,6 +250,24 @@ fn a_busy_key_of_many_is_looked_up_again() {
         [replies.contains(&Reply::Busy)]
     });
     assert_eq!(map.stats().busy, 0);
+}
+
+// Only another key is written meanwhile.
+#[test]
+fn a_change_after_a_busy_lookup_is_made_once() {
+    let map = restless(TRIES);
+    let write = || {
+        let _ = map.insert(&2, 20);
+    };
+    beside(write, |_| {
+        let mut calls = 0;
+        let change = |old: Option<u64>| {
+            calls += 1;
+            old.unwrap()
+        };
+        assert_eq!((map.update(&1, change), calls), (Ok(10), 1));
+        [map.try_get(&1) == Err(GetError::Busy)]
+    });
 }
 
 #[test]
