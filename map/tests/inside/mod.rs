@@ -1,6 +1,7 @@
-//! Tests that need what the map doesn't show: its clock, shapes and tries, its passes, and who waits for a value.
+//! Tests that need what the map doesn't show: its clock, shapes and tries, its passes, who waits for a value, and where its errors come from.
 mod detaching;
 mod disturbed;
+mod errors;
 mod expiry;
 mod fills;
 mod flights;
