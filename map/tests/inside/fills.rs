@@ -139,4 +139,6 @@ fn a_failure_lets_those_that_wait_find_what_was_put_since() {
     put(&map, 10);
     drop(leader);
     assert_eq!((waiting.join().unwrap(), map.get(&KEY)), (10, Some(10)));
+    // A call is one lookup, also if it waited.
+    assert_eq!((map.stats().hits, map.stats().misses), (1, 1));
 }
