@@ -224,6 +224,10 @@ fn a_lookup_that_stays_busy_says_so_and_is_counted() {
         assert_eq!(map.stats().busy, before + u64::from(tried.is_err()));
         let found = map.get(&1);
         assert!(matches!(found, Some(10) | None));
+        let before = map.stats().busy;
+        let many = map.get_many(&[1]);
+        assert!(matches!(many[..], [Some(10) | None]), "{many:?}");
+        assert_eq!(map.stats().busy, before + u64::from(many == [None]));
         let removed = map.remove(&1);
         match removed {
             Ok(old) => {
@@ -232,7 +236,7 @@ fn a_lookup_that_stays_busy_says_so_and_is_counted() {
             }
             Err(why) => assert!(matches!(why, RemoveError::Busy | RemoveError::Held)),
         }
-        [tried.is_err(), found.is_none(), removed == Err(RemoveError::Busy)]
+        [tried.is_err(), found.is_none(), many == [None], removed == Err(RemoveError::Busy)]
     });
 }
 
