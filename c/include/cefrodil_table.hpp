@@ -17,7 +17,8 @@ template <class V> struct Found {
     std::optional<V> value;
 };
 
-// The answer of a put. `renewed`: it overwrote the key's value. `evicted`: another key's entry is lost.
+// The answer of a put. `renewed`: it overwrote the key's value; or, by `insert_or_assign`, that of a key with the same hash, which is lost.
+// `evicted`: another key's entry is lost.
 struct Stored {
     Status status;
     bool renewed;

@@ -3,15 +3,17 @@
  * requested. */
 #define _GNU_SOURCE
 #include <stdatomic.h>
+#include <stdint.h>
 #include <stdlib.h>
 #include <sys/mman.h>
 
 static _Thread_local long mallocs_left = -1;
+static _Thread_local size_t largest_malloc = SIZE_MAX;
 /* How many blocks of malloc are in use, and how many regions were allocated. */
 static atomic_long in_use, regions_made;
 
 static void *malloc_or_none(size_t size) {
-    if (mallocs_left == 0) {
+    if (mallocs_left == 0 || size > largest_malloc) {
         return NULL;
     }
     mallocs_left -= mallocs_left > 0;
@@ -282,6 +284,18 @@ static void full_regions(void) {
     }
 }
 
+/* Where malloc has room for a block, but not for a region, the block is placed by itself. */
+static void blocks_without_regions(void) {
+    struct full full;
+    largest_malloc = 4 << 20;
+    regions_made = 0;
+    make(&full, 1 << 20, 8);
+    MUST(regions_made == 0);
+    resize(&full, 200000);
+    largest_malloc = SIZE_MAX;
+    rattle_dealloc(full.at);
+}
+
 /* What follows is done by another copy of the functions, which has an open region of its own, until this is called again. */
 static void as_the_other_copy(void) {
     static struct region *region_of_other = NULL;
@@ -346,6 +360,7 @@ int main(void) {
     huge_pages_of_large_blocks();
     huge_pages_of_regions();
     full_regions();
+    blocks_without_regions();
     blocks_of_another_copy();
     refused();
     return outcome("blocks");

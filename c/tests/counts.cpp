@@ -35,6 +35,8 @@ static void lookups() {
     MUST(readers[0].get(1).status == Status::absent && are(meter.counts(), {0, 1, 0, 0, 0, 0}));
     MUST(writer.put(1, {10}).status == Status::ok && readers[1].get(1).status == Status::ok && are(meter.counts(), {1, 1, 0, 0, 0, 0}));
     MUST(writer.get(1).status == Status::ok && writer.get(2).status == Status::absent && are(writer.meter().counts(), {2, 2, 0, 0, 0, 0}));
+    // A peek is no lookup.
+    MUST(writer.peek(1).value && writer.peek(2).status == Status::absent && are(meter.counts(), {2, 2, 0, 0, 0, 0}));
     const uint64_t keys[5] = {1, 2, 1, 3, 1};
     std::array<uint64_t, 1> values[5];
     cefrodil_answer answers[5];
@@ -151,6 +153,29 @@ static void closed_at_once() {
     MUST(are(meter.counts(), {0, 8, 0, 0, 0, 0}));
 }
 
+// The counts may be read while a desk is made, which makes room for more of them. ThreadSanitizer sees whether both wait for each other.
+static void read_beside_a_new_desk() {
+    Writer<1> writer;
+    std::vector<Reader<1>> readers;
+    std::vector<Pass<1>> passes;
+    MUST(open(shape_of(2, most), 1, writer, readers) == Status::ok && writer.get(9).status == Status::absent);
+    const Meter meter = writer.meter();
+    std::atomic<bool> begins{false}, done{false}, is_right{true};
+    std::thread reading([&] {
+        while (!done) {
+            is_right = is_right && are(meter.counts(), {0, 1, 0, 0, 0, 0});
+            begins = true;
+        }
+    });
+    while (!begins) {
+        std::this_thread::yield();
+    }
+    MUST(make_desk(writer, 60, passes) == Status::ok);
+    done = true;
+    reading.join();
+    MUST(is_right && passes[59].get(9).status == Status::absent && are(meter.counts(), {0, 2, 0, 0, 0, 0}));
+}
+
 // A batch that is refused as such has put nothing, so whatever its answers say is not counted.
 static void refused_batches() {
     Writer<1> writer;
@@ -205,6 +230,8 @@ static void work(Pass<1> &pass, Told &told, std::atomic<bool> &is_held) {
         told.wrote(pass.try_swap(key + 3, {n}));
         told.wrote(pass.try_swap_if(key, n, {n}));
         told.wrote(pass.try_take(key));
+        told.wrote(pass.try_take_if(key, n));
+        told.listed(pass.try_peek(key).status);
         told.wrote(pass.try_remove(key + 5));
         const Status len = pass.try_len(number);
         told.listed(len);
@@ -267,6 +294,7 @@ int main() {
     all_recent();
     desks();
     closed_at_once();
+    read_beside_a_new_desk();
     refused_batches();
     std::vector<Pass<1>> passes;
     MUST(open_desk(shape_of(8, most), 4, passes) == Status::ok);

@@ -2,6 +2,7 @@
 #include "cefrodil.hpp"
 #include "must.h"
 #include <cstdlib>
+#include <new>
 #include <thread>
 #include <type_traits>
 #include <utility>
@@ -188,6 +189,18 @@ static void typed(const cefrodil_shape &shape) {
     MUST(cefrodil::from_words<float>(cefrodil::to_words(0.5f)) == 0.5f && cefrodil::to_words(0.0) != cefrodil::to_words(-0.0));
 }
 
+// The bytes after a type are 0, whatever was in memory before.
+static void bytes_after_a_type() {
+    alignas(8) unsigned char place[64];
+    for (volatile unsigned char &byte : place) {
+        byte = 0xff;
+    }
+    std::array<char, 57> letters;
+    letters.fill('a');
+    const auto *words = new (place) std::array<uint64_t, 8>(cefrodil::to_words(letters));
+    MUST((*words)[0] == 0x6161616161616161 && (*words)[7] == 0x61);
+}
+
 static void by_turns(std::vector<Pass<1>> passes) {
     std::vector<uint64_t> list;
     MUST(passes[0].try_put(1, {0}).status == Status::ok && passes[1].try_entries(list) == Status::ok && list.size() == 2 && list[0] == 1);
@@ -230,6 +243,9 @@ static void within(Pass<1> &pass) {
     MUST(calls_within(pass, 1, 1, Status::held) == 1 && calls_within(pass, 0, 0, Status::absent) == 1);
     std::vector<uint64_t> list;
     MUST(pass.within(3, [&](Pass<1> &mine) { return mine.try_entries(list); }) == Status::ok);
+    int calls = 0;
+    const auto busy = [&](Pass<1> &) { return calls++, Status::busy; };
+    MUST(pass.within(5, busy) == Status::busy && calls == 1);
 }
 
 // A pass of shards doesn't list stamps.
@@ -260,6 +276,7 @@ int main() {
     opened_with(*shape);
     shards_opened_with(*part);
     typed(*shape);
+    bytes_after_a_type();
     std::vector<Pass<1>> passes, others;
     MUST(cefrodil::open_desk(*shape, 1, passes) == Status::ok && cefrodil::open_shards(*part, 4, 1, others) == Status::ok);
     stamped(passes[0], others[0]);

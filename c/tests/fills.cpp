@@ -50,6 +50,22 @@ static void lost_put() {
     MUST(filler.writer().remove(2).status == Status::ok && filler.fill(2, ticket, {20}).status == Status::ok);
 }
 
+// A new value that finds no place is a change of the store all the same. Both buckets of the nine keys are the same two, and no key may move.
+static void refused_put() {
+    const cefrodil_shape shape{uint64_t(1) << 62, 1024, 16, 1, 0, 2, CEFRODIL_MIX_NONE};
+    std::vector<Reader<1>> readers;
+    Writer<1> writer;
+    MUST(open(shape, 1, writer, readers) == Status::ok);
+    for (uint64_t key = 0; key < 8; key++) {
+        MUST(writer.put(1024 * key, {key}).status == Status::ok);
+    }
+    Filler<1> filler(std::move(writer), 10);
+    const Ticket ticket = filler.tickets().take();
+    MUST(filler.put(1024 * 8, {81}).status == Status::no_path && filler.writer().remove(0).status == Status::ok);
+    MUST(filler.fill(1024 * 8, ticket, {80}).status == Status::stale && readers[0].get(1024 * 8).status == Status::absent);
+    MUST(filler.fill(1024 * 8, filler.tickets().take(), {81}).status == Status::ok);
+}
+
 // `known` changes are known. A fill that is older than all of them is refused, whatever its key is.
 static void known_changes(size_t changes, size_t known) {
     std::vector<Reader<1>> readers;
@@ -73,6 +89,7 @@ static void known_changes(size_t changes, size_t known) {
 int main() {
     lost_update();
     lost_put();
+    refused_put();
     known_changes(3, 3);
     known_changes(1, 1);
     known_changes(0, 1);

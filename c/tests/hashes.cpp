@@ -114,6 +114,24 @@ static void default_hashes() {
     kernel = random_numbers;
 }
 
+// A hash that has something of its own: where it counts its calls.
+static int calls_elsewhere = 0;
+struct CallsCounted {
+    int *calls = &calls_elsewhere;
+    HashPair operator()(const int &key, const HashSecret &) const noexcept {
+        *calls += 1;
+        return {uint64_t(unsigned(key)), 0};
+    }
+};
+
+// A map uses the hash that it is opened with.
+static void hashes_of_openings() {
+    int calls = 0;
+    cefrodil::map<int, int, CallsCounted> numbers;
+    MUST(numbers.open({100}, CallsCounted{&calls}) == Status::ok && calls == 0);
+    MUST(numbers.insert(1, 10).status == Status::ok && calls == 1 && numbers.find(1) == 10 && calls == 2);
+}
+
 // An opening draws one secret.
 static void openings() {
     cefrodil::map<int, int> numbers;
@@ -130,6 +148,7 @@ int main() {
     secrets<TellingPair>(1);
     secrets<TellingSeed>(2);
     default_hashes();
+    hashes_of_openings();
     openings();
     return outcome("hashes");
 }

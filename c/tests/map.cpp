@@ -324,6 +324,62 @@ static uint64_t fibonacci(Numbers &known, uint64_t n, uint64_t &calls) {
     }).value;
 }
 
+// A hash that gives each key the number that it is.
+struct ByNumber {
+    HashPair operator()(const uint64_t &key, const HashSecret &) const noexcept { return {key, key}; }
+};
+
+// Computes so many keys, each in the function of the one before, and clears the map in the last. Returns how many were put.
+static uint64_t put_around_clear(map<uint64_t, uint64_t, ByNumber> &numbers, uint64_t keys) {
+    if (keys == 0) {
+        MUST(numbers.clear() == Status::ok);
+        return 0;
+    }
+    uint64_t put = 0;
+    const auto computed = numbers.find_or_compute(keys, [&] {
+        put = put_around_clear(numbers, keys - 1);
+        return keys;
+    });
+    MUST(computed.computed && computed.value == keys);
+    return put + (computed.status != Status::stale);
+}
+
+// What is computed while the map is cleared is not put, whatever its key is.
+static void computations_around_clear() {
+    map<uint64_t, uint64_t, ByNumber> numbers;
+    MUST(numbers.open({1000}) == Status::ok && put_around_clear(numbers, 100) == 0 && numbers.size() == 0);
+}
+
+// A hash with bits in few places, so that most keys would meet if the index took them as they are.
+struct Sparse {
+    HashPair operator()(const uint64_t &key, const HashSecret &) const noexcept { return {key << 52, key}; }
+};
+
+// The index mixes the bits of such a hash, so all keys have a place.
+static void sparse_hashes() {
+    map<uint64_t, uint64_t, Sparse> numbers;
+    MUST(numbers.open({2000}) == Status::ok);
+    for (uint64_t key = 0; key < 1000; key++) {
+        MUST(numbers.insert(key, key).status == Status::ok);
+    }
+    MUST(numbers.size() == 1000 && numbers.find(999) == 999u);
+}
+
+// Each key of one call is looked up once, and nothing else is.
+static void lookups_of_many_keys() {
+    Numbers numbers;
+    MUST(numbers.open({1000}) == Status::ok && numbers.insert(1, 10).status == Status::ok);
+    const uint64_t keys[40] = {1, 2, 1};
+    std::optional<uint64_t> values[40];
+    const auto looked_up = [&](size_t count) {
+        const cefrodil::Counts before = numbers.meter().counts();
+        static_cast<void>(numbers.find_many(keys, count, values));
+        const cefrodil::Counts after = numbers.meter().counts();
+        return after.hits + after.misses - before.hits - before.misses;
+    };
+    MUST(looked_up(0) == 0 && looked_up(3) == 3 && looked_up(32) == 32 && looked_up(33) == 33 && looked_up(40) == 40);
+}
+
 // A function may call the map. If it changes its own key, what it computes is not put.
 static void computations() {
     Numbers numbers;
@@ -376,7 +432,10 @@ int main(int argc, char **argv) {
     MUST(random_calls({1, 4, 1}, 200, 20000 / fewer) > 1000 / fewer);
     collisions<Narrow>();
     collisions<NarrowPair>();
+    sparse_hashes();
     texts();
+    lookups_of_many_keys();
     computations();
+    computations_around_clear();
     return outcome("map");
 }

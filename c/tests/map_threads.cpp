@@ -357,8 +357,38 @@ static void flights() {
     MUST(ends(*two) == Status::ok && ends(three) == Status::ok);
     flights.outdate({1, 2});
     MUST(ends(*two) == Status::ok && ends(three) == Status::stale);
+    // A change of another key does not take that back.
+    flights.outdate({1, 3});
+    MUST(ends(*two) == Status::ok && ends(three) == Status::stale);
     flights.outdate_all();
     MUST(ends(*two) == Status::stale);
+}
+
+// Who waits for a key's flight goes on when that ends, though another key's flight goes on.
+static void flights_of_other_keys() {
+    using cefrodil::inside::Flight, cefrodil::inside::Identity;
+    cefrodil::inside::Flights flights;
+    std::optional<Flight> one, two;
+    one.emplace(flights, Identity{1, 1});
+    two.emplace(flights, Identity{2, 1});
+    std::atomic<bool> begins{false}, goes_on{false};
+    std::thread waiting([&] {
+        begins = true;
+        const Flight same(flights, {1, 1});
+        goes_on = true;
+    });
+    while (!begins) {
+        std::this_thread::yield();
+    }
+    std::this_thread::sleep_for(std::chrono::milliseconds(20));
+    MUST(!goes_on);
+    one.reset();
+    for (int n = 0; !goes_on && n < 20000; n++) {
+        std::this_thread::sleep_for(std::chrono::milliseconds(1));
+    }
+    MUST(goes_on);
+    two.reset();
+    waiting.join();
 }
 
 // Of so many flights, only that of the key which is changed is told.
@@ -480,6 +510,7 @@ int main(int argc, char **argv) {
     computations();
     computations_beside_updates();
     flights();
+    flights_of_other_keys();
     for (uint64_t count = 1; count <= 4; count++) {
         told_flights(count);
     }

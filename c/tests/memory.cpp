@@ -1,5 +1,6 @@
 // Each allocation of an opening and of a list is refused in turn, the library's and those of C++: then the call returns no_memory, does nothing
 // and keeps nothing. A list allocates in its turn, so other threads are held meanwhile. Linked with --wrap.
+#include "cefrodil_filler.hpp"
 #include "cefrodil_map.hpp"
 #include "must.h"
 #include <chrono>
@@ -134,12 +135,21 @@ static void put_batch(Status expected, uint64_t at) {
     MUST(at_desk[1].meter().counts().held == before + (expected == Status::held ? 40 : 0));
 }
 
-// While a list has the turn, each group of a batch is held, and nothing is changed.
+static void held_peek() {
+    const uint64_t before = at_desk[1].meter().counts().held;
+    const Answer<1> peeked = at_desk[1].try_peek(7);
+    MUST(peeked.status == Status::held && !peeked.value && at_desk[1].meter().counts().held == before + 1);
+}
+
+// While a list has the turn, a peek is held, and each group of a batch, and nothing is changed.
 static void batch_beside_a_list() {
     std::vector<uint64_t> list;
     list.reserve(100);
     MUST(open_desk(shape, 2, at_desk) == Status::ok && at_desk[0].try_put(7, {70}).status == Status::ok);
-    in_turn = [] { put_batch(Status::held, 0); };
+    in_turn = [] {
+        put_batch(Status::held, 0);
+        held_peek();
+    };
     MUST(at_desk[0].try_entries(list) == Status::ok && list.size() == 2 && in_turn == nullptr);
     put_batch(Status::ok, 2);
     MUST(at_desk[0].try_entries(list) == Status::ok && list.size() == 82 && at_desk[0].get(139).since == 41);
@@ -164,6 +174,23 @@ static void by_passes() {
     // What is open already stays so.
     MUST(at_last(4, [&] { return open_desk(shape, 3, passes); }, [&] { return passes.size() == 2 && passes[1].get(7).value.has_value(); }));
     MUST(passes.size() == 3 && !passes[1].get(7).value);
+}
+
+// A filler that finds no memory leaves the writer as it was.
+static void fillers() {
+    Writer<1> writer;
+    std::vector<Reader<1>> readers;
+    MUST(open(shape, 1, writer, readers) == Status::ok && writer.put(7, {70}).status == Status::ok);
+    std::optional<Filler<1>> filler;
+    long refusals = 0;
+    for (; !filler && refusals < 10; refusals++) {
+        const long before = kept;
+        left = refusals;
+        const bool is_made = inside::has_memory([&] { filler.emplace(std::move(writer), 10); });
+        left = -1;
+        MUST(is_made ? !writer.is_open() : kept == before && writer.get(7).value);
+    }
+    MUST(filler && refusals == 3 && filler->writer().get(7).value);
 }
 
 // A thread that has no memory to note its pass gives it back, and uses the shared one.
@@ -302,6 +329,7 @@ int main() {
     const long before = kept;
     apart();
     by_passes();
+    fillers();
     batch_beside_a_list();
     std::thread(by_maps).join(); // with what the thread keeps
     MUST(kept == before);

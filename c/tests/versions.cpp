@@ -24,6 +24,7 @@ int main() {
     statuses.clear();
     MUST(open_shards_with(shape, 4, 1, {1, 10}, loaded, statuses) == expected && statuses.size() == size_t(same));
     map<int, int> numbers;
+    MUST(numbers.open({0}) == (same ? Status::bad_items : Status::other_version) && !numbers.is_open());
     MUST(numbers.open({100}) == expected && numbers.is_open() == same);
     MUST(make_desk(writer, 1, of_writer) == expected && of_writer.size() == size_t(same));
     MUST(text(Status::other_version) == "the library has version " + dotted(cefrodil_version()) + ", and the header " + dotted(CEFRODIL_VERSION));

@@ -20,12 +20,10 @@ static cefrodil_status some_put(cefrodil_handle *pass, uint64_t key, const uint6
     *reply = cefrodil_reply{};
     return is_disturbed() ? cefrodil_status(CEFRODIL_HELD) : cefrodil_put_of_width(pass, key, value, words, reply);
 }
-static cefrodil_status some_remove(cefrodil_handle *pass, uint64_t key, cefrodil_reply *reply) {
-    *reply = cefrodil_reply{};
-    return is_disturbed() ? cefrodil_status(CEFRODIL_HELD) : cefrodil_remove(pass, key, reply);
-}
-// Before so many removals on a condition the key is put anew, as by another thread.
-static uint32_t overtaken = 0;
+// Before so many removals on a condition the key is put anew, as by another thread. Before so many puts on a condition the entry is.
+static uint32_t overtaken = 0, overtaken_puts = 0;
+// Before so many puts of absent keys the key is put with the value 99, and before so many removals the key is removed, as by another thread.
+static uint32_t put_before = 0, removed_before = 0;
 
 static cefrodil_status some_take_if(cefrodil_handle *pass, uint64_t key, uint64_t since, uint64_t *old, size_t words, cefrodil_reply *reply) {
     if (overtaken != 0) {
@@ -34,6 +32,31 @@ static cefrodil_status some_take_if(cefrodil_handle *pass, uint64_t key, uint64_
         MUST(cefrodil_put_of_width(pass, key, old, words, reply) == CEFRODIL_OK);
     }
     return cefrodil_take_if(pass, key, since, old, words, reply);
+}
+static cefrodil_status some_put_if(cefrodil_handle *pass, uint64_t key, uint64_t since, const uint64_t *value, size_t words, cefrodil_reply *reply) {
+    if (overtaken_puts != 0) {
+        overtaken_puts--;
+        uint64_t same[2];
+        MUST(words == 2 && cefrodil_get_or_desk_of_width(pass, key, same, 2, reply) == CEFRODIL_OK);
+        MUST(cefrodil_put_of_width(pass, key, same, 2, reply) == CEFRODIL_OK);
+    }
+    return cefrodil_put_if(pass, key, since, value, words, reply);
+}
+static cefrodil_status some_put_if_absent(cefrodil_handle *pass, uint64_t key, const uint64_t *value, size_t words, cefrodil_reply *reply) {
+    if (put_before != 0) {
+        put_before--;
+        const uint64_t other[2] = {value[0], 99};
+        MUST(words == 2 && cefrodil_put_of_width(pass, key, other, 2, reply) == CEFRODIL_OK);
+    }
+    return cefrodil_put_if_absent(pass, key, value, words, reply);
+}
+static cefrodil_status some_remove(cefrodil_handle *pass, uint64_t key, cefrodil_reply *reply) {
+    if (removed_before != 0) {
+        removed_before--;
+        MUST(cefrodil_remove(pass, key, reply) == CEFRODIL_OK);
+    }
+    *reply = cefrodil_reply{};
+    return is_disturbed() ? cefrodil_status(CEFRODIL_HELD) : cefrodil_remove(pass, key, reply);
 }
 // Each key counts as a call.
 static cefrodil_status some_get_many(cefrodil_handle *pass, const uint64_t *keys, size_t count, uint64_t *values, size_t words,
@@ -49,6 +72,8 @@ static cefrodil_status some_get_many(cefrodil_handle *pass, const uint64_t *keys
 #define cefrodil_get_many_or_none some_get_many
 #define cefrodil_remove some_remove
 #define cefrodil_take_if some_take_if
+#define cefrodil_put_if some_put_if
+#define cefrodil_put_if_absent some_put_if_absent
 #include "cefrodil_map.hpp"
 
 using cefrodil::Status;
@@ -110,6 +135,15 @@ static void lookups() {
     MUST(map.insert(1, 10).status == Status::ok);
     disturb(10001);
     MUST(map.erase(1) == Status::busy && made == 10001 && waited(193, 9800) && map.find(1) == 10);
+    // Whether a key is there is not known if its lookup stays busy.
+    disturb(10001);
+    MUST(map.insert(1, 11).status == Status::busy && made == 10001 && waited(193, 9800) && map.find(1) == 10);
+    disturb(1001);
+    MUST(!map.contains(1) && made == 1001 && waited(193, 800) && map.contains(1));
+    // A computation that found the key busy at first looks again before it computes.
+    disturb(1001);
+    const auto found = map.find_or_compute(1, [] { return 99; });
+    MUST(found.status == Status::ok && found.value == 10 && !found.computed && made == 1002 && waited(193, 800));
 }
 
 // An erasure that is overtaken each time says so, and the key is still there.
@@ -120,6 +154,64 @@ static void overtaken_erasures() {
     MUST(map.erase(1) == Status::changed && overtaken == 0 && map.find(1) == 10 && map.size() == 1);
     overtaken = 5;
     MUST(map.erase(1) == Status::ok && overtaken == 0 && !map.find(1) && map.size() == 0);
+}
+
+// What another thread puts right before the put of a computed or a first value stays.
+static void overtaken_first_values() {
+    cefrodil::map<int, int> map;
+    MUST(map.open({100}) == Status::ok);
+    put_before = 1;
+    const auto computed = map.find_or_compute(1, [] { return 10; });
+    MUST(computed.status == Status::present && computed.value == 10 && computed.computed && put_before == 0 && map.find(1) == 99);
+    put_before = 1;
+    MUST(map.insert(2, 20).status == Status::present && put_before == 0 && map.find(2) == 99);
+    put_before = 1;
+    MUST(map.update_or_insert(3, 30, [](int old) { return old + 1; }).value == 100 && put_before == 0 && map.find(3) == 100);
+}
+
+// A hash by which all keys have one number in the index.
+struct Meeting {
+    cefrodil::HashPair operator()(const int &key, const cefrodil::HashSecret &) const noexcept { return {7, uint64_t(unsigned(key))}; }
+};
+
+// A put on the condition that the entry is still the same is repeated if it is not: that of an update, and that over another key's entry.
+static void overtaken_puts_on_a_condition() {
+    cefrodil::map<int, int, Meeting> map;
+    MUST(map.open({100, 1, 8, 5}) == Status::ok && map.insert(1, 10).status == Status::ok);
+    int calls = 0;
+    const auto one_more = [&](int old) { return calls++, old + 1; };
+    overtaken_puts = 5;
+    MUST(map.update(1, one_more).value == 11 && calls == 6 && overtaken_puts == 0);
+    overtaken_puts = 6;
+    MUST(map.update(1, one_more).status == Status::changed && calls == 12 && overtaken_puts == 0 && map.find(1) == 11);
+    overtaken_puts = 6;
+    MUST(map.insert(2, 20).status == Status::changed && overtaken_puts == 0 && map.find(1) == 11 && !map.find(2));
+    overtaken_puts = 5;
+    const auto inserted = map.insert(2, 20);
+    MUST(inserted.status == Status::ok && inserted.evicted && overtaken_puts == 0 && map.find(2) == 20 && !map.find(1) && map.size() == 1);
+}
+
+// `clear` goes on if another thread removes a key first.
+static void overtaken_clear() {
+    cefrodil::map<int, int> map;
+    MUST(map.open({100, 1}) == Status::ok);
+    for (int key = 0; key < 3; key++) {
+        MUST(map.insert(key, key).status == Status::ok);
+    }
+    disturb(0);
+    removed_before = 1;
+    MUST(map.clear() == Status::ok && made == 3 && removed_before == 0 && !map.contains(0) && !map.contains(1) && !map.contains(2));
+}
+
+// A thread may note that it removed a key before the one that put it has noted that. There are never fewer keys than none.
+static void removed_before_it_counts() {
+    cefrodil::inside::Turns<1> turns;
+    MUST(turns.open(100, 1, 8, 0, CEFRODIL_MIX_FULL) == Status::ok);
+    const auto add = [&](int64_t more) { turns.call([&](cefrodil::inside::Slot<1> &slot) { slot.add(more); }); };
+    add(-1);
+    MUST(turns.keys() == 0);
+    add(2);
+    MUST(turns.keys() == 1);
 }
 
 // If one removal is held, `clear` ends with that.
@@ -158,6 +250,10 @@ int main() {
     calls({100, 16, 64, 50}, 50, 43, 0);
     lookups();
     overtaken_erasures();
+    overtaken_first_values();
+    overtaken_puts_on_a_condition();
+    overtaken_clear();
+    removed_before_it_counts();
     held_clear();
     many_keys();
     return outcome("waits");

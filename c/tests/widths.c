@@ -1,4 +1,4 @@
-/* cefrodil_get and cefrodil_put for values of each width: where the compiler knows `words`, and where it does not. */
+/* cefrodil_get, cefrodil_put and cefrodil_get_or_desk for values of each width: where the compiler knows `words`, and where it does not. */
 #include "cefrodil.h"
 #include "must.h"
 
@@ -48,6 +48,22 @@ static inline __attribute__((always_inline)) void serves(size_t words, size_t ot
     MUST(cefrodil_close(&reader) == CEFRODIL_OK && cefrodil_close(&writer) == CEFRODIL_OK);
 }
 
+/* The same by a pass, which may ask the desk. */
+static inline __attribute__((always_inline)) void serves_by_a_pass(size_t words, size_t other) {
+    const uint64_t value[8] = {1, 2, 3, 4, 5, 6, 7, 8};
+    uint64_t found[9] = {9, 9, 9, 9, 9, 9, 9, 9, 9}, again[9] = {9, 9, 9, 9, 9, 9, 9, 9, 9};
+    cefrodil_handle pass = CEFRODIL_EMPTY;
+    cefrodil_shape shape;
+    MUST(cefrodil_shape_for_items(20, &shape) == CEFRODIL_OK && cefrodil_open_desk(&shape, words, &pass, 1) == CEFRODIL_OK);
+    MUST(cefrodil_get_or_desk(&pass, 5, found, words, &reply) == CEFRODIL_ABSENT && reply.at == 0 && found[0] == 9);
+    MUST(cefrodil_put(&pass, 5, value, words, &reply) == CEFRODIL_OK && reply.at == 1);
+    MUST(cefrodil_get_or_desk(&pass, 5, found, words, &reply) == CEFRODIL_OK && reply.since == 1 && is_found(found, value, words));
+    MUST(cefrodil_get_or_desk(&pass, 5, again, unknown(words), &reply) == CEFRODIL_OK && reply.since == 1 && is_found(again, value, words));
+    MUST(cefrodil_get_or_desk(&pass, 5, found, other, &reply) == CEFRODIL_WIDTH && reply.since == 0 && is_found(found, value, words));
+    MUST(cefrodil_get_or_desk(&pass, 5, found, unknown(other), &reply) == CEFRODIL_WIDTH && is_found(found, value, words));
+    MUST(cefrodil_close(&pass) == CEFRODIL_OK && cefrodil_get_or_desk(&pass, 5, found, words, &reply) == CEFRODIL_CLOSED);
+}
+
 int main(void) {
     uint64_t value[9] = {0};
     serves(1, 2);
@@ -58,6 +74,14 @@ int main(void) {
     serves(6, 7);
     serves(7, 8);
     serves(8, 1);
+    serves_by_a_pass(1, 2);
+    serves_by_a_pass(2, 3);
+    serves_by_a_pass(3, 4);
+    serves_by_a_pass(4, 5);
+    serves_by_a_pass(5, 6);
+    serves_by_a_pass(6, 7);
+    serves_by_a_pass(7, 8);
+    serves_by_a_pass(8, 1);
     cefrodil_shape shape;
     MUST(cefrodil_shape_for_items(20, &shape) == CEFRODIL_OK && cefrodil_open(&shape, 8, &writer, &reader, 1) == CEFRODIL_OK);
     MUST(cefrodil_get(&reader, 1, value, 9, &reply) == CEFRODIL_WIDTH && cefrodil_put(&writer, 1, value, 9, &reply) == CEFRODIL_WIDTH);

@@ -125,3 +125,19 @@ fn so_does_a_removal_of_an_object() {
     let late = late(compute, remove, || map.get(&KEY));
     assert_eq!(late, 0, "so often the map kept an older value");
 }
+
+// The value that is computed comes to the map once the map is clear: before, it would be removed.
+#[test]
+#[cfg_attr(debug_assertions, ignore = "it would see nothing")]
+fn so_does_a_clear() {
+    const SPINS: u64 = 200;
+    let map = Map::<u64, u64>::new(10).unwrap();
+    let make = |store: &Store| {
+        let number = store.read();
+        (0..SPINS).for_each(|_| spin_loop());
+        number
+    };
+    let compute = |store: &Store| map.get_or_insert_with(&KEY, || make(store));
+    let late = late(compute, || map.clear().unwrap(), || map.get(&KEY));
+    assert_eq!(late, 0, "so often the map kept an older value");
+}

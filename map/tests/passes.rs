@@ -80,6 +80,17 @@ fn a_thread_has_a_pass_of_each_map() {
 }
 
 #[test]
+fn a_thread_gives_its_passes_of_all_maps_back() {
+    let maps: Vec<Map<u64, u64>> = (0..20).map(|_| Map::builder(10).threads(1).open().unwrap()).collect();
+    for _ in 0..2 {
+        let maps = maps.clone();
+        let thread = thread::spawn(move || maps.iter().for_each(|map| assert_eq!(map.get(&1), None)));
+        thread.join().unwrap();
+    }
+    assert!(maps.iter().all(|map| map.stats().shared == 0 && map.stats().misses == 2));
+}
+
+#[test]
 fn a_thread_does_not_use_the_pass_of_another() {
     let maps: Vec<Map<u64, u64>> = (0..2).map(|_| Map::builder(10).threads(1).open().unwrap()).collect();
     maps[1].insert(&1, 10).unwrap();

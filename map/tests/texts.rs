@@ -1,5 +1,6 @@
 //! What can't be opened says why, and each error has a text.
 use cefrodil_map::{Builder, ClearError, GetError, InsertError, Map, OpenError, RemoveError, UpdateError};
+use std::collections::hash_map::RandomState;
 use std::collections::HashSet;
 use std::error::Error;
 use std::time::Duration;
@@ -14,6 +15,7 @@ fn what_can_not_be_opened_says_why() {
     assert_eq!(open(builder(0)), Err(OpenError::Capacity));
     assert_eq!(open(builder(0).shards(2)), Err(OpenError::Capacity));
     assert_eq!(open(builder(usize::MAX)), Err(OpenError::Capacity));
+    assert_eq!(open(builder((1 << 32) + 100)), Err(OpenError::Capacity));
     assert_eq!(open(builder(usize::MAX).shards(1)), Err(OpenError::Capacity));
     assert_eq!(open(builder(100).shards(0)), Err(OpenError::Shards));
     assert_eq!(open(builder(100).shards(3)), Err(OpenError::Shards));
@@ -68,5 +70,8 @@ fn each_error_has_a_text_of_its_own() {
 #[test]
 fn a_builder_shows_what_it_was_told() {
     let builder = Map::<u64, u64>::builder(10).shards(2).threads(3).time_to_live(Duration::from_secs(4));
-    assert_eq!(format!("{builder:?}"), "Builder { capacity: 10, shards: Some(2), threads: 3, time_to_live: Some(4s), .. }");
+    let expected = "Builder { capacity: 10, shards: Some(2), threads: 3, time_to_live: Some(4s), .. }";
+    assert_eq!(format!("{builder:?}"), expected);
+    // A hasher that is chosen last changes nothing else.
+    assert_eq!(format!("{:?}", builder.hasher(RandomState::new())), expected);
 }

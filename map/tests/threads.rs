@@ -177,6 +177,15 @@ fn no_update_is_lost() {
     assert_eq!((sum, map.stats().evicted), (THREADS * UPDATES, 0));
 }
 
+// Ends other threads, also if an assertion fails.
+struct End<'a>(&'a AtomicBool);
+
+impl Drop for End<'_> {
+    fn drop(&mut self) {
+        self.0.store(true, SeqCst);
+    }
+}
+
 // Threads renew an entry as fast as they can, and this one removes it.
 #[test]
 fn a_removal_beside_renewals_is_not_undone() {
@@ -193,7 +202,7 @@ fn a_removal_beside_renewals_is_not_undone() {
                 }
             });
         }
-        let begin = Instant::now();
+        let (_end, begin) = (End(&end), Instant::now());
         // There must be enough renewals, too, for which the other threads need a processor.
         let rounds = (0..).take_while(|round| (*round < 10_000 || renewed.load(SeqCst) < 100) && begin.elapsed() < LONG);
         let undone = rounds.filter(|number| {
@@ -202,9 +211,7 @@ fn a_removal_beside_renewals_is_not_undone() {
             map.remove(&1).unwrap();
             (0..3).any(|_| map.contains_key(&1))
         });
-        let undone = undone.count();
-        end.store(true, SeqCst);
-        undone
+        undone.count()
     });
     assert_eq!((undone, map.get(&1), map.len()), (0, None, 0));
     assert!(renewed.load(SeqCst) >= 100, "only {renewed:?} renewals");

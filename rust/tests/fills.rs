@@ -49,6 +49,21 @@ fn a_put_that_has_gone_again_is_a_change() -> Tested {
     Ok(())
 }
 
+// The store has changed though the cache had no place for the new value. An older one must not come into the cache.
+#[test]
+fn a_put_that_finds_no_place_is_a_change() -> Tested {
+    let shape = Shape { buckets: 2, items: 8, stripes: 1, ..Shape::for_items(8)? };
+    let (writer, _readers) = Cache::<1>::open(&shape, 1)?;
+    let mut filler = Filler::new(writer, 100);
+    let tickets = filler.tickets();
+    let (ticket, old, new) = (tickets.take(), [10], [11]);
+    let refused = (0..20).find(|key| filler.put(*key, &new) == Err(PutError::NoPath)).ok_or("each key has a place")?;
+    (0..20).try_for_each(|key| filler.writer().remove(key).map(drop))?;
+    assert_eq!(filler.fill(refused, ticket, &old), Err(FillError::Stale));
+    filler.fill(refused, tickets.take(), &new)?;
+    Ok(())
+}
+
 // `known` changes are known. A fill that is older than all of them is refused, whatever its key is.
 fn knows(changes: usize, known: u64) -> Tested {
     let (mut filler, tickets, _reader) = filler(changes)?;

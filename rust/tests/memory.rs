@@ -233,6 +233,24 @@ fn a_batch_beside_a_list_is_held() -> Tested {
     Ok(())
 }
 
+// A list takes memory for its words before it has the turn. Another pass may put entries meanwhile.
+#[test]
+fn a_list_has_room_for_what_is_put_before_its_turn() -> Tested {
+    fn put_before() -> bool {
+        BESIDE.with_borrow_mut(|pass| pass.as_mut().is_some_and(|pass| pass.try_put(8, &[80]).is_ok()))
+    }
+    for is_stamped in [false, true] {
+        let mut passes = Desk::<1>::open(&Shape::for_items(100)?, 2)?.into_passes();
+        BESIDE.set(passes.pop());
+        passes[0].try_put(7, &[70])?;
+        IN_TURN.set(Some(put_before));
+        let listed = if is_stamped { passes[0].try_stamped_entries()?.len() } else { passes[0].try_entries()?.len() };
+        assert_eq!((listed, IN_TURN.take().is_none()), (2, true));
+        drop(BESIDE.take());
+    }
+    Ok(())
+}
+
 #[test]
 fn to_lend_and_to_close_takes_no_memory() -> Tested {
     let before = KEPT.get();
@@ -248,6 +266,18 @@ fn to_lend_and_to_close_takes_no_memory() -> Tested {
     let passes = Shards::<1>::open(&Shape::for_shards(100, 4)?, 4, 5)?;
     with_allocations(0, || drop(passes));
     assert_eq!(KEPT.get(), before);
+    Ok(())
+}
+
+#[test]
+fn a_desk_that_is_made_again_and_again_takes_no_more_memory() -> Tested {
+    let (mut writer, _readers) = Cache::<1>::open(&Shape::for_items(100)?, 1)?;
+    let mut kept = Vec::with_capacity(20);
+    for _ in 0..20 {
+        writer = writer.into_desk(3)?.end()?.0;
+        kept.push(KEPT.get());
+    }
+    assert!(kept.iter().all(|blocks| *blocks == kept[0]), "{kept:?}");
     Ok(())
 }
 

@@ -114,13 +114,20 @@ pub fn count_comparison(store: &Store, stored: Result<Answer, Fault>) {
 
 fn delete(store: &Store, key: &[u8]) -> Text {
     let deleted = store.delete(key, None);
-    if let Ok(deleted) = deleted {
-        store.counts.add_if(matches!(deleted, Answer::Done(_)), Count::DeleteHits, Count::DeleteMisses);
-    }
+    count_deletion(store, deleted);
     match deleted {
         Ok(Answer::Done(_)) => "DELETED",
         Ok(_) => NOT_FOUND,
         Err(why) => why.text(),
+    }
+}
+
+/// Counts a `delete`.
+pub fn count_deletion(store: &Store, deleted: Result<Answer, Fault>) {
+    match deleted {
+        Ok(Answer::Done(_)) => store.counts.add(Count::DeleteHits),
+        Ok(Answer::NotFound) => store.counts.add(Count::DeleteMisses),
+        Ok(_) | Err(_) => {}
     }
 }
 

@@ -69,14 +69,16 @@ impl Flushes {
         born <= self.past.load(Relaxed) || (next <= now && born <= next)
     }
 
-    /// Flushes at this time. It replaces a flush that is still to come.
-    pub fn flush(&self, time: u64, now: u64) {
-        self.flush_with(time, now, || {});
+    /// Flushes at a time. It replaces a flush that is still to come. `times` gives that time, and now. It is asked in turn: a flush that
+    /// ended before has come by then.
+    pub fn flush(&self, times: impl FnOnce() -> (u64, u64)) {
+        self.flush_with(times, || {});
     }
 
     /// The same. Between its two stores it calls `between`, for tests.
-    pub fn flush_with(&self, time: u64, now: u64, between: impl FnOnce()) {
+    pub fn flush_with(&self, times: impl FnOnce() -> (u64, u64), between: impl FnOnce()) {
         let _turn = self.turn.lock();
+        let (time, now) = times();
         // Only this function stores it, in turn.
         let next = self.next.load(Relaxed);
         if next <= now {

@@ -7,6 +7,7 @@ use cefrodild::server::Server;
 use cefrodild::store::Store;
 use std::env;
 use std::error::Error;
+use std::ffi::OsString;
 use std::fs;
 use std::process::ExitCode;
 use std::sync::Arc;
@@ -15,7 +16,8 @@ use std::sync::Arc;
 const PART_OF_LOSS: usize = 4;
 
 fn main() -> ExitCode {
-    match parse(env::args().skip(1)) {
+    let words = env::args_os().skip(1).map(OsString::into_string).collect::<Result<Vec<String>, OsString>>();
+    match words.map_err(|word| format!("{word:?} is no text")).and_then(parse) {
         Ok(Asked::Help) => print!("{HELP}"),
         Ok(Asked::Version) => println!("cefrodild {}", env!("CARGO_PKG_VERSION")),
         Ok(Asked::Serve(options)) => {

@@ -1,5 +1,5 @@
 //! Carries meta commands out.
-use crate::command::{block, count_change, count_comparison, line, text, NOT_NUMERIC};
+use crate::command::{block, count_change, count_comparison, count_deletion, line, text, NOT_NUMERIC};
 use crate::counts::Count;
 use crate::item::Item;
 use crate::meta::{Meta, Verb};
@@ -64,7 +64,9 @@ fn set(store: &Store, meta: &Meta, data: &[u8], out: &mut Vec<u8>) {
 }
 
 fn delete(store: &Store, meta: &Meta, out: &mut Vec<u8>) {
-    tell(meta, store.delete(meta.order.key, meta.order.compare), out);
+    let deleted = store.delete(meta.order.key, meta.order.compare);
+    count_deletion(store, deleted);
+    tell(meta, deleted, out);
 }
 
 fn tell(meta: &Meta, answered: Result<Answer, Fault>, out: &mut Vec<u8>) {
@@ -84,11 +86,14 @@ fn change(store: &Store, meta: &Meta, out: &mut Vec<u8>) {
     let deadline = meta.expiry.map(|expiry| store.clock.deadline(expiry));
     let change = if meta.subtracts { Change::Subtract(meta.delta) } else { Change::Add(meta.delta) };
     let mut changed = store.change(meta.order.key, change, meta.order.compare, deadline);
-    count_change(store, change, changed);
     let mut is_quiet = meta.is_quiet;
-    if let (Ok(Changed::NotFound), Some(create)) = (changed, meta.create) {
-        changed = make(store, meta, create, change);
-        is_quiet = false;
+    match (changed, meta.create) {
+        // Memcached counts no miss either where a number is made.
+        (Ok(Changed::NotFound), Some(create)) => {
+            changed = make(store, meta, create, change, deadline);
+            is_quiet = false;
+        }
+        _ => count_change(store, change, changed),
     }
     match changed {
         Ok(Changed::Changed(..)) if is_quiet => {}
@@ -103,13 +108,13 @@ fn change(store: &Store, meta: &Meta, out: &mut Vec<u8>) {
     }
 }
 
-/// Makes the number that was missing. If another client makes it first, that one is changed.
-fn make(store: &Store, meta: &Meta, create: i64, change: Change) -> Result<Changed, Fault> {
-    let (deadline, number) = (store.clock.deadline(create), meta.initial.to_string());
+/// Makes the number that was missing. If another client makes it first, that one is changed, and gets this deadline.
+fn make(store: &Store, meta: &Meta, create: i64, change: Change, deadline: Option<u64>) -> Result<Changed, Fault> {
+    let number = meta.initial.to_string();
     let order = Order { how: How::Add, compare: None, flags: 0, expiry: create, ..meta.order };
     match store.store(&order, number.as_bytes())? {
-        Answer::Done(token) => Ok(Changed::Changed(meta.initial, token, deadline)),
-        _ => store.change(meta.order.key, change, meta.order.compare, None),
+        Answer::Done(token) => Ok(Changed::Changed(meta.initial, token, store.clock.deadline(create))),
+        _ => store.change(meta.order.key, change, meta.order.compare, deadline),
     }
 }
 

@@ -107,14 +107,15 @@ impl Store {
     pub fn look_and_touch(&self, keys: &[&[u8]], deadline: u64, mut each: impl FnMut(usize, &Item, Token) -> bool) -> usize {
         for (position, key) in keys.iter().enumerate() {
             let _turn = self.turns.wait(key);
-            let mut goes_on = true;
+            let (mut is_hit, mut goes_on) = (false, true);
             self.look(&[key], |_, item, token| {
+                is_hit = true;
                 item.touch(deadline);
-                self.counts.add(Count::Touches);
-                self.counts.add(Count::TouchHits);
                 goes_on = each(position, item, token);
                 goes_on
             });
+            self.counts.add(Count::Touches);
+            self.counts.add_if(is_hit, Count::TouchHits, Count::TouchMisses);
             if !goes_on {
                 return position + 1;
             }
@@ -164,13 +165,19 @@ impl Store {
 
     /// Makes all items invalid that are stored by then: now, or after so many seconds.
     pub fn flush(&self, delay: i64) {
-        let now = self.clock.now();
-        self.flushes.flush(if delay > 0 { self.clock.deadline(delay).max(now) } else { now }, now);
-        if delay <= 0 {
-            // A command that did not see that flush looked at the time before it was there, so before this time.
+        let at_once = || {
             let now = self.clock.now();
-            self.flushes.flush(now, now);
+            (now, now)
+        };
+        if delay > 0 {
+            return self.flushes.flush(|| {
+                let now = self.clock.now();
+                (self.clock.deadline(delay).max(now), now)
+            });
         }
+        self.flushes.flush(at_once);
+        // A command that did not see that flush looked at the time before it was there, so before this time.
+        self.flushes.flush(at_once);
     }
 
     pub(crate) fn is_live(&self, item: &Item) -> bool {

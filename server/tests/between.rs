@@ -45,6 +45,8 @@ fn arithmetic_begins_anew() {
 fn arithmetic_finds_the_number_that_another_one_made() {
     let mut client = Client::new(MEGABYTE);
     assert_eq!(client.ask_beside("ma n N0 J5 D3 v\n", |mut other| set(&mut other, "10")), "VA 2\n13\n");
+    let mut client = Client::new(MEGABYTE);
+    assert_eq!(client.ask_beside("ma n N0 J5 D3 T100 t\n", |mut other| set(&mut other, "10")), "HD t100\n");
 }
 
 #[test]

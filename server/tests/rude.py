@@ -215,7 +215,7 @@ def memory(program):
 
 
 def faults_of_the_command_line(program):
-    for words, status in [(['-x'], 2), (['-p', 'x'], 2), (['-l', '192.0.2.1'], 1), (['--audit', '/no/such'], 1), (['--help'], 0), (['--version'], 0)]:
+    for words, status in [(['-x'], 2), (['-p', 'x'], 2), ([b'\xff'], 2), (['-l', '192.0.2.1'], 1), (['--audit', '/no/such'], 1), (['--help'], 0), (['--version'], 0)]:
         ran = subprocess.run([program, *words], capture_output=True, text=True, timeout=10, check=False)
         assert ran.returncode == status and bool(ran.stderr) == (status > 0), (words, ran)
 

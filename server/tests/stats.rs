@@ -17,10 +17,10 @@ fn stats(client: &mut Client, what: &str, names: &str) -> String {
 #[test]
 fn lookups() {
     let mut client = Client::new(MEGABYTE);
-    client.ask("set a 0 0 1\n1\nget a b c\ngat 0 a\n");
-    assert_eq!(stats(&mut client, "", "cmd_get get_hits get_misses cmd_touch touch_hits"), "4 2 2 1 1");
+    client.ask("set a 0 0 1\n1\nget a b c\ngat 0 a b\n");
+    assert_eq!(stats(&mut client, "", "cmd_get get_hits get_misses cmd_touch touch_hits touch_misses"), "5 2 3 2 1 1");
     client.ask("touch a 0\ntouch b 0\n");
-    assert_eq!(stats(&mut client, "", "cmd_get cmd_touch touch_hits touch_misses"), "4 3 2 1");
+    assert_eq!(stats(&mut client, "", "cmd_get cmd_touch touch_hits touch_misses"), "5 4 2 2");
 }
 
 #[test]
@@ -58,10 +58,12 @@ fn changes() {
     // The first item of a store has the token 1.
     client.ask("set a 0 0 1\n1\ncas a 0 0 1 1\n2\ncas a 0 0 1 1\n2\ncas a 0 0 1 1\n2\nms x 1 C1\n1\n");
     assert_eq!(stats(&mut client, "", "cmd_set total_items cas_hits cas_badval cas_misses"), "5 2 1 2 1");
-    client.ask("incr a 1\nincr a 1\nincr b 1\nma a\ndecr a 1\ndecr b 1\ndecr b 1\nma b MD\n");
+    client.ask("incr a 1\nincr a 1\nincr b 1\nma a\ndecr a 1\ndecr b 1\ndecr b 1\nma b MD\nma c N0\nma d N0 MD\n");
     assert_eq!(stats(&mut client, "", "incr_hits incr_misses decr_hits decr_misses"), "3 1 1 3");
     client.ask("delete a\ndelete a\ndelete a\nflush_all\n");
     assert_eq!(stats(&mut client, "", "delete_hits delete_misses cmd_flush"), "1 2 1");
+    client.ask("ms e 1\n1\nmd e C1\nmd e\nmd e\n");
+    assert_eq!(stats(&mut client, "", "delete_hits delete_misses"), "2 3");
 }
 
 #[test]

@@ -1,6 +1,7 @@
 //! The clock, deadlines, and what a flush hits.
 use cefrodild::clock::{unix_time, Clock, NEVER};
 use cefrodild::item::{Flushes, Item};
+use std::sync::atomic::{AtomicU64, Ordering::SeqCst};
 use std::thread;
 use std::time::Duration;
 
@@ -78,31 +79,31 @@ fn an_item_lives_until_its_deadline() {
 #[test]
 fn a_flush_hits_what_was_made_by_then() {
     let (old, new, flushes) = (item(5, NEVER), item(6, NEVER), Flushes::default());
-    flushes.flush(5, 5);
+    flushes.flush(|| (5, 5));
     assert!(!old.is_live(7, &flushes) && new.is_live(7, &flushes));
 }
 
 #[test]
 fn a_flush_that_is_to_come_hits_nothing_before() {
     let (item, flushes) = (item(5, NEVER), Flushes::default());
-    flushes.flush(10, 6);
+    flushes.flush(|| (10, 6));
     assert!(item.is_live(9, &flushes) && !item.is_live(10, &flushes));
 }
 
 #[test]
 fn a_flush_replaces_one_that_is_to_come() {
     let (item, flushes) = (item(5, NEVER), Flushes::default());
-    flushes.flush(10, 6);
-    flushes.flush(20, 7);
+    flushes.flush(|| (10, 6));
+    flushes.flush(|| (20, 7));
     assert!(item.is_live(19, &flushes) && !item.is_live(20, &flushes));
 }
 
 #[test]
 fn a_flush_does_not_undo_one_that_has_come() {
     let (item, flushes) = (item(5, NEVER), Flushes::default());
-    flushes.flush(10, 6);
+    flushes.flush(|| (10, 6));
     // It came at 10.
-    flushes.flush(20, 11);
+    flushes.flush(|| (20, 11));
     assert!(!item.is_live(12, &flushes));
 }
 
@@ -112,21 +113,48 @@ fn a_flush_waits_for_another_one() {
     thread::scope(|threads| {
         // Else each would take the place of the other, and one would be lost.
         let mut other = None;
-        flushes.flush_with(20, 6, || {
-            let asking = threads.spawn(|| flushes.flush(6, 6));
-            thread::sleep(Duration::from_millis(20));
-            assert!(!asking.is_finished());
-            other = Some(asking);
-        });
+        flushes.flush_with(
+            || (20, 6),
+            || {
+                let asking = threads.spawn(|| flushes.flush(|| (6, 6)));
+                thread::sleep(Duration::from_millis(20));
+                assert!(!asking.is_finished());
+                other = Some(asking);
+            },
+        );
         other.expect("it was asked for").join().expect("it is done");
     });
     assert!(!item.is_live(7, &flushes));
 }
 
 #[test]
+fn a_flush_to_come_asks_for_the_time_in_its_turn() {
+    let (item, flushes, clock) = (item(5, NEVER), Flushes::default(), AtomicU64::new(5));
+    thread::scope(|threads| {
+        // Had it asked before, it would take the other's place as that of one to come.
+        let mut other = None;
+        flushes.flush_with(
+            || (6, 6),
+            || {
+                other = Some(threads.spawn(|| {
+                    flushes.flush(|| {
+                        let now = clock.load(SeqCst);
+                        (now + 1000, now)
+                    })
+                }));
+                thread::sleep(Duration::from_millis(20));
+                clock.store(7, SeqCst);
+            },
+        );
+        other.expect("it was asked for").join().expect("it is done");
+    });
+    assert!(!item.is_live(8, &flushes));
+}
+
+#[test]
 fn nor_while_the_next_one_is_asked_for() {
     let (item, flushes) = (item(5, NEVER), Flushes::default());
-    flushes.flush(5, 5);
-    flushes.flush_with(20, 6, || assert!(!item.is_live(7, &flushes)));
+    flushes.flush(|| (5, 5));
+    flushes.flush_with(|| (20, 6), || assert!(!item.is_live(7, &flushes)));
     assert!(!item.is_live(7, &flushes));
 }

@@ -1,4 +1,4 @@
--- Moments are in the order of time: those of lookups, whoever makes them, and those of changes.
+-- Moments of lookups, by any readers, and of changes are in the order of time.
 use Rattle.std.specs.Prelude.{◌≡◌, ℕ, suc, List, ◌++◌, ◌<◌, ◌≤◌, length}
 use Rattle.mc_words.specs.declared.history.Reply.{Reply}
 use Rattle.mc_words.specs.declared.history.Reply.TheVariants.{Found, Absent, Busy}

@@ -126,6 +126,12 @@ impl Epochs {
     pub fn waiting(&self) -> usize {
         lock(&self.waiting).objects.len()
     }
+
+    /// Whether they wait in the order of their numbers.
+    #[cfg(test)]
+    pub fn is_in_order(&self) -> bool {
+        lock(&self.waiting).objects.iter().is_sorted_by_key(|(number, _)| *number)
+    }
 }
 
 impl Drop for Guard<'_> {

@@ -20,6 +20,6 @@ pub use map::ObjectMap;
 pub use put::Put;
 
 #[cfg(test)]
-pub(crate) use epochs::BATCH;
+pub(crate) use epochs::{Epochs, BATCH};
 #[cfg(test)]
 pub(crate) use pinned::State;

@@ -1,7 +1,11 @@
 //! Calls that other threads disturb. With one try each, many fail. What fails says so, and has changed nothing.
+#[cfg(feature = "objects")]
+use super::done;
 use crate::flight::Boarding;
 use crate::pass::{AnyPass, MANY};
 use crate::wait::TRIES;
+#[cfg(feature = "objects")]
+use crate::{AbsentError, IfError, Look, ObjectMap};
 use crate::{ClearError, GetError, InsertError, Map, RemoveError, UpdateError};
 use cefrodil::{Reply, Shape};
 use std::sync::atomic::{AtomicBool, Ordering::SeqCst};
@@ -88,6 +92,25 @@ fn a_write_that_does_not_get_the_turn_says_so() {
     });
 }
 
+// The map's other calls would try until they get the turn.
+#[test]
+fn a_single_try_of_a_write_does_not_wait_for_the_turn() {
+    const HELD: Result<u64, UpdateError> = Err(UpdateError::Insert(InsertError::Held));
+    let map = filled(20_000, TRIES);
+    let list = || drop(map.inner.slots.call(AnyPass::keys));
+    beside(list, |number| {
+        let (key, other) = (number % 100, 100 + number % 100);
+        let inserted = map.try_insert(&key, number);
+        let added = map.try_update(&(number + 1_000_000), |_| number);
+        let updated = map.try_update(&other, |_| number);
+        let removed = map.try_remove(&key);
+        assert!(matches!(inserted, Ok(_) | Err(InsertError::Held)), "{inserted:?}");
+        assert!(matches!((added, updated), (Ok(_) | HELD, Ok(_) | HELD)), "{added:?}, {updated:?}");
+        assert!(matches!(removed, Ok(_) | Err(RemoveError::Held)), "{removed:?}");
+        [inserted.is_err(), added.is_err(), updated.is_err(), removed.is_err()]
+    });
+}
+
 #[test]
 fn each_refusal_is_counted() {
     let map = filled(20_000, 1);
@@ -138,8 +161,17 @@ fn a_value_is_made_without_waiting_after_one_lookup() {
 }
 
 #[test]
+fn a_single_lookup_does_not_wait() {
+    let map = restless(TRIES);
+    let write = || {
+        let _ = map.insert(&2, 20);
+    };
+    beside(write, |_| [map.try_get(&1) == Err(GetError::Busy)]);
+}
+
+#[test]
 fn a_clear_that_does_not_get_the_turn_says_so() {
-    let map = filled(20_000, 1);
+    let map = filled(20_000, TRIES);
     let list = || drop(map.inner.slots.call(AnyPass::keys));
     beside(list, |_| {
         let cleared = map.try_clear();
@@ -196,6 +228,10 @@ fn a_lookup_that_stays_busy_says_so_and_is_counted() {
         assert_eq!(map.stats().busy, before + u64::from(tried.is_err()));
         let found = map.get(&1);
         assert!(matches!(found, Some(10) | None));
+        let before = map.stats().busy;
+        let many = map.get_many(&[1]);
+        assert!(matches!(many[..], [Some(10) | None]), "{many:?}");
+        assert_eq!(map.stats().busy, before + u64::from(many == [None]));
         let removed = map.remove(&1);
         match removed {
             Ok(old) => {
@@ -204,7 +240,36 @@ fn a_lookup_that_stays_busy_says_so_and_is_counted() {
             }
             Err(why) => assert!(matches!(why, RemoveError::Busy | RemoveError::Held)),
         }
-        [tried.is_err(), found.is_none(), removed == Err(RemoveError::Busy)]
+        [tried.is_err(), found.is_none(), many == [None], removed == Err(RemoveError::Busy)]
+    });
+}
+
+#[cfg(feature = "objects")]
+#[test]
+fn so_does_a_lookup_of_an_object() {
+    let shape = Shape { stripes: 1, tries: 1, ..Shape::for_items(100).unwrap() };
+    let map = ObjectMap::<u64, u64>::builder(1).open_shaped(&shape, 1, 1).unwrap();
+    map.insert(1, 10).unwrap();
+    let write = || done(map.insert(2, 20));
+    beside(write, |_| {
+        let before = map.stats().busy;
+        let looked = map.look(&1, |value| *value);
+        assert!(matches!(looked, Ok(Look::Found { result: 10, .. }) | Err(GetError::Busy)), "{looked:?}");
+        assert_eq!(map.stats().busy, before + u64::from(looked.is_err()));
+        let added = map.insert_if_absent(1, 11).unwrap_err().why;
+        assert!(matches!(added, AbsentError::Present { .. } | AbsentError::Busy), "{added:?}");
+        // No put has this moment.
+        let taken = map.remove_if(&1, 0);
+        assert!(matches!(taken, Err(IfError::Changed { .. } | IfError::Busy)), "{taken:?}");
+        let removed = map.remove(&1);
+        match removed {
+            Ok(was_there) => {
+                assert!(was_there);
+                while map.insert(1, 10).is_err() {}
+            }
+            Err(why) => assert!(matches!(why, RemoveError::Busy | RemoveError::Held), "{why:?}"),
+        }
+        [looked.is_err(), added == AbsentError::Busy, taken == Err(IfError::Busy), removed == Err(RemoveError::Busy)]
     });
 }
 
@@ -222,6 +287,24 @@ fn a_busy_key_of_many_is_looked_up_again() {
         [replies.contains(&Reply::Busy)]
     });
     assert_eq!(map.stats().busy, 0);
+}
+
+// Only another key is written meanwhile.
+#[test]
+fn a_change_after_a_busy_lookup_is_made_once() {
+    let map = restless(TRIES);
+    let write = || {
+        let _ = map.insert(&2, 20);
+    };
+    beside(write, |_| {
+        let mut calls = 0;
+        let change = |old: Option<u64>| {
+            calls += 1;
+            old.unwrap()
+        };
+        assert_eq!((map.update(&1, change), calls), (Ok(10), 1));
+        [map.try_get(&1) == Err(GetError::Busy)]
+    });
 }
 
 #[test]

@@ -1,4 +1,5 @@
 //! Values expire by a clock that the tests turn.
+use super::done;
 use crate::{InsertError, Inserted, Map, UpdateError};
 use std::time::Duration;
 
@@ -115,6 +116,31 @@ fn what_has_expired_is_computed_anew() {
     assert_eq!(map.get(&1), Some(12));
     turn(&map, seconds(2));
     assert_eq!((map.get(&1), map.len()), (None, 1));
+}
+
+#[test]
+fn the_time_begins_when_the_closure_has_ended() {
+    type Put = fn(&Map<u64, u64>, &dyn Fn() -> u64);
+    let puts: [Put; 3] = [
+        |map, slowly| done(map.update(&1, |_| slowly())),
+        |map, slowly| done(map.get_or_insert_with(&1, slowly)),
+        |map, slowly| {
+            map.insert(&1, 9).unwrap();
+            map.modify_for(&1, seconds(100), |_| slowly()).unwrap();
+        },
+    ];
+    for put in puts {
+        let map = timed(seconds(100));
+        let slowly = || {
+            turn(&map, seconds(50));
+            10
+        };
+        put(&map, &slowly);
+        turn(&map, seconds(99));
+        assert_eq!(map.get(&1), Some(10));
+        turn(&map, seconds(1));
+        assert_eq!(map.get(&1), None);
+    }
 }
 
 #[test]

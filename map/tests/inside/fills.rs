@@ -3,6 +3,7 @@ use super::waiting::LONG;
 use crate::clock::NEVER;
 use crate::flight::{Boarding, Leader};
 use crate::Map;
+use std::sync::mpsc::channel;
 use std::thread::{self, JoinHandle};
 use std::time::Instant;
 
@@ -132,6 +133,31 @@ fn one_that_was_computed_and_removed_is_not_for_later_calls() {
     assert_eq!((earlier.join().unwrap(), later.join().unwrap(), map.get(&KEY)), (1, 2, Some(2)));
 }
 
+// A thread that is woken before it can see that the flight has ended waits on, and nobody wakes it again.
+#[test]
+fn each_failure_wakes_the_thread_that_waits() {
+    let map = Numbers::new(100).unwrap();
+    let (calls, print) = (map.clone(), map.inner.print(&KEY));
+    let (begin, begun) = channel();
+    let (send, receive) = channel();
+    thread::spawn(move || {
+        for round in begun {
+            send.send(calls.get_or_insert_with(&KEY, || round)).unwrap();
+        }
+    });
+    for round in 0..3_000 {
+        let (leader, since) = (board(&map), Instant::now());
+        begin.send(round).unwrap();
+        while map.inner.flights.passengers(print) == 0 {
+            assert!(since.elapsed() < LONG, "no thread waits for the computation");
+            thread::yield_now();
+        }
+        drop(leader);
+        assert_eq!(receive.recv_timeout(LONG), Ok(round), "a thread waits for a computation that has failed");
+        map.remove(&KEY).unwrap();
+    }
+}
+
 #[test]
 fn a_failure_lets_those_that_wait_find_what_was_put_since() {
     let map = Numbers::new(100).unwrap();
@@ -139,4 +165,6 @@ fn a_failure_lets_those_that_wait_find_what_was_put_since() {
     put(&map, 10);
     drop(leader);
     assert_eq!((waiting.join().unwrap(), map.get(&KEY)), (10, Some(10)));
+    // A call is one lookup, also if it waited.
+    assert_eq!((map.stats().hits, map.stats().misses), (1, 1));
 }

@@ -1,6 +1,9 @@
-//! Tests that need what the map doesn't show: its clock, shapes and tries, its passes, and who waits for a value.
+//! Tests that need what the map doesn't show: its clock, shapes and tries, its passes, who waits for a value, and where its errors come from.
 mod detaching;
 mod disturbed;
+#[cfg(feature = "objects")]
+mod epochs;
+mod errors;
 mod expiry;
 mod fills;
 mod flights;

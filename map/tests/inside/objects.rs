@@ -79,6 +79,48 @@ fn a_put_begins_the_time_anew_and_a_change_does_not() {
 }
 
 #[test]
+fn a_replacement_may_have_a_time_of_its_own() {
+    let map = timed(seconds(100));
+    let since = [1, 2].map(|key| map.put(key, text("a"), None).unwrap().at);
+    turn(&map, seconds(50));
+    map.replace_if(1, since[0], text("b"), None).unwrap();
+    map.replace_if(2, since[1], text("b"), Some(seconds(500))).unwrap();
+    turn(&map, seconds(99));
+    assert!(map.contains_key(&1) && map.contains_key(&2));
+    turn(&map, seconds(1));
+    assert!(!map.contains_key(&1) && map.contains_key(&2));
+    turn(&map, seconds(399));
+    assert!(map.contains_key(&2));
+    turn(&map, seconds(1));
+    assert!(!map.contains_key(&2));
+}
+
+#[test]
+fn the_time_begins_when_the_closure_has_ended() {
+    type Put = fn(&Names, &dyn Fn() -> String);
+    let puts: [Put; 3] = [
+        |map, slowly| done(map.update(1, |_| slowly()).unwrap()),
+        |map, slowly| done(map.get_or_insert_with(&1, slowly)),
+        |map, slowly| {
+            map.insert(1, text("a")).unwrap();
+            map.modify_for(&1, seconds(100), |_| slowly()).unwrap();
+        },
+    ];
+    for put in puts {
+        let map = timed(seconds(100));
+        let slowly = || {
+            turn(&map, seconds(50));
+            text("b")
+        };
+        put(&map, &slowly);
+        turn(&map, seconds(99));
+        assert_eq!(map.get(&1), Some(text("b")));
+        turn(&map, seconds(1));
+        assert_eq!(map.get(&1), None);
+    }
+}
+
+#[test]
 fn a_touch_changes_no_token_and_is_not_lost_by_a_change() {
     let map = timed(seconds(100));
     map.insert(1, text("a")).unwrap();
@@ -248,6 +290,8 @@ fn a_map_without_changes_left_says_so() {
     assert_eq!((map.remove(&1), map.remove(&2)), (Err(RemoveError::Spent), Ok(false)));
     assert_eq!((map.remove_if(&1, 2), map.clear()), (Err(IfError::Spent), Err(ClearError::Spent)));
     assert_eq!((map.get(&1), map.free_unused(), map.stats().refused), (Some(text("b")), 0, 8));
+    assert!(map.touch(&1, Duration::ZERO));
+    assert_eq!((map.remove_expired(), map.len(), map.stats().refused), (Err(ClearError::Spent), 1, 9));
 }
 
 // Locks the stripe of this key, as another thread's put does.

@@ -3,6 +3,7 @@ use crate::words::Layout;
 use crate::{GetError, InsertError, Inserted, Map, RemoveError, UpdateError};
 use cefrodil::Shape;
 use std::hash::{BuildHasher, BuildHasherDefault, Hasher};
+use std::time::Duration;
 
 #[test]
 fn an_insert_without_a_place_says_so() {
@@ -124,6 +125,16 @@ fn keys_with_the_same_first_hash_are_told_apart() {
     assert_eq!((map.get_or_insert_with(&5, || 50), map.get(&5), map.get(&3)), (50, Some(50), None));
     assert_eq!((map.insert(&6, 60), map.get(&4), map.remove(&6)), (Ok(Inserted::Renewed), None, Ok(Some(60))));
     assert_eq!((map.len(), map.get(&5)), (1, Some(50)));
+}
+
+#[test]
+fn an_expired_value_is_of_its_own_key_alone() {
+    let map: Map<u64, u64, BuildPoor> = Map::builder(100).hasher(BuildPoor).time_to_live(Duration::MAX).open().unwrap();
+    map.insert_for(&2, 20, Duration::ZERO).unwrap();
+    assert_eq!((map.get(&4), map.stats().collided, map.stats().expired), (None, 1, 0));
+    assert_eq!((map.remove(&4), map.len(), map.stats().removed), (Ok(None), 1, 0));
+    assert_eq!((map.get(&2), map.stats().collided, map.stats().expired), (None, 1, 1));
+    assert_eq!((map.remove(&2), map.len()), (Ok(None), 0));
 }
 
 #[test]

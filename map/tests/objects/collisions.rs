@@ -3,6 +3,7 @@ use crate::ledger::{done, Ledger, Owned};
 use cefrodil_map::{AbsentError, IfError, Inserted, Look, ObjectMap, Reason};
 use std::hash::{BuildHasher, Hasher};
 use std::sync::{Arc, Mutex};
+use std::time::Duration;
 
 /// A key's hash is 0 or 1.
 #[derive(Default)]
@@ -62,11 +63,25 @@ fn a_removal_takes_its_own_key_alone() {
     // The shard has changed since. The error has the moment of the answer.
     let at = map.put(3, ledger.make(3), None).unwrap().at;
     assert_eq!(map.remove_if(&4, since), Err(IfError::NotThere { at }));
-    assert!(!map.touch(&4, std::time::Duration::ZERO));
+    assert_eq!(map.remove_with(&4, |_| ()), Ok(Look::Absent { at }));
+    assert!(!map.touch(&4, Duration::ZERO));
     assert!(map.modify(&4, |_| unreachable!("it is not there")).unwrap().is_none());
     assert_eq!((map.get_with(&2, |value| value.number), map.len()), (Some(0), 2));
     assert!(map.remove(&2).unwrap());
     assert_eq!((map.free_unused(), ledger.dropped(), map.len()), (0, 1, 1));
+}
+
+#[test]
+fn an_expired_value_is_of_its_own_key_alone() {
+    let (map, ledger) = (open(), Ledger::new(100));
+    let since = map.put(2, ledger.make(2), Some(Duration::ZERO)).unwrap().at;
+    let at = map.put(3, ledger.make(3), None).unwrap().at;
+    assert_eq!(map.look(&2, |_| ()), Ok(Look::Expired { at, since }));
+    assert_eq!(map.look(&4, |_| ()), Ok(Look::Absent { at }));
+    assert_eq!((map.stats().expired, map.stats().collided), (1, 1));
+    assert_eq!(map.remove_if(&4, since), Err(IfError::NotThere { at }));
+    assert_eq!(map.remove_with(&4, |_| ()), Ok(Look::Absent { at }));
+    assert_eq!((map.len(), map.remove_with(&2, |_| ())), (2, Ok(Look::Expired { at: at + 1, since })));
 }
 
 #[test]

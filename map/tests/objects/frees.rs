@@ -10,7 +10,7 @@ type Values = ObjectMap<u64, Owned>;
 // How long a thread may take to do what it must do at once.
 const LONG: Duration = Duration::from_secs(60);
 
-// At most so many objects wait that no call uses.
+// Fewer objects than this wait that no call uses.
 const WAIT: u64 = 32;
 
 fn open(threads: usize) -> Values {
@@ -147,7 +147,8 @@ fn few_objects_wait_that_no_call_uses() {
     let (map, ledger) = (open(1), Ledger::new(2_000));
     for _ in 0..1_000 {
         map.insert(1, ledger.make(1)).unwrap();
-        assert!(ledger.made() - ledger.dropped() <= 1 + WAIT);
+        // One is in the map.
+        assert!(ledger.made() - ledger.dropped() < 1 + WAIT);
     }
     assert_eq!((map.free_unused(), ledger.dropped()), (0, 999));
 }

@@ -1,6 +1,7 @@
 //! The listener hears of each object that leaves, once, and of no other.
 use crate::ledger::{done, next, Ledger, Owned};
 use cefrodil_map::{ObjectMap, Reason};
+use std::collections::hash_map::RandomState;
 use std::sync::atomic::{AtomicU32, AtomicU64, Ordering::SeqCst};
 use std::sync::{Arc, OnceLock};
 use std::thread;
@@ -43,6 +44,16 @@ fn it_hears_of_each_object_once_beside_other_threads() {
     drop(map);
     ledger.each_once();
     assert_eq!(heard.iter().map(|heard| u64::from(heard.load(SeqCst))).sum::<u64>(), left, "it heard of the drop of the map");
+}
+
+#[test]
+fn it_hears_also_if_the_hasher_is_chosen_after_it() {
+    let heard = Arc::new(AtomicU64::new(0));
+    let hears = Arc::clone(&heard);
+    let hear = move |_: &u64, value: &u64, _| done(hears.fetch_add(*value, SeqCst));
+    let map = ObjectMap::<u64, u64>::builder(100).listener(hear).hasher(RandomState::new()).open().unwrap();
+    map.insert(1, 10).unwrap();
+    assert_eq!((map.remove(&1), heard.load(SeqCst)), (Ok(true), 10));
 }
 
 // The listener puts what was evicted into another map, and looks it up in the first.

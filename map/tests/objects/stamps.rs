@@ -107,6 +107,22 @@ fn an_update_that_another_write_overtakes_begins_again() {
 }
 
 #[test]
+fn so_does_an_update_over_an_expired_value() {
+    let map = open();
+    map.insert_for(text("one"), text("a"), Duration::ZERO).unwrap();
+    let mut seen = Vec::new();
+    let change = |old: Option<&String>| {
+        seen.push(old.cloned());
+        if seen.len() == 1 {
+            map.insert(text("one"), text("b")).unwrap();
+        }
+        text("c")
+    };
+    map.update(text("one"), change).unwrap();
+    assert_eq!((seen, map.get("one")), (vec![None, Some(text("b"))], Some(text("c"))));
+}
+
+#[test]
 fn a_modification_does_not_bring_back_what_has_gone() {
     type Modify = fn(&Names, &mut dyn FnMut(&String) -> String) -> bool;
     let modifications: [Modify; 2] = [

@@ -1,6 +1,7 @@
 //! What a map of objects says of itself, and where it may go.
 use cefrodil_map::{AbsentError, IfError, InsertError, ObjectBuilder, ObjectMap, OpenError, Refused};
 use std::cell::Cell;
+use std::collections::hash_map::RandomState;
 use std::error::Error;
 use std::panic::UnwindSafe;
 use std::time::Duration;
@@ -42,6 +43,7 @@ fn a_map_shows_its_size_and_a_builder_what_it_was_told() {
     let map = ObjectBuilder::<u64, Cell<u64>>::new(10).shards(2).threads(3).time_to_live(Duration::from_secs(4));
     let expected = "ObjectBuilder { capacity: 10, shards: Some(2), threads: 3, time_to_live: Some(4s), .. }";
     assert_eq!(format!("{map:?}"), expected);
+    assert_eq!(format!("{:?}", map.hasher(RandomState::new())), expected);
     let map = ObjectMap::<u64, String>::new(100).unwrap();
     map.insert(1, "a".into()).unwrap();
     assert_eq!(format!("{:?}", map.clone()), "ObjectMap { len: 1, capacity: 100, .. }");
