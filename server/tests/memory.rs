@@ -94,6 +94,17 @@ fn a_read_spares_an_item_once() {
 }
 
 #[test]
+fn a_new_time_to_live_spares_an_item_as_a_read_does() {
+    for command in ["touch a 100\n", "gat 100 a\n", "mg a T100\n"] {
+        let mut client = room_for(2, 0);
+        set(&mut client, "ab");
+        client.ask(command);
+        set(&mut client, "c");
+        assert_eq!(there(&mut client, "abc"), "ac", "{command}");
+    }
+}
+
+#[test]
 fn an_expired_item_gives_way_though_it_was_read() {
     let mut client = room_for(2, 0);
     set(&mut client, "ab");

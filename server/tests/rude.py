@@ -11,6 +11,7 @@ import signal
 import socket
 import subprocess
 import sys
+import tempfile
 import time
 
 from running import ask, connect, rest, running
@@ -153,6 +154,38 @@ def complaints_that_nobody_reads(program):
         assert ask(clients[-1], b'mn\r\n') == b'MN\r\n'
 
 
+def complaints(program):
+    """The operator is told of a client that can't be accepted."""
+    with running(program, '-t', '1', stderr=subprocess.PIPE) as (server, port), contextlib.ExitStack() as stack:
+        resource.prlimit(server.pid, resource.RLIMIT_NOFILE, (24, 24))
+        for _ in range(40):
+            stack.enter_context(connect(port))
+        assert server.stderr.readline().startswith("cefrodild: a client can't be accepted: ")
+
+
+def client_that_is_always_halfway(program):
+    """It sends the first byte of a command with the one before. What is done with does not stay in the buffer."""
+    value = b'v' * 15_000
+    with running(program, '-t', '1') as (server, port), connect(port) as client:
+        before = memory_of(server)
+        client.sendall(b's')
+        for _ in range(600):
+            assert ask(client, b'et k 0 0 %d\r\n%s\r\ns' % (len(value), value)) == b'STORED\r\n'
+        assert memory_of(server) - before < 4 * MEGABYTE, memory_of(server) - before
+
+
+def log(program):
+    """It tells of changes and lookups, and its errors are the server's."""
+    with tempfile.NamedTemporaryFile() as file:
+        for path, status in [(file.name, 0), ('/dev/full', 1)]:
+            with running(program, '--audit', path, stderr=subprocess.PIPE) as (server, port), connect(port) as client:
+                assert ask(client, b'get k\r\nset k 0 0 1\r\nv\r\nget k\r\ndelete k\r\n', end=b'DELETED\r\n').endswith(b'v\r\nEND\r\nDELETED\r\n')
+                server.send_signal(signal.SIGTERM)
+                assert (server.wait(5), bool(server.stderr.read())) == (status, status > 0)
+        words = [line.split()[0] for line in file.read().decode().splitlines()]
+        assert words[0] == 'words' and {'absent', 'put', 'found', 'remove'} <= set(words), words
+
+
 def noise(program):
     draw = random.Random(1)
     with running(program) as (_, port):
@@ -221,7 +254,7 @@ def faults_of_the_command_line(program):
 
 
 def main():
-    tests = [too_many_clients, crowd, clients_of_each_worker, client_that_does_not_read, client_that_stops_halfway, client_that_sends_no_more, idle_clients, complaints_that_nobody_reads, noise, end, memory, faults_of_the_command_line]
+    tests = [too_many_clients, crowd, clients_of_each_worker, client_that_does_not_read, client_that_stops_halfway, client_that_sends_no_more, idle_clients, complaints, complaints_that_nobody_reads, client_that_is_always_halfway, noise, end, log, memory, faults_of_the_command_line]
     for test in tests:
         test(sys.argv[1])
     print(f'rude: {len(tests)} tests: ok')
