@@ -7,6 +7,7 @@ import contextlib
 import os
 import random
 import resource
+import select
 import signal
 import socket
 import subprocess
@@ -14,7 +15,7 @@ import sys
 import tempfile
 import time
 
-from running import ask, connect, rest, running
+from running import TIMEOUT, ask, connect, rest, running
 
 MEGABYTE = 1 << 20
 END = b'END\r\n'
@@ -160,6 +161,7 @@ def complaints(program):
         resource.prlimit(server.pid, resource.RLIMIT_NOFILE, (24, 24))
         for _ in range(40):
             stack.enter_context(connect(port))
+        assert select.select([server.stderr], [], [], TIMEOUT)[0], 'nothing is said'
         assert server.stderr.readline().startswith("cefrodild: a client can't be accepted: ")
 
 
