@@ -9,6 +9,7 @@
 #include "explored.hpp"
 
 struct CxxFlights : rl::test_suite<CxxFlights, 3> {
+    static constexpr unsigned interruptions = 1;
     static constexpr std::array<std::string_view, 6> steps{"fence of the change",  "fence of the flight",       "acquire of the count",
                                                            "release of the count", "lock around check and put", "lock of the change"};
 

@@ -8,6 +8,7 @@
 #include "explored.hpp"
 
 struct CxxPasses : rl::test_suite<CxxPasses, 3> {
+    static constexpr unsigned interruptions = 0;
     static constexpr std::array<std::string_view, 3> steps{"lock of take", "lock of give", "claim of a thread that ends"};
 
     struct Parts {

@@ -6,6 +6,7 @@
 #include "cefrodil_flights.hpp"
 #include "cefrodil_passes.hpp"
 #include <array>
+#include <limits>
 #include <optional>
 #include <ostream>
 #include <string_view>
@@ -127,15 +128,28 @@ template <class T> class Plain {
     rl::var<T> own_;
 };
 
-// Tries so many schedules, drawn by Relacy's own numbers, which are the same in each run. Returns what is wrong in one, or nothing.
-template <class Model> std::string_view tried(rl::iteration_t schedules) {
+// What is wrong in one of the schedules of Relacy's scheduler, or nothing.
+template <class Model, class Scheduler> std::string_view found(rl::test_params params) {
     std::ostream dropped(nullptr);
     rl::ostringstream state;
+    params.output_stream = params.progress_stream = &dropped;
+    const rl::test_result_e result = rl::run_test<Model, Scheduler>(params, state, false);
+    return result == rl::test_result_success ? "" : rl::test_result_str(result);
+}
+
+// Tries all schedules in which threads that could go on are interrupted so many times at most, with each value that a load may return in them.
+template <class Model> std::string_view found_in_all(unsigned interruptions) {
+    rl::test_params params;
+    params.iteration_count = std::numeric_limits<rl::iteration_t>::max();
+    params.context_bound = interruptions;
+    return found<Model, rl::context_bound_scheduler<Model::params::thread_count>>(params);
+}
+
+// Tries so many schedules with any interruptions, drawn by Relacy's own numbers, which are the same in each run.
+template <class Model> std::string_view found_in_some(rl::iteration_t schedules) {
     rl::test_params params;
     params.iteration_count = schedules;
-    params.output_stream = params.progress_stream = &dropped;
-    const rl::test_result_e result = rl::run_test<Model, rl::random_scheduler<Model::params::thread_count>>(params, state, false);
-    return result == rl::test_result_success ? "" : rl::test_result_str(result);
+    return found<Model, rl::random_scheduler<Model::params::thread_count>>(params);
 }
 
 } // namespace explored

@@ -13,6 +13,7 @@
 #include <algorithm>
 
 struct RustEpochs : rl::test_suite<RustEpochs, 3> {
+    static constexpr unsigned interruptions = 2;
     static constexpr std::array<std::string_view, 9> steps{
         "fence of an announcement",     "fence of a retirement",       "acquire of the number",
         "release of the number",        "acquire of an announcement",  "release of the end of a pin",

@@ -11,6 +11,7 @@
 #include <algorithm>
 
 struct RustFlights : rl::test_suite<RustFlights, 3> {
+    static constexpr unsigned interruptions = 1;
     static constexpr std::array<std::string_view, 6> steps{"fence of detach", "fence of board", "order of the load",
                                                            "order of the end", "lock of the put", "lock of detach"};
 

@@ -9,6 +9,7 @@
 #include "explored.hpp"
 
 struct RustSlots : rl::test_suite<RustSlots, 2> {
+    static constexpr unsigned interruptions = 2;
     static constexpr std::array<std::string_view, 5> steps{"lock of take_free", "lock of give_back", "reset of LAST", "end of CLAIMS",
                                                            "ids of their own"};
 
