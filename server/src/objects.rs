@@ -185,7 +185,8 @@ impl Index for Objects {
     }
 }
 
-fn reason(why: InsertError) -> Refused {
+/// What a put that the map refused comes to.
+pub fn reason(why: InsertError) -> Refused {
     match why {
         InsertError::Held => Refused::Held,
         _ => Refused::Full,

@@ -182,6 +182,70 @@ fn modes_are_capital_or_small_letters() {
     }
 }
 
+/// The meta commands with what comes before their flags.
+const META: [&str; 4] = ["mg k", "ms k 1", "md k", "ma k"];
+
+#[test]
+fn the_flags_of_each_meta_command() {
+    let (all, more) = ("qvkcfstOTCPL", ["", "FM", "", "MDJN"]);
+    for (line, more) in META.iter().zip(more) {
+        for flag in (b'!'..=b'~').map(char::from) {
+            // The token is right for each flag that takes one.
+            let token = if flag == 'M' {
+                if line.starts_with("ms") {
+                    "S"
+                } else {
+                    "I"
+                }
+            } else {
+                "1"
+            };
+            let (line, is_known) = (format!("{line} {flag}{token}"), all.contains(flag) || more.contains(flag));
+            match parse(line.as_bytes()).0 {
+                Ok(_) => assert!(is_known, "{line}"),
+                Err(why) if line.starts_with("mg") || line.starts_with("ms") => {
+                    assert_eq!((why.text, is_known), ("CLIENT_ERROR invalid flag", false), "{line}");
+                }
+                Err(why) => assert_eq!((why.text, is_known), ("CLIENT_ERROR invalid or duplicate flag", false), "{line}"),
+            }
+        }
+    }
+}
+
+#[test]
+fn tokens_of_meta_flags_that_are_wrong() {
+    let (token, number) = ("CLIENT_ERROR bad token in command line format", "CLIENT_ERROR bad command line format");
+    for (line, flags, text) in [
+        ("mg k", "TC", token),
+        ("ms k 1", "TC", token),
+        ("ms k 1", "F", number),
+        ("md k", "TC", "CLIENT_ERROR invalid or duplicate flag"),
+        ("ma k", "TCNDJ", "CLIENT_ERROR invalid or duplicate flag"),
+    ] {
+        for (flag, wrong) in flags.chars().flat_map(|flag| ["", "x", "1x", "99999999999999999999"].map(|wrong| (flag, wrong))) {
+            assert_eq!(refused(&format!("{line} {flag}{wrong}")), text, "{line} {flag}{wrong}");
+        }
+    }
+    for (line, of_one, of_more) in [
+        ("ms k 1", "CLIENT_ERROR invalid mode for ms M token", "CLIENT_ERROR incorrect length for M token"),
+        ("ma k", "CLIENT_ERROR invalid mode for ma M token", "CLIENT_ERROR invalid or duplicate flag"),
+    ] {
+        assert_eq!(refused(&format!("{line} MX")), of_one);
+        assert_eq!((refused(&format!("{line} M")), refused(&format!("{line} MII"))), (of_more, of_more));
+    }
+}
+
+#[test]
+fn each_meta_flag_may_come_once() {
+    for (line, text) in
+        META.iter().zip(["duplicate flag", "duplicate flag", "invalid or duplicate flag", "invalid or duplicate flag"])
+    {
+        for flag in ["q", "v", "k", "c", "f", "s", "t", "Oa", "T0", "C0", "P", "L"] {
+            assert_eq!(refused(&format!("{line} {flag} {flag}")), format!("CLIENT_ERROR {text}"), "{line} {flag}");
+        }
+    }
+}
+
 #[test]
 fn meta_flags_that_are_wrong() {
     assert_eq!(refused("mg k v v"), "CLIENT_ERROR duplicate flag");

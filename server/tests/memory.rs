@@ -94,6 +94,17 @@ fn a_read_spares_an_item_once() {
 }
 
 #[test]
+fn an_item_gives_way_though_all_were_read() {
+    const ITEMS: usize = 1_500;
+    let mut client = Client::new(ITEMS * cost(4, 1) as usize);
+    for key in 1_000..1_000 + ITEMS {
+        assert_eq!(client.ask(&format!("set {key} 0 0 1\n5\nmg {key}\n")), "STORED\nHD\n");
+    }
+    assert_eq!(client.ask("set last 0 0 1\n5\n"), "STORED\n");
+    assert_eq!((client.store.room.evicted(), client.store.room.items()), (1, ITEMS as u64));
+}
+
+#[test]
 fn a_new_time_to_live_spares_an_item_as_a_read_does() {
     for command in ["touch a 100\n", "gat 100 a\n", "mg a T100\n"] {
         let mut client = room_for(2, 0);

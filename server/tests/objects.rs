@@ -1,8 +1,9 @@
 //! The index of items over Cefrodil's.
+use cefrodil_map::InsertError;
 use cefrodild::audit::Audit;
-use cefrodild::index::{Index, Outcome, Stamp, Token};
+use cefrodild::index::{Index, Outcome, Refused, Stamp, Token};
 use cefrodild::item::Item;
-use cefrodild::objects::Objects;
+use cefrodild::objects::{reason, Objects};
 use cefrodild::room::{cost, Room};
 use std::sync::Arc;
 
@@ -96,6 +97,26 @@ fn items_that_give_way_to_others_in_a_full_index_are_counted() {
     }
     assert!(room.items() as usize <= objects.capacity());
     assert_eq!(room.evicted() + room.items(), items as u64);
+}
+
+#[test]
+fn items_that_were_removed_or_replaced_did_not_give_way() {
+    let room = Arc::new(Room::new(1 << 20));
+    let objects = Objects::open(1000, 1, &room, None).expect("there is memory");
+    put(&objects, &room, b"key", 1);
+    let token = put(&objects, &room, b"key", 2);
+    assert!(objects.remove_if(b"key", token).is_ok());
+    let stamp = Stamp { hash: objects.hash_of(b"key"), token: put(&objects, &room, b"key", 3) };
+    assert!(objects.remove_stamped(stamp).is_ok());
+    assert_eq!((room.evicted(), room.items(), room.used()), (0, 0, 0));
+}
+
+#[test]
+fn why_a_put_was_refused() {
+    assert_eq!(reason(InsertError::Held), Refused::Held);
+    for why in [InsertError::NoPlace, InsertError::AllRecent, InsertError::Spent] {
+        assert_eq!(reason(why), Refused::Full);
+    }
 }
 
 #[test]

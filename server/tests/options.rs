@@ -1,5 +1,5 @@
 //! The command line.
-use cefrodild::options::{parse, Asked, Options};
+use cefrodild::options::{parse, Asked, Options, HELP};
 
 fn read(words: &str) -> Result<Asked, String> {
     parse(words.split_whitespace().map(str::to_owned))
@@ -61,4 +61,105 @@ fn faults() {
         let why = read(words).expect_err(words);
         assert!(why.contains(what), "{words}: {why}");
     }
+}
+
+#[test]
+fn the_least_and_the_most_of_each_number() {
+    let port = |options: Options| options.listen.port() as usize;
+    type Read = fn(Options) -> usize;
+    let table: [(&str, &str, Read, usize, usize); 6] = [
+        ("-p", "--port", port, 0, 65_535),
+        ("-t", "--threads", |options| options.threads, 1, 64),
+        ("-m", "--memory-limit", |options| options.memory >> 20, 16, 1 << 20),
+        ("-n", "--items", |options| options.items, 1, (64 << 20) / 2 / 56),
+        ("-c", "--conn-limit", |options| options.connections, 1, 1 << 20),
+        ("-I", "--max-item-size", |options| options.longest, 1 << 10, 128 << 20),
+    ];
+    for (short, long, read_number, least, most) in table {
+        for number in [least, most] {
+            for words in
+                [format!("{short}{number}"), format!("{short} {number}"), format!("{long}={number}"), format!("{long} {number}")]
+            {
+                assert_eq!(read_number(options(&words)), number, "{words}");
+            }
+        }
+        for number in [least.wrapping_sub(1), most + 1] {
+            let words = format!("{short} {number}");
+            let why = read(&words).expect_err(&words);
+            assert!(why.starts_with(short), "{words}: {why}");
+        }
+    }
+}
+
+#[test]
+fn sizes_have_units() {
+    for (size, bytes) in
+        [("1k", 1 << 10), ("1K", 1 << 10), ("3m", 3 << 20), ("3M", 3 << 20), ("128m", 128 << 20), ("131072k", 128 << 20)]
+    {
+        assert_eq!(options(&format!("-I {size}")).longest, bytes, "{size}");
+    }
+    for size in ["0k", "0m", "129m", "131073k", "1g", "1kk", "k", "m", "", "-1k", "1.5m", "18446744073709551615m", "\u{e9}"] {
+        let why = parse(["-I".to_owned(), size.to_owned()]).expect_err(size);
+        assert_eq!(why, format!("-I: '{size}' is no size from 1k to 128m"));
+    }
+}
+
+#[test]
+fn what_is_no_number() {
+    for option in ["-p", "-t", "-m", "-n", "-c", "-U"] {
+        for value in ["", "x", "-1", "1x", "1.5", " 1", "18446744073709551616"] {
+            let why = parse([option.to_owned(), value.to_owned()]).expect_err(option);
+            assert!(why.starts_with(option) && why.contains(&format!("'{value}'")), "{option} {value}: {why}");
+        }
+    }
+}
+
+#[test]
+fn addresses() {
+    for (address, shown) in
+        [("0.0.0.0", "0.0.0.0:11211"), ("127.0.0.2", "127.0.0.2:11211"), ("::", "[::]:11211"), ("::1", "[::1]:11211")]
+    {
+        for words in
+            [format!("-l {address}"), format!("-l{address}"), format!("--listen={address}"), format!("--listen {address}")]
+        {
+            assert_eq!(options(&words).listen.to_string(), shown);
+        }
+    }
+    for address in ["", "localhost", "1.2.3", "1.2.3.4:5"] {
+        assert!(parse(["-l".to_owned(), address.to_owned()]).is_err(), "{address}");
+    }
+}
+
+#[test]
+fn questions_are_answered_before_later_words_are_read() {
+    for (words, asked) in [("-h", Asked::Help), ("--help", Asked::Help), ("-V", Asked::Version), ("--version", Asked::Version)] {
+        assert_eq!(read(words), Ok(asked));
+        assert!(read(&format!("-x {words}")).is_err() && read(&format!("{words} -x")).is_ok(), "{words}");
+        assert!(read(&format!("{words}=1")).is_err(), "{words}");
+    }
+}
+
+#[test]
+fn the_help_names_what_is_accepted() {
+    for line in HELP.lines().filter_map(|line| line.trim_start().strip_prefix('-')) {
+        let names = line.split("  ").next().unwrap_or_default();
+        let (names, value) = names.split_once('=').unwrap_or((names, ""));
+        let value = match value {
+            "ADDRESS" => "::1",
+            "N" => "1024",
+            value => value,
+        };
+        for name in names.split(", -") {
+            // 1,024 are too many threads.
+            let words = format!("-{name} {value}").replace("threads 1024", "threads 4").replace("-t 1024", "-t 4");
+            assert!(read(&words).is_ok(), "{words}: {:?}", read(&words));
+        }
+    }
+}
+
+#[test]
+fn the_last_of_two_values_counts() {
+    assert_eq!(options("-t 2 -t 3 --threads=4").threads, 4);
+    assert_eq!(options("--audit=one --audit two").audit.as_deref(), Some("two"));
+    assert_eq!(options("").audit, None);
 }

@@ -1,8 +1,10 @@
 //! What `stats` counts.
 mod plain;
+use cefrodild::clock::unix_time;
 use cefrodild::counts::{take_place, Count, Counts};
 use cefrodild::room::cost;
 use plain::client::{Client, MEGABYTE};
+use std::process;
 use std::sync::atomic::Ordering::SeqCst;
 use std::thread;
 
@@ -77,11 +79,68 @@ fn memory() {
     assert_eq!(stats(&mut client, "", "store_too_large store_no_memory curr_items"), "1 1 2");
 }
 
+/// The names in what `stats` answers, with this word behind it.
+fn names(client: &mut Client, what: &str) -> Vec<String> {
+    let answer = client.ask(&format!("stats {what}\n"));
+    let (last, lines) =
+        answer.lines().rev().collect::<Vec<_>>().split_first().map(|(last, lines)| (*last, lines.to_vec())).expect("an end");
+    assert_eq!(last, "END");
+    let words = lines.iter().map(|line| line.split(' ').collect::<Vec<_>>());
+    let mut names: Vec<_> = words.map(|words| [words[0], words[1]].join(" ").replace("STAT ", "")).collect();
+    names.sort();
+    names
+}
+
+#[test]
+fn each_name_is_told_once() {
+    let mut client = Client::new(MEGABYTE);
+    let mut expected: Vec<_> = "pid uptime time version pointer_size max_connections curr_connections threads evictions bytes curr_items \
+        limit_maxbytes cmd_get cmd_set cmd_flush cmd_touch cmd_meta get_hits get_misses delete_misses delete_hits incr_misses incr_hits \
+        decr_misses decr_hits cas_misses cas_hits cas_badval touch_hits touch_misses store_too_large store_no_memory total_items busy held \
+        refused bytes_read bytes_written total_connections rejected_connections"
+        .split_whitespace()
+        .collect();
+    expected.sort_unstable();
+    assert_eq!(names(&mut client, ""), expected);
+    let expected = ["cas_enabled", "evictions", "item_size_max", "maxbytes", "maxconns", "num_threads", "udpport"];
+    assert_eq!(names(&mut client, "settings"), expected);
+}
+
 #[test]
 fn what_was_asked_for() {
     let mut client = Client::new(MEGABYTE);
     assert_eq!(stats(&mut client, "", "threads max_connections limit_maxbytes curr_connections"), "1 1024 67108864 0");
     assert_eq!(stats(&mut client, "settings", "maxbytes maxconns item_size_max num_threads"), "67108864 1024 1048576 1");
+    let mut client = Client::with(MEGABYTE, "-m 32 -c 7 -t 3 -I 2k");
+    assert_eq!(stats(&mut client, "", "threads max_connections limit_maxbytes"), "3 7 33554432");
+    assert_eq!(stats(&mut client, "settings", "maxbytes maxconns item_size_max num_threads"), "33554432 7 2048 3");
+    assert_eq!(stats(&mut client, "settings", "evictions cas_enabled udpport"), "on yes 0");
+}
+
+#[test]
+fn the_process_and_its_time() {
+    let mut client = Client::new(MEGABYTE);
+    let before = unix_time();
+    let answer = stats(&mut client, "", "time");
+    assert!((before..=unix_time()).contains(&answer.parse().expect("a number")), "{answer}");
+    let version = client.ask("version\n").trim_end().replace("VERSION ", "");
+    assert_eq!(stats(&mut client, "", "pid version pointer_size"), format!("{} {version} {}", process::id(), usize::BITS));
+    let (before, answer, after) = (client.store.clock.uptime(), stats(&mut client, "", "uptime"), client.store.clock.uptime());
+    assert!((before..=after).contains(&answer.parse().expect("a number")), "{answer}");
+}
+
+#[test]
+fn seats_that_are_taken() {
+    let mut client = Client::new(MEGABYTE);
+    let seats: Vec<_> = (0..3).map(|_| client.store.seats.take().expect("it is free")).collect();
+    assert_eq!(stats(&mut client, "", "curr_connections"), "3");
+    drop(seats);
+    assert_eq!(stats(&mut client, "", "curr_connections"), "0");
+}
+
+#[test]
+fn a_word_that_stats_does_not_know() {
+    assert_eq!(Client::new(MEGABYTE).ask("stats x\nstats sizes\nstats conns\n"), "ERROR\n".repeat(3));
 }
 
 #[test]
@@ -95,6 +154,7 @@ fn a_reset_keeps_what_is_there() {
     let mut client = Client::new(MEGABYTE);
     assert_eq!(client.ask("set a 0 0 1\n1\nget a b\nstats reset\n").lines().last(), Some("RESET"));
     assert_eq!(stats(&mut client, "", "cmd_get get_hits get_misses cmd_set curr_items"), "0 0 0 0 1");
+    assert!(client.store.counts.sums().all(|(_, sum)| sum == 0));
 }
 
 #[test]

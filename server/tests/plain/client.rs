@@ -22,10 +22,10 @@ impl Client {
         Client::with(memory, "-t1")
     }
 
-    /// The same, with this option.
-    pub fn with(memory: usize, option: &str) -> Client {
+    /// The same, with these options.
+    pub fn with(memory: usize, options: &str) -> Client {
         let (room, control) = (Arc::new(Room::new(memory as u64)), Arc::new(Control::default()));
-        let Ok(Asked::Serve(options)) = parse([option.to_owned()]) else { panic!("this is an option") };
+        let Ok(Asked::Serve(options)) = parse(options.split(' ').map(str::to_owned)) else { panic!("{options}") };
         let store = Arc::new(Store::new(Box::new(Plain::new(&room, &control)), room, options));
         Client { store, control, dialogue: Dialogue::default(), input: Vec::new() }
     }

@@ -1,0 +1,169 @@
+//! Times to live and delays, of each command that takes one.
+mod plain;
+use cefrodild::clock::unix_time;
+use plain::client::{Client, MEGABYTE};
+use std::time::{Duration, Instant};
+
+/// Each gives `k` this time to live, or makes it with that.
+const COMMANDS: [&str; 13] = [
+    "set k 0 TIME 1\n5\n",
+    "replace k 0 TIME 1\n5\n",
+    "cas k 0 TIME 1 1\n5\n",
+    "delete k\nadd k 0 TIME 1\n5\n",
+    "touch k TIME\n",
+    "gat TIME k\n",
+    "gats TIME k\n",
+    "ms k 1 TTIME\n5\n",
+    "ms k 1 MR TTIME\n5\n",
+    "mg k TTIME\n",
+    "ma k TTIME\n",
+    "delete k\nma k NTIME\n",
+    "delete k\nma k NTIME T0\n",
+];
+
+/// What `t` says of `k` after this command. It had no time to live before.
+fn left(command: &str, time: &str) -> String {
+    let mut client = Client::new(MEGABYTE);
+    client.ask("set k 0 0 1\n5\n");
+    assert!(!client.ask(&command.replace("TIME", time)).contains("ERROR"), "{command} {time}");
+    client.ask("mg k t\n")
+}
+
+/// Makes the claim of what takes less than a second. If the thread had to wait, it is made again.
+fn within_a_second(claim: impl Fn() -> Result<(), String>) {
+    loop {
+        let (begun, made) = (Instant::now(), claim());
+        if made.is_ok() || begun.elapsed() < Duration::from_millis(900) {
+            return made.unwrap_or_else(|why| panic!("{why}"));
+        }
+    }
+}
+
+#[test]
+fn each_time_of_each_command() {
+    for (command, (time, expected)) in COMMANDS.iter().flat_map(|command| {
+        [
+            ("0", "HD t-1\n"),
+            ("-1", "EN\n"),
+            ("1", "HD t1\n"),
+            ("100", "HD t100\n"),
+            ("2592000", "HD t2592000\n"),
+            ("2592001", "EN\n"),
+        ]
+        .map(|time| (command, time))
+    }) {
+        within_a_second(|| {
+            let left = left(command, time);
+            (left == expected).then_some(()).ok_or(format!("{command} {time}: {left}"))
+        });
+    }
+}
+
+#[test]
+fn a_time_of_day_of_each_command() {
+    for command in COMMANDS {
+        let before = unix_time();
+        let left = left(command, &(before + 1000).to_string());
+        let least = 1000 - (unix_time() - before) as i64 - 1;
+        let seconds: i64 = left.trim_end().strip_prefix("HD t").expect(&left).parse().expect("a number");
+        assert!((least..=1000).contains(&seconds), "{command}: {left}");
+    }
+}
+
+#[test]
+fn what_keeps_its_time_to_live() {
+    for command in [
+        "append k 0 50 1\n5\n",
+        "prepend k 0 50 1\n5\n",
+        "ms k 1 MA T50\n5\n",
+        "incr k 1\n",
+        "decr k 1\n",
+        "ma k N50\n",
+        "get k\n",
+    ] {
+        within_a_second(|| {
+            let mut client = Client::new(MEGABYTE);
+            let left = client.ask(&format!("set k 0 100 1\n5\n{command}mg k t\n"));
+            left.ends_with("HD t100\n").then_some(()).ok_or(format!("{command}: {left}"))
+        });
+    }
+}
+
+#[test]
+fn the_answer_has_the_new_time_to_live() {
+    for (command, expected) in [
+        ("mg k T100 t\n", "HD t100\n"),
+        ("ma k T100 t\n", "HD t100\n"),
+        ("mg k t\n", "HD t-1\n"),
+        ("ma k t\n", "HD t-1\n"),
+        ("ma none N100 t\n", "HD t100\n"),
+        ("ma none N100 T50 t\n", "HD t100\n"),
+        ("ma none N0 T50 t\n", "HD t-1\n"),
+        ("ma k N50 t\n", "HD t-1\n"),
+    ] {
+        within_a_second(|| {
+            let mut client = Client::new(MEGABYTE);
+            client.ask("set k 0 0 1\n5\n");
+            let answer = client.ask(command);
+            (answer == expected).then_some(()).ok_or(format!("{command}: {answer}"))
+        });
+    }
+}
+
+#[test]
+fn the_delay_of_a_flush() {
+    for (delay, expected) in [
+        ("", "EN\n"),
+        (" 0", "EN\n"),
+        (" -1", "EN\n"),
+        (" 1", "HD\n"),
+        (" 100", "HD\n"),
+        (" 2592000", "HD\n"),
+        (" 2592001", "EN\n"),
+    ] {
+        within_a_second(|| {
+            let mut client = Client::new(MEGABYTE);
+            let answer = client.ask(&format!("set k 0 0 1\n5\nflush_all{delay}\nmg k\n"));
+            (answer == format!("STORED\nOK\n{expected}")).then_some(()).ok_or(format!("flush_all{delay}: {answer}"))
+        });
+    }
+}
+
+#[test]
+fn what_is_stored_after_a_flush_is_not_hit_by_it() {
+    for delay in ["", " 0", " -1", " 2592001"] {
+        let mut client = Client::new(MEGABYTE);
+        assert_eq!(client.ask(&format!("flush_all{delay}\nset k 0 0 1\n5\nmg k\n")), "OK\nSTORED\nHD\n", "{delay}");
+    }
+}
+
+#[test]
+fn commands_do_not_see_what_has_expired() {
+    for (command, expected) in [
+        ("get k\n", "END\n"),
+        ("gat 0 k\n", "END\n"),
+        ("add k 0 0 1\n6\n", "STORED\n"),
+        ("replace k 0 0 1\n6\n", "NOT_STORED\n"),
+        ("append k 0 0 1\n6\n", "NOT_STORED\n"),
+        ("prepend k 0 0 1\n6\n", "NOT_STORED\n"),
+        ("cas k 0 0 1 1\n6\n", "NOT_FOUND\n"),
+        ("incr k 1\n", "NOT_FOUND\n"),
+        ("touch k 0\n", "NOT_FOUND\n"),
+        ("delete k\n", "NOT_FOUND\n"),
+        ("mg k\n", "EN\n"),
+        ("mg k T0\n", "EN\n"),
+        ("md k\n", "NF\n"),
+        ("md k C1\n", "NF\n"),
+        ("ma k\n", "NF\n"),
+        ("ma k N0 J7 v\n", "VA 1\n7\n"),
+        ("ms k 1 MA\n6\n", "NS\n"),
+        ("ms k 1 ME\n6\n", "HD\n"),
+        ("ms k 1 C1\n6\n", "NF\n"),
+    ] {
+        for end in ["touch k -1\n", "flush_all\n"] {
+            let mut client = Client::new(MEGABYTE);
+            client.ask(&format!("set k 0 0 1\n5\n{end}"));
+            assert_eq!(client.ask(command), expected, "{command}");
+        }
+    }
+}

@@ -1,0 +1,126 @@
+#!/usr/bin/env python3
+"""What the operator is told: by options that ask, by errors, and by the statistics of a running server.
+
+usage: told.py CEFRODILD
+"""
+import contextlib
+import os
+import re
+import signal
+import socket
+import subprocess
+import sys
+
+from running import ask, connect, rest, running
+
+END = b'END\r\n'
+
+
+def run(program, *words):
+    return subprocess.run([program, *words], capture_output=True, text=True, timeout=10, check=False)
+
+
+def questions(program):
+    for word in ['-h', '--help']:
+        ran = run(program, word)
+        assert (ran.returncode, ran.stderr) == (0, ''), ran
+        assert ran.stdout.startswith("cefrodild: a cache server that speaks memcached's text protocol\n"), ran
+        assert all(name in ran.stdout for name in ['--port=', '--threads=', '--version']), ran
+    for word in ['-V', '--version']:
+        ran = run(program, word)
+        assert (ran.returncode, ran.stderr) == (0, '') and re.fullmatch(r'cefrodild \d+\.\d+\.\d+\n', ran.stdout), ran
+    with running(program) as (_, port), connect(port) as client:
+        own = ran.stdout.split()[1]
+        assert ask(client, b'version\r\n').decode() == f'VERSION 1.6.18-cefrodild-{own}\r\n'
+
+
+def faults(program):
+    """An error names what it is about, and is all that is said."""
+    with socket.create_server(('127.0.0.1', 0)) as taken:
+        port = str(taken.getsockname()[1])
+        for words, status, named in [
+            (['-x'], 2, "'-x'"),
+            (['-p'], 2, '-p'),
+            (['-t', '0'], 2, '-t'),
+            (['-n', '1000000'], 2, '-n'),
+            (['-p', port], 1, f'127.0.0.1:{port}'),
+            (['-l', '192.0.2.1', '-p', '0'], 1, '192.0.2.1:0'),
+            (['--audit', '/no/such/file', '-p', '0'], 1, '/no/such/file'),
+        ]:
+            ran = run(program, *words)
+            assert (ran.returncode, ran.stdout, ran.stderr.count('\n')) == (status, '', 1), (words, ran)
+            assert ran.stderr.startswith('cefrodild: ') and named in ran.stderr, (words, ran)
+
+
+def addresses(program):
+    """The line that it prints has the address at which it listens, and it listens at no other."""
+    for address, shown in [('127.0.0.2', '127.0.0.2'), ('0.0.0.0', '0.0.0.0'), ('::1', '[::1]')]:
+        server = subprocess.Popen([program, '-l', address, '-p', '0'], stdout=subprocess.PIPE, text=True)
+        try:
+            begin, _, port = server.stdout.readline().rstrip().rpartition(':')
+            assert begin == f'cefrodild: listening on {shown}', begin
+            with socket.create_connection(('127.0.0.3' if address == '0.0.0.0' else address, int(port)), 10) as client:
+                assert ask(client, b'mn\r\n') == b'MN\r\n'
+            if address != '0.0.0.0':
+                with contextlib.suppress(ConnectionRefusedError), connect(int(port)):
+                    raise AssertionError(f'it listens on 127.0.0.1, too, and not only on {address}')
+        finally:
+            server.kill()
+            server.communicate()
+
+
+def statistics(program):
+    with running(program, '-t', '3', '-m', '32', '-c', '7', '-I', '2k') as (server, port), connect(port) as client, connect(port) as other:
+        assert ask(other, b'mn\r\n') == b'MN\r\n'
+        before = stats(client)
+        expected = {'pid': server.pid, 'threads': 3, 'limit_maxbytes': 32 << 20, 'max_connections': 7, 'curr_connections': 2, 'total_connections': 2, 'curr_items': 0, 'bytes': 0}
+        assert {name: int(before[name]) for name in expected} == expected, before
+        asked = b'set k 0 0 1\r\nv\r\nget k\r\ndelete k\r\n'
+        answer = b'STORED\r\nVALUE k 0 1\r\nv\r\nEND\r\nDELETED\r\n'
+        assert ask(other, asked, end=b'DELETED\r\n') == answer
+        after = stats(client)
+        grown = {name: int(after[name]) - int(before[name]) for name in ['cmd_get', 'cmd_set', 'get_hits', 'delete_hits', 'total_items', 'curr_items', 'bytes', 'evictions']}
+        assert grown == {'cmd_get': 1, 'cmd_set': 1, 'get_hits': 1, 'delete_hits': 1, 'total_items': 1, 'curr_items': 0, 'bytes': 0, 'evictions': 0}, grown
+        assert int(after['bytes_read']) - int(before['bytes_read']) == len(asked) + len('stats\r\n')
+
+
+def stats(client):
+    lines = ask(client, b'stats\r\n', end=END).decode().splitlines()
+    return {name: value for _, name, value in (line.split() for line in lines[:-1])}
+
+
+def ends(program):
+    """A server that nobody asks for anything ends at once, in silence, at either signal. Others leave it running."""
+    for number in [signal.SIGTERM, signal.SIGINT]:
+        with running(program, stderr=subprocess.PIPE) as (server, port), connect(port) as idle:
+            server.send_signal(signal.SIGWINCH)
+            assert ask(idle, b'mn\r\n') == b'MN\r\n'
+            server.send_signal(number)
+            assert rest(idle) == b''
+            assert (server.wait(5), server.stderr.read(), server.stdout.read()) == (0, '', '')
+            with contextlib.suppress(ConnectionRefusedError), connect(port):
+                raise AssertionError('something listens at its port')
+
+
+def threads(program):
+    """Each worker has a name, by which the system's tools show it."""
+    with running(program, '-t', '3') as (server, port), contextlib.ExitStack() as stack:
+        # They are handed to the workers in turn, so each worker runs.
+        clients = [stack.enter_context(connect(port)) for _ in range(3)]
+        assert all(ask(client, b'mn\r\n') == b'MN\r\n' for client in clients)
+        folder, names = f'/proc/{server.pid}/task', []
+        for number in os.listdir(folder):
+            with open(f'{folder}/{number}/comm', encoding='ascii') as file:
+                names.append(file.read().rstrip())
+        assert sorted(names) == sorted([os.path.basename(program)[:15], 'worker 0', 'worker 1', 'worker 2']), names
+
+
+def main():
+    tests = [questions, faults, addresses, statistics, ends, threads]
+    for test in tests:
+        test(sys.argv[1])
+    print(f'told: {len(tests)} tests: ok')
+
+
+if __name__ == '__main__':
+    main()
