@@ -18,7 +18,12 @@ pub struct Clock {
 impl Clock {
     /// Starts now.
     pub fn new() -> Clock {
-        Clock { started: Instant::now() }
+        Clock::since(Instant::now())
+    }
+
+    /// Started then.
+    pub fn since(started: Instant) -> Clock {
+        Clock { started }
     }
 
     /// Nanoseconds since the start, 1 at least.

@@ -2,6 +2,7 @@
 #![deny(missing_debug_implementations, unsafe_op_in_unsafe_fn)]
 
 pub mod accept;
+pub mod answers;
 pub mod audit;
 pub mod clock;
 pub mod command;

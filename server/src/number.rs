@@ -1,14 +1,19 @@
 //! Numbers in command lines, read as memcached reads them: `strtol` and its kin, up to the first blank.
 
+/// Whether it is white space in C, which has one byte more than Rust.
+fn is_blank(byte: &u8) -> bool {
+    byte.is_ascii_whitespace() || *byte == b'\x0b'
+}
+
 /// A sign and a magnitude. White space may come before it, and anything behind the first white space after it.
 fn signed(text: &[u8]) -> Option<(bool, u64)> {
-    let text = text.trim_ascii_start();
+    let text = &text[text.iter().position(|byte| !is_blank(byte))?..];
     let (negative, digits) = match text.split_first()? {
         (b'-', rest) => (true, rest),
         (b'+', rest) => (false, rest),
         _ => (false, text),
     };
-    let end = digits.iter().position(|byte| byte.is_ascii_whitespace()).unwrap_or(digits.len());
+    let end = digits.iter().position(is_blank).unwrap_or(digits.len());
     let mut magnitude = 0u64;
     for byte in digits.get(..end).filter(|digits| !digits.is_empty())? {
         let digit = byte.is_ascii_digit().then(|| u64::from(byte - b'0'))?;

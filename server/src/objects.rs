@@ -1,10 +1,11 @@
 //! The index of items: a map of objects over Cefrodil's index.
+use crate::answers;
 use crate::audit::{digest, Audit};
 use crate::index::{Index, Outcome, Refused, Seen, Stamp, Token};
 use crate::item::Item;
 use crate::names::{KeyHash, Name, Names};
 use crate::room::{cost, Room};
-use cefrodil_map::{AbsentError, IfError, InsertError, Inserted, Look, ObjectMap, OpenError, Put, Reason};
+use cefrodil_map::{IfError, Inserted, Look, ObjectMap, OpenError, Put, Reason};
 use std::cell::Cell;
 use std::sync::Arc;
 
@@ -80,15 +81,10 @@ impl Objects {
     }
 
     fn failed(&self, hash: impl FnOnce() -> u64, why: IfError) -> Result<Outcome, Refused> {
-        match why {
-            IfError::NotThere { at } => {
-                self.log_change("absent", at, hash);
-                Ok(Outcome::Absent)
-            }
-            IfError::Changed { .. } => Ok(Outcome::Changed),
-            IfError::Busy | IfError::Held => Err(Refused::Held),
-            _ => Err(Refused::Full),
+        if let IfError::NotThere { at } = why {
+            self.log_change("absent", at, hash);
         }
+        answers::of_condition(why)
     }
 }
 
@@ -102,14 +98,7 @@ impl Index for Objects {
             if let Ok(found) = found {
                 self.log_look(|| self.hash_of(keys[position]), found);
             }
-            each(
-                position,
-                match found {
-                    Ok(Look::Found { result, since, .. }) => Ok(Some((result, since))),
-                    Ok(_) => Ok(None),
-                    Err(_) => Err(Refused::Held),
-                },
-            );
+            each(position, answers::seen(found));
         });
     }
 
@@ -118,17 +107,13 @@ impl Index for Objects {
             if let Ok(found) = found {
                 self.log_look(|| stamp.hash, found);
             }
-            see(match found {
-                Ok(Look::Found { result, since, .. }) if since == stamp.token => Ok(Some((result, since))),
-                Ok(_) => Ok(None),
-                Err(_) => Err(Refused::Held),
-            });
+            see(answers::seen(found).map(|seen| seen.filter(|(_, token)| *token == stamp.token)));
         });
     }
 
     fn put(&self, key: &[u8], item: Item) -> Result<Token, Refused> {
         let digest = self.digest(&item);
-        let put = self.map.put(self.name(key), item, None).map_err(|refused| reason(refused.why))?;
+        let put = self.map.put(self.name(key), item, None).map_err(|refused| answers::of_put(refused.why))?;
         self.log_put(key, digest, put);
         Ok(put.at)
     }
@@ -140,11 +125,7 @@ impl Index for Objects {
                 self.log_put(key, digest, put);
                 Ok(Outcome::Done(put.at))
             }
-            Err(refused) => match refused.why {
-                AbsentError::Present { .. } => Ok(Outcome::Changed),
-                AbsentError::Insert(why) => Err(reason(why)),
-                _ => Err(Refused::Held),
-            },
+            Err(refused) => answers::of_new(refused.why),
         }
     }
 
@@ -182,13 +163,5 @@ impl Index for Objects {
 
     fn sweep(&self) {
         self.map.free_unused();
-    }
-}
-
-/// What a put that the map refused comes to.
-pub fn reason(why: InsertError) -> Refused {
-    match why {
-        InsertError::Held => Refused::Held,
-        _ => Refused::Full,
     }
 }

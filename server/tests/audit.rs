@@ -46,6 +46,16 @@ fn a_log_has_a_head_and_each_line() {
 }
 
 #[test]
+fn a_log_takes_the_place_of_an_old_one() {
+    let path = path("old");
+    fs::write(&path, "words 2\nput 1 1 1\n").expect("there is room");
+    let log = Audit::create(path.to_str().expect("it is text")).expect("it can be made");
+    log.end().expect("there is room");
+    assert_eq!(fs::read_to_string(&path).expect("it is there"), "words 1\n");
+    fs::remove_file(path).expect("it is there");
+}
+
+#[test]
 fn an_error_is_not_forgotten_when_later_lines_can_be_written() {
     let path = path("pipe");
     assert!(Command::new("mkfifo").arg(&path).status().is_ok_and(|status| status.success()));

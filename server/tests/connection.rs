@@ -3,7 +3,7 @@ mod plain;
 use cefrodild::connection::{Connection, Next};
 use plain::client::{Client, MEGABYTE};
 use std::io::{ErrorKind, Read, Write};
-use std::net::{TcpListener, TcpStream};
+use std::net::{Shutdown, TcpListener, TcpStream};
 use std::thread::yield_now;
 use std::time::{Duration, Instant};
 
@@ -189,4 +189,64 @@ fn bytes_are_counted() {
     assert_eq!(both.read_all(400).len(), 400);
     let of = |sought| both.client.store.counts.sums().find(|(name, _)| *name == sought).map(|(_, sum)| sum);
     assert_eq!((of("bytes_read"), of("bytes_written")), (Some(400), Some(400)));
+}
+
+#[test]
+fn bytes_that_wait_are_counted_once() {
+    let mut both = Both::new();
+    let waiting = both.fill();
+    let mut bytes = 0;
+    while bytes < waiting {
+        bytes += both.read().len();
+        both.turn();
+        yield_now();
+    }
+    let of = |sought| both.client.store.counts.sums().find(|(name, _)| *name == sought).map(|(_, sum)| sum);
+    assert_eq!(of("bytes_written"), Some(waiting as u64));
+}
+
+#[test]
+fn a_client_that_sends_no_more_gets_all_its_answers() {
+    let mut both = Both::new();
+    let waiting = both.fill();
+    both.stream.shutdown(Shutdown::Write).expect("it is connected");
+    let (mut bytes, mut next) = (0, both.turn());
+    while next != Next::Nothing {
+        assert!(bytes < waiting, "all is answered, and the connection has not ended");
+        bytes += both.read().len();
+        next = both.turn();
+        yield_now();
+    }
+    assert_eq!(bytes + both.read_all(waiting - bytes).len(), waiting);
+}
+
+#[test]
+fn what_a_client_began_and_did_not_end_is_not_done() {
+    for part in ["set k 0 0 5\r\nvalu", "set k 0 0 5\r\nvalue\r", "set k 0 0 5", "get k"] {
+        let mut both = Both::new();
+        both.write(part.as_bytes());
+        both.stream.shutdown(Shutdown::Write).expect("it is connected");
+        while both.turn() != Next::Nothing {
+            yield_now();
+        }
+        assert!(both.read().is_empty() && both.client.store.room.items() == 0, "{part}");
+    }
+}
+
+#[test]
+fn a_connection_that_fails_is_an_error() {
+    let mut both = Both::new();
+    both.fill();
+    let Both { client, mut connection, stream, .. } = both;
+    // Answers that were not read make this a reset.
+    drop(stream);
+    let end = Instant::now() + LIMIT;
+    loop {
+        connection.read_again();
+        match connection.turn(&client.store) {
+            Err(why) => return assert!(matches!(why.kind(), ErrorKind::ConnectionReset | ErrorKind::BrokenPipe), "{why}"),
+            Ok(next) => assert!(next != Next::Nothing && Instant::now() < end, "{next:?}"),
+        }
+        yield_now();
+    }
 }

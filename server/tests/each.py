@@ -95,17 +95,28 @@ def blocks():
             yield line + behind, block
 
 
+def odd_bytes():
+    """Each byte before, in and behind a number and a word. A zero ends memcached's text, and a line feed the line."""
+    for byte in map(chr, range(1, 256)):
+        for value in [f'{byte}5', f'5{byte}', f'5{byte}6', f' {byte}5']:
+            yield f'set n 7 0 {len(value)}\r\n{value}\r\nincr n 1', None
+        if byte not in '\nb':
+            places = ['get n{}', 'get {}n', '{}get n', 'get{}n', 'incr n 2{}', 'incr n {}2', 'touch n 2{}', 'delete n{}', 'delete n noreply{}', 'incr n 1 noreply{}', 'gat 0{} n', 'flush_all{}', 'flush_all {}0', 'mg n v{}']
+            yield from ((place.format(byte), None) for place in places)
+            yield f'set n 0 0{byte}2', '55'
+
+
 # Lines that the two answer differently: a token of 0 for `ma`, a delay of one second, and a long key of `gat`.
 DIFFERENT = re.compile(r'ma .* C0|flush_all 1$|gats? .* k{251}')
 
 
 def main():
     peers, asked = [Peer(int(port)) for port in sys.argv[1:3]], 0
-    for table in [flags, modes, words, numbers, faults, blocks]:
+    for table in [flags, modes, words, numbers, faults, blocks, odd_bytes]:
         for line, block in table():
             if DIFFERENT.match(line):
                 continue
-            text = line.encode() + b'\r\n' + (b'' if block is None else block.encode() + b'\r\n')
+            text = line.encode('latin1') + b'\r\n' + (b'' if block is None else block.encode() + b'\r\n')
             answers = [peer.ask([BEFORE, text, AFTER]) for peer in peers]
             asked += 1
             if answers[0] != answers[1]:

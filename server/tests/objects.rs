@@ -1,9 +1,8 @@
 //! The index of items over Cefrodil's.
-use cefrodil_map::InsertError;
 use cefrodild::audit::Audit;
-use cefrodild::index::{Index, Outcome, Refused, Stamp, Token};
+use cefrodild::index::{Index, Outcome, Stamp, Token};
 use cefrodild::item::Item;
-use cefrodild::objects::{reason, Objects};
+use cefrodild::objects::Objects;
 use cefrodild::room::{cost, Room};
 use std::sync::Arc;
 
@@ -109,14 +108,6 @@ fn items_that_were_removed_or_replaced_did_not_give_way() {
     let stamp = Stamp { hash: objects.hash_of(b"key"), token: put(&objects, &room, b"key", 3) };
     assert!(objects.remove_stamped(stamp).is_ok());
     assert_eq!((room.evicted(), room.items(), room.used()), (0, 0, 0));
-}
-
-#[test]
-fn why_a_put_was_refused() {
-    assert_eq!(reason(InsertError::Held), Refused::Held);
-    for why in [InsertError::NoPlace, InsertError::AllRecent, InsertError::Spent] {
-        assert_eq!(reason(why), Refused::Full);
-    }
 }
 
 #[test]

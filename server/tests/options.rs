@@ -163,3 +163,32 @@ fn the_last_of_two_values_counts() {
     assert_eq!(options("--audit=one --audit two").audit.as_deref(), Some("two"));
     assert_eq!(options("").audit, None);
 }
+
+#[test]
+fn a_value_may_have_any_sign_in_it() {
+    for value in ["a=b=c", "-", "-t", "--help", "a b"] {
+        for words in [vec!["--audit".to_owned(), value.to_owned()], vec![format!("--audit={value}")]] {
+            let Ok(Asked::Serve(options)) = parse(words) else { panic!("{value}") };
+            assert_eq!(options.audit.as_deref(), Some(value));
+        }
+    }
+}
+
+#[test]
+fn the_help_tells_the_values_of_options_that_are_not_there() {
+    let Options { listen, threads, memory, items, connections, longest, audit } = options("");
+    let told = [
+        ("--port=", format!("({}; 0", listen.port())),
+        ("--listen=", format!("({})", listen.ip())),
+        ("--threads=", format!("1 to 64 ({threads})")),
+        ("--memory-limit=", format!("at least 16 ({})", memory >> 20)),
+        ("--items=", format!("one for each {} bytes", memory / items)),
+        ("--conn-limit=", format!("({connections})")),
+        ("--max-item-size=", format!("1k to 128m ({}m)", longest >> 20)),
+    ];
+    for (name, value) in told {
+        let line = HELP.lines().find(|line| line.contains(name)).expect(name);
+        assert!(line.contains(&value), "{line}: {value}");
+    }
+    assert_eq!(audit, None);
+}

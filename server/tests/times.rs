@@ -3,7 +3,7 @@ use cefrodild::clock::{unix_time, Clock, NEVER};
 use cefrodild::item::{Flushes, Item};
 use std::sync::atomic::{AtomicU64, Ordering::SeqCst};
 use std::thread;
-use std::time::Duration;
+use std::time::{Duration, Instant};
 
 const SECOND: u64 = 1_000_000_000;
 const DAYS_30: i64 = 60 * 60 * 24 * 30;
@@ -60,11 +60,12 @@ fn the_time_that_is_left_is_rounded_up() {
 
 #[test]
 fn the_server_counts_whole_seconds_since_its_start() {
-    let clock = Clock::new();
-    while clock.now() < SECOND / 20 {
-        let before = clock.now() / SECOND;
+    for milliseconds in [0, 400, 900, 1_000, 1_400, 1_900] {
+        let started = Instant::now() - Duration::from_millis(milliseconds);
+        let clock = Clock::since(started);
+        let before = started.elapsed().as_secs();
         let uptime = clock.uptime();
-        assert!((before..=clock.now() / SECOND).contains(&uptime), "{uptime}");
+        assert!((before..=started.elapsed().as_secs()).contains(&uptime), "{milliseconds}: {uptime}");
     }
 }
 

@@ -4,10 +4,10 @@ use cefrodild::connection::Connection;
 use cefrodild::store::Store;
 use cefrodild::worker::{Inbox, Worker};
 use plain::client::{Client, MEGABYTE};
-use std::io::{Read, Write};
+use std::io::{self, Read, Write};
 use std::net::{TcpListener, TcpStream};
 use std::sync::Arc;
-use std::thread::{spawn, yield_now};
+use std::thread::{spawn, yield_now, JoinHandle};
 use std::time::{Duration, Instant};
 
 /// How long a client may wait.
@@ -20,12 +20,21 @@ struct Working {
     inbox: Inbox,
 }
 
+/// How a worker ended.
+type Ended = JoinHandle<io::Result<()>>;
+
 impl Working {
     fn new() -> Working {
+        let (working, worker) = Working::waiting();
+        spawn(|| worker.run(0));
+        working
+    }
+
+    /// One whose worker does not run yet.
+    fn waiting() -> (Working, Worker) {
         let store = Client::new(MEGABYTE).store;
         let (worker, inbox) = Worker::new(Arc::clone(&store)).expect("there are descriptors");
-        spawn(|| worker.run(0));
-        Working { store, listener: TcpListener::bind("127.0.0.1:0").expect("a port is free"), inbox }
+        (Working { store, listener: TcpListener::bind("127.0.0.1:0").expect("a port is free"), inbox }, worker)
     }
 
     /// A client that the worker has.
@@ -47,6 +56,16 @@ impl Working {
             yield_now();
         }
     }
+}
+
+/// Waits until the worker has ended.
+fn join(ended: Ended) -> io::Result<()> {
+    let end = Instant::now() + LIMIT;
+    while !ended.is_finished() {
+        assert!(Instant::now() < end, "the worker does not end");
+        yield_now();
+    }
+    ended.join().expect("it does not panic")
 }
 
 /// Asks for a sign of life.
@@ -76,4 +95,63 @@ fn a_client_whose_connection_fails_leaves_its_seat() {
     // An answer that was not read makes this a reset.
     drop(client);
     working.wait(0);
+}
+
+#[test]
+fn clients_that_are_handed_together_are_all_answered() {
+    let (working, worker) = Working::waiting();
+    let clients: Vec<_> = (0..5).map(|_| working.connect()).collect();
+    spawn(|| worker.run(0));
+    assert!(clients.iter().all(|client| is_answered(client)));
+    working.wait(5);
+}
+
+#[test]
+fn what_clients_sent_before_they_were_handed_over_is_answered() {
+    let (working, worker) = Working::waiting();
+    let mut client = working.connect();
+    client.write_all(b"mn\r\n").expect("it is connected");
+    spawn(|| worker.run(0));
+    let mut answer = [0; 4];
+    client.read_exact(&mut answer).expect("it is answered");
+    assert_eq!(answer, *b"MN\r\n");
+}
+
+#[test]
+fn a_worker_ends_when_its_inbox_is_dropped() {
+    // Often, since the worker may look before or after the end of the drop.
+    for _ in 0..200 {
+        let (working, worker) = Working::waiting();
+        let ended = spawn(|| worker.run(0));
+        drop(working);
+        assert!(join(ended).is_ok());
+    }
+}
+
+#[test]
+fn idle_clients_are_left_when_the_inbox_is_dropped() {
+    let (working, worker) = Working::waiting();
+    let ended = spawn(|| worker.run(0));
+    let mut clients = [working.connect(), working.connect()];
+    assert!(clients.iter().all(|client| is_answered(client)));
+    let store = Arc::clone(&working.store);
+    drop(working);
+    for client in &mut clients {
+        assert_eq!(client.read(&mut [0]).expect("no error"), 0, "it has ended");
+    }
+    assert!(join(ended).is_ok());
+    assert_eq!(store.seats.taken(), 0);
+}
+
+#[test]
+fn a_client_that_quits_leaves_its_seat() {
+    let working = Working::new();
+    let (mut first, second) = (working.connect(), working.connect());
+    first.write_all(b"set k 0 0 1\r\nv\r\nquit\r\nmn\r\n").expect("it is connected");
+    let mut answer = Vec::new();
+    // What is behind `quit` is not answered. It was not read either, so the end may be a reset.
+    let _ = first.read_to_end(&mut answer);
+    assert_eq!(answer, b"STORED\r\n");
+    working.wait(1);
+    assert!(is_answered(&second));
 }

@@ -1,0 +1,116 @@
+//! What the index writes into the log: each change and each answer, in order.
+use cefrodild::audit::{digest, Audit};
+use cefrodild::index::{Index, Outcome, Stamp};
+use cefrodild::item::Item;
+use cefrodild::objects::Objects;
+use cefrodild::room::Room;
+use std::fs;
+use std::path::PathBuf;
+use std::process::id;
+use std::sync::Arc;
+
+/// An index with a log, and the path of that.
+struct Logged {
+    objects: Objects,
+    log: Arc<Audit>,
+    room: Arc<Room>,
+    path: PathBuf,
+}
+
+/// The words of a line: its kind, its moment, and the others.
+type Line = (String, u64, Vec<u64>);
+
+fn item(flags: u32) -> Item {
+    Item::new(1, flags, u64::MAX, Box::new([]))
+}
+
+impl Logged {
+    fn new(test: &str, items: usize) -> Logged {
+        let path = std::env::temp_dir().join(format!("cefrodild-{}-{test}", id()));
+        let (room, log) =
+            (Arc::new(Room::new(0)), Arc::new(Audit::create(path.to_str().expect("it is text")).expect("it can be made")));
+        let objects = Objects::open(items, 1, &room, Some(Arc::clone(&log))).expect("there is memory");
+        Logged { objects, log, room, path }
+    }
+
+    fn put(&self, key: &[u8], flags: u32) -> u64 {
+        self.room.take(0);
+        self.objects.put(key, item(flags)).expect("there is room")
+    }
+
+    /// The lines but for the head. This ends the log.
+    fn lines(self) -> Vec<Line> {
+        self.log.end().expect("there is room");
+        let text = fs::read_to_string(&self.path).expect("it is there");
+        fs::remove_file(&self.path).expect("it is there");
+        let line = |line: &str| {
+            let (kind, numbers) = line.split_once(' ').expect(line);
+            let numbers: Vec<u64> = numbers.split(' ').map(|number| number.parse().expect(line)).collect();
+            (kind.to_owned(), numbers[0], numbers[1..].to_vec())
+        };
+        text.lines().skip(1).map(line).collect()
+    }
+}
+
+#[test]
+fn each_call_has_its_line() {
+    let logged = Logged::new("calls", 100);
+    let (objects, room, key) = (&logged.objects, &logged.room, b"key".as_slice());
+    let hash = objects.hash_of(key);
+    let look = || objects.look(&[key], &mut |_, seen| assert!(seen.is_ok()));
+    look();
+    let first = logged.put(key, 1);
+    look();
+    room.take(0);
+    let Ok(Outcome::Done(second)) = objects.put_if(key, first, item(2)) else { panic!("it has this token") };
+    objects.look_stamped(Stamp { hash, token: second }, &mut |seen| assert!(seen.is_ok()));
+    let Ok(Outcome::Done(third)) = objects.remove_if(key, second) else { panic!("it has this token") };
+    assert_eq!(objects.remove_if(key, second), Ok(Outcome::Absent));
+    assert_eq!(objects.remove_stamped(Stamp { hash, token: second }), Ok(Outcome::Absent));
+    assert_eq!(objects.put_if(key, second, item(3)), Ok(Outcome::Absent));
+    room.take(0);
+    let Ok(Outcome::Done(fourth)) = objects.put_new(key, item(4)) else { panic!("it was absent") };
+    let Ok(Outcome::Done(fifth)) = objects.remove_stamped(Stamp { hash, token: fourth }) else { panic!("it has this token") };
+    let line = |kind: &str, at, more: &[u64]| (kind.to_owned(), at, more.to_vec());
+    let digest = |flags| digest(&item(flags));
+    let expected = [
+        line("absent", first - 1, &[hash]),
+        line("put", first, &[hash, digest(1)]),
+        line("found", first, &[first, hash, digest(1)]),
+        line("put", second, &[hash, digest(2)]),
+        line("found", second, &[second, hash, digest(2)]),
+        line("remove", third, &[hash]),
+        line("absent", third, &[hash]),
+        line("absent", third, &[hash]),
+        line("absent", third, &[hash]),
+        line("put", fourth, &[hash, digest(4)]),
+        line("remove", fifth, &[hash]),
+    ];
+    assert_eq!(logged.lines(), expected);
+}
+
+#[test]
+fn each_eviction_has_its_line() {
+    let logged = Logged::new("evictions", 100);
+    let keys = 2 * logged.objects.capacity();
+    for number in 0..keys {
+        logged.put(number.to_string().as_bytes(), 1);
+    }
+    let (evicted, lines) = (logged.room.evicted(), logged.lines());
+    let evictions = lines.iter().filter(|(kind, ..)| kind == "evict").count();
+    assert!(evicted > 0);
+    assert_eq!((evictions as u64, lines.len()), (evicted, keys + evictions));
+    // Each change has the next moment.
+    assert!(lines.iter().zip(&lines[1..]).all(|((_, at, _), (_, next, _))| at + 1 == *next), "{lines:?}");
+}
+
+#[test]
+fn what_changed_nothing_is_not_in_the_log() {
+    let logged = Logged::new("nothing", 100);
+    let token = logged.put(b"key", 1);
+    assert_eq!(logged.objects.put_new(b"key", item(2)), Ok(Outcome::Changed));
+    assert_eq!(logged.objects.put_if(b"key", token + 1, item(2)), Ok(Outcome::Changed));
+    assert_eq!(logged.objects.remove_if(b"key", token + 1), Ok(Outcome::Changed));
+    let lines = logged.lines();
+    assert_eq!(lines.iter().map(|(kind, ..)| kind.as_str()).collect::<Vec<_>>(), ["put"]);
+}

@@ -1,0 +1,79 @@
+//! The bytes of items, the queue, and the seats of clients, each by itself.
+use cefrodild::index::Stamp;
+use cefrodild::room::{Queue, Room, ENTRIES_OF_AN_ITEM, SPARE_ENTRIES};
+use cefrodild::seat::Seats;
+
+fn stamp(token: u64) -> Stamp {
+    Stamp { hash: 7, token }
+}
+
+#[test]
+fn bytes_and_items_are_added_and_subtracted() {
+    let room = Room::new(100);
+    let state = || (room.used(), room.items(), room.is_over());
+    assert_eq!(state(), (0, 0, false));
+    room.take(60);
+    room.take(40);
+    assert_eq!(state(), (100, 2, false));
+    room.take(1);
+    assert_eq!(state(), (101, 3, true));
+    room.give_back(60);
+    assert_eq!(state(), (41, 2, false));
+    room.set_limit(40);
+    assert_eq!((room.limit(), state()), (40, (41, 2, true)));
+}
+
+#[test]
+fn what_gave_way_is_counted() {
+    let room = Room::new(0);
+    assert_eq!(room.evicted(), 0);
+    (0..3).for_each(|_| room.count_eviction());
+    assert_eq!(room.evicted(), 3);
+}
+
+#[test]
+fn the_queue_is_in_order() {
+    let queue = Queue::default();
+    assert_eq!((queue.pop(), queue.entries()), (None, 0));
+    (1..=3).for_each(|token| queue.push(stamp(token)));
+    assert_eq!(queue.entries(), 3);
+    assert_eq!([queue.pop(), queue.pop()], [Some(stamp(1)), Some(stamp(2))]);
+    queue.push(stamp(4));
+    assert_eq!([queue.pop(), queue.pop(), queue.pop()], [Some(stamp(3)), Some(stamp(4)), None]);
+}
+
+#[test]
+fn the_queue_is_long_from_so_many_entries_on() {
+    let (queue, items) = (Queue::default(), 10);
+    let most = ENTRIES_OF_AN_ITEM * items + SPARE_ENTRIES;
+    (0..most as u64).for_each(|token| queue.push(stamp(token)));
+    assert_eq!(queue.pop_if_long(items as u64), None);
+    queue.push(stamp(most as u64));
+    assert_eq!((queue.pop_if_long(items as u64), queue.pop_if_long(items as u64)), (Some(stamp(0)), None));
+    assert_eq!((queue.pop_if_long(items as u64 - 1), queue.entries()), (Some(stamp(1)), most - 1));
+}
+
+#[test]
+fn an_empty_queue_gives_memory_back() {
+    let queue = Queue::default();
+    (0..100_000).for_each(|token| queue.push(stamp(token)));
+    assert!(queue.capacity() >= 100_000);
+    for token in 0..100_000 {
+        assert_eq!(queue.pop(), Some(stamp(token)));
+    }
+    assert!(queue.capacity() <= 4 * SPARE_ENTRIES, "{}", queue.capacity());
+}
+
+#[test]
+fn so_many_seats() {
+    let seats = Seats::new(2);
+    let (first, second) = (seats.take(), seats.take());
+    assert!(first.is_some() && second.is_some() && seats.take().is_none());
+    assert_eq!(seats.taken(), 2);
+    drop(first);
+    assert_eq!(seats.taken(), 1);
+    let third = seats.take();
+    assert!(third.is_some() && seats.take().is_none());
+    drop((second, third));
+    assert_eq!(seats.taken(), 0);
+}
