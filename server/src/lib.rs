@@ -15,7 +15,7 @@ pub mod index;
 pub mod item;
 pub mod meta;
 mod meta_command;
-mod names;
+pub mod names;
 pub mod number;
 pub mod objects;
 pub mod options;

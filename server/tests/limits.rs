@@ -127,3 +127,19 @@ fn the_most_words() {
         assert_eq!(client().ask(&format!("{line}{more}\n")), "ERROR\n", "{line}");
     }
 }
+
+#[test]
+fn each_key_of_a_line_is_answered() {
+    let mut client = client();
+    (0..100).for_each(|key| assert_eq!(client.ask(&format!("set {key} 0 0 1\n{}\n", key % 10)), "STORED\n"));
+    // They are looked up in batches.
+    for count in [1, 2, 31, 32, 33, 63, 64, 65, 96, 100] {
+        let keys: Vec<_> = (0..count).map(|key| key.to_string()).collect();
+        let values: String = (0..count).map(|key| format!("VALUE {key} 0 1\n{}\n", key % 10)).collect();
+        for line in ["get", "gat 0"] {
+            assert_eq!(client.ask(&format!("{line} {}\nmn\n", keys.join(" "))), format!("{values}END\nMN\n"), "{count}");
+            let among_others = format!("{line} none {} none \nmn\n", keys.join(" none "));
+            assert_eq!(client.ask(&among_others), format!("{values}END\nMN\n"), "{count}");
+        }
+    }
+}
