@@ -80,6 +80,42 @@ fn nothing_that_came_meanwhile_is_overwritten_by_add() {
     assert_eq!(value(&mut client), "c");
 }
 
+/// Commands that begin anew if another one changes their key, and their answers after `set n` to 7.
+const BEGINNING_ANEW: [(&str, &str, &str); 10] = [
+    ("append n 0 0 1\nx\n", "STORED\n", "7x"),
+    ("prepend n 0 0 1\nx\n", "STORED\n", "x7"),
+    ("replace n 0 0 1\nx\n", "STORED\n", "x"),
+    ("ms n 1 MA\nx\n", "HD\n", "7x"),
+    ("ms n 1 MR\nx\n", "HD\n", "x"),
+    ("incr n 1\n", "8\n", "8"),
+    ("decr n 1\n", "6\n", "6"),
+    ("ma n v\n", "VA 1\n8\n", "8"),
+    ("delete n\n", "DELETED\n", ""),
+    ("md n\n", "HD\n", ""),
+];
+
+#[test]
+fn a_command_that_is_disturbed_often_is_done_all_the_same() {
+    for (command, answer, next) in BEGINNING_ANEW {
+        let mut client = client_with("1");
+        assert_eq!(client.ask_beside_often(command, 100, |other| set(other, "7")), answer, "{command}");
+        assert_eq!(value(&mut client), next, "{command}");
+        let items = u64::from(!next.is_empty());
+        assert_eq!((client.store.room.items(), client.store.room.used()), (items, items * cost(1, next.len())), "{command}");
+    }
+}
+
+#[test]
+fn a_command_that_is_disturbed_all_the_time_changes_nothing_and_says_so() {
+    for (command, ..) in BEGINNING_ANEW {
+        let mut client = client_with("1");
+        let answer = client.ask_beside_often(command, usize::MAX, |other| set(other, "7"));
+        assert_eq!(answer, "SERVER_ERROR busy, and nothing was changed\n", "{command}");
+        assert_eq!(value(&mut client), "7", "{command}");
+        assert_eq!((client.store.room.items(), client.store.room.used()), (1, cost(1, 1)), "{command}");
+    }
+}
+
 #[test]
 fn an_item_that_was_not_put_is_not_counted() {
     for command in ["append n 0 0 1\nx\n", "cas n 0 0 1 1\nx\n", "incr n 1\n"] {

@@ -137,6 +137,15 @@ fn an_item_that_finds_no_room_is_not_counted() {
 }
 
 #[test]
+fn a_command_waits_for_room_while_others_disturb_it() {
+    let mut client = room_for(2, 0);
+    set(&mut client, "ab");
+    client.control.removals_to_refuse.store(50, SeqCst);
+    set(&mut client, "c");
+    assert_eq!((client.store.room.items(), client.store.room.evicted()), (2, 1));
+}
+
+#[test]
 fn items_that_could_not_be_looked_at_give_way_later() {
     let mut client = room_for(2, 0);
     set(&mut client, "ab");

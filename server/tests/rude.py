@@ -10,6 +10,7 @@ import resource
 import select
 import signal
 import socket
+import struct
 import subprocess
 import sys
 import tempfile
@@ -115,6 +116,41 @@ def clients_of_each_worker(program):
                 shares.append(len(sockets))
         # The fifth waits for clients.
         assert sorted(shares) == [1, 3, 3, 3, 3], shares
+
+
+def leave(client, manner):
+    """Ends a connection: in order, halfway, by a reset, or so that the server ends it."""
+    if manner == 'reset':
+        client.setsockopt(socket.SOL_SOCKET, socket.SO_LINGER, struct.pack('ii', 1, 0))
+    elif manner == 'no more':
+        client.shutdown(socket.SHUT_WR)
+        assert rest(client) == b''
+    elif manner in ENDS:
+        client.sendall(manner)
+        assert rest(client) == ENDS[manner]
+    else:
+        client.sendall(b'set k 0 0 1000\r\nv' if manner == 'in a block' else b'get k k' * 400)
+    client.close()
+
+
+ENDS = {b'quit\r\n': b'', b'set k 0 0 1\r\nv\r\nquit\r\n': b'STORED\r\n', b'x' * 2048: b'CLIENT_ERROR line too long\r\n'}
+
+
+def clients_that_leave(program):
+    """However they do, their seats and descriptors are free again, and the others are answered."""
+    with running(program, '-t', '2', '-c', '40') as (server, port), connect(port) as other:
+        assert ask(other, b'mn\r\n') == b'MN\r\n'
+        folder, total = f'/proc/{server.pid}/fd', 1
+        before = len(os.listdir(folder))
+        for manner in ['reset', 'no more', 'in a block', 'in a line', *ENDS]:
+            clients = [connect(port) for _ in range(30)]
+            assert all(ask(client, b'mn\r\n') == b'MN\r\n' for client in clients), manner
+            for client in clients:
+                leave(client, manner)
+            end, total = time.monotonic() + TIMEOUT, total + 30
+            while len(os.listdir(folder)) > before or stats(other)['curr_connections'] != '1':
+                assert time.monotonic() < end, (manner, stats(other)['curr_connections'], len(os.listdir(folder)) - before)
+            assert stats(other)['total_connections'] == str(total), manner
 
 
 def client_that_sends_no_more(program):
@@ -256,7 +292,7 @@ def faults_of_the_command_line(program):
 
 
 def main():
-    tests = [too_many_clients, crowd, clients_of_each_worker, client_that_does_not_read, client_that_stops_halfway, client_that_sends_no_more, idle_clients, complaints, complaints_that_nobody_reads, client_that_is_always_halfway, noise, end, log, memory, faults_of_the_command_line]
+    tests = [too_many_clients, crowd, clients_of_each_worker, clients_that_leave, client_that_does_not_read, client_that_stops_halfway, client_that_sends_no_more, idle_clients, complaints, complaints_that_nobody_reads, client_that_is_always_halfway, noise, end, log, memory, faults_of_the_command_line]
     for test in tests:
         test(sys.argv[1])
     print(f'rude: {len(tests)} tests: ok')

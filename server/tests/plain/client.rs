@@ -68,4 +68,22 @@ impl Client {
         assert!(self.control.meanwhile.lock().unwrap().is_none(), "{text} changes something");
         answer
     }
+
+    /// The same, and the other client acts that often: each time when the command has looked at its key anew.
+    pub fn ask_beside_often(&mut self, text: &str, times: usize, act: fn(&mut Client)) -> String {
+        self.beside().act_often(times, act);
+        let answer = self.ask(text);
+        self.control.meanwhile.lock().unwrap().take();
+        answer
+    }
+
+    fn act_often(mut self, times: usize, act: fn(&mut Client)) {
+        let control = Arc::clone(&self.control);
+        *control.meanwhile.lock().unwrap() = Some(Box::new(move || {
+            act(&mut self);
+            if times > 1 {
+                self.act_often(times - 1, act);
+            }
+        }));
+    }
 }

@@ -16,6 +16,8 @@ pub struct Control {
     pub refuses_puts: AtomicBool,
     pub refuses_removals: AtomicBool,
     pub refuses_looks: AtomicBool,
+    /// So many removals are refused, and then no more.
+    pub removals_to_refuse: AtomicUsize,
     /// What happens right before the next change that has a condition.
     pub meanwhile: Mutex<Option<Box<dyn FnOnce() + Send>>>,
     /// How often what had left was to be freed.
@@ -118,7 +120,8 @@ impl Index for Plain {
     }
 
     fn remove_stamped(&self, stamp: Stamp) -> Result<Outcome, Refused> {
-        if self.control.refuses_removals.load(SeqCst) {
+        let one_less = self.control.removals_to_refuse.fetch_update(SeqCst, SeqCst, |left| left.checked_sub(1));
+        if self.control.refuses_removals.load(SeqCst) || one_less.is_ok() {
             return Err(Refused::Held);
         }
         let (items, last) = &mut *self.items.lock().unwrap();
