@@ -19,6 +19,19 @@ fn each_byte_by_itself() {
 }
 
 #[test]
+fn a_value_may_have_any_bytes() {
+    let (mut client, bytes) = (Client::new(MEGABYTE), (0..=255).chain(*b"\r\nEND\r\n").collect::<Vec<u8>>());
+    let block = [&bytes[..], b"\r\n"].concat();
+    for (line, answer) in
+        [("set k 7 0 263\r\n", &b"STORED\r\n"[..]), ("append k 0 0 263\r\n", b"STORED\r\n"), ("ms k 263 F7\r\n", b"HD\r\n")]
+    {
+        assert_eq!(client.ask_bytes(&[line.as_bytes(), &block].concat()), (answer.to_vec(), false));
+    }
+    assert_eq!(client.ask_bytes(b"get k\r\n").0, [b"VALUE k 7 263\r\n", &block[..], b"END\r\n"].concat());
+    assert_eq!(client.ask_bytes(b"mg k v\r\n").0, [b"VA 263\r\n", &block[..]].concat());
+}
+
+#[test]
 fn no_false_answer() {
     let mut client = Client::new(MEGABYTE);
     assert_eq!(client.ask("set a 0 0 1\n1\n"), "STORED\n");
