@@ -7,11 +7,8 @@ use cefrodild::item::Item;
 #[test]
 fn lookups() {
     let item = Item::new(1, 7, u64::MAX, Box::default());
-    let (flags, token) = seen(Ok(Look::Found { result: &item, at: 3, since: 2 }))
-        .map(|seen| seen.map(|(item, token)| (item.flags, token)))
-        .unwrap()
-        .unzip();
-    assert_eq!((flags, token), (Some(7), Some(2)));
+    let Ok(Some((found, token))) = seen(Ok(Look::Found { result: &item, at: 3, since: 2 })) else { panic!("it was found") };
+    assert_eq!((found.flags, token), (7, 2));
     assert!(matches!(seen(Ok(Look::Absent { at: 3 })), Ok(None)));
     assert!(matches!(seen(Ok(Look::Expired { at: 3, since: 2 })), Ok(None)));
     assert!(matches!(seen(Err(GetError::Busy)), Err(Refused::Held)));

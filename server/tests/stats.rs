@@ -82,11 +82,8 @@ fn memory() {
 /// The names in what `stats` answers, with this word behind it.
 fn names(client: &mut Client, what: &str) -> Vec<String> {
     let answer = client.ask(&format!("stats {what}\n"));
-    let (last, lines) =
-        answer.lines().rev().collect::<Vec<_>>().split_first().map(|(last, lines)| (*last, lines.to_vec())).expect("an end");
-    assert_eq!(last, "END");
-    let words = lines.iter().map(|line| line.split(' ').collect::<Vec<_>>());
-    let mut names: Vec<_> = words.map(|words| [words[0], words[1]].join(" ").replace("STAT ", "")).collect();
+    let lines = answer.strip_suffix("END\n").expect("an end").lines();
+    let mut names: Vec<_> = lines.map(|line| line.split(' ').nth(1).expect("a name").to_owned()).collect();
     names.sort();
     names
 }
