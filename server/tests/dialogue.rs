@@ -94,6 +94,31 @@ fn what_has_come_of_a_block_that_is_refused_is_not_kept() {
 }
 
 #[test]
+fn what_has_come_of_a_line_that_is_refused_is_not_kept() {
+    let (store, mut dialogue) = (Client::new(MEGABYTE).store, Dialogue::default());
+    let (line, mut answers) = (format!("get a {}", "x".repeat(3_000)), Vec::new());
+    let (mut done, mut turn) = (0, Turn::HasMore);
+    while turn == Turn::HasMore || done < line.len() {
+        let (more, next) = dialogue.turn(&store, &line.as_bytes()[done..], &mut answers);
+        (done, turn) = (done + more, next);
+    }
+    assert_eq!((&answers[..], turn), (&b"CLIENT_ERROR bad command line format\r\n"[..], Turn::Needs(1)));
+    for _ in 0..3 {
+        assert_eq!(dialogue.turn(&store, &[b'x'; 100], &mut answers), (100, Turn::Needs(1)));
+    }
+}
+
+#[test]
+fn of_a_long_line_of_keys_a_part_of_a_key_is_kept_at_most() {
+    let mut client = Client::new(MEGABYTE);
+    let line = format!("get{}", " none".repeat(1_000));
+    for (part, kept) in [(line.as_str(), 4), (" none ", 0), ("no", 2), ("ne non", 3), ("e\r", 5)] {
+        assert_eq!((client.ask_bytes(part.as_bytes()).0, client.input.len()), (Vec::new(), kept), "{part:.10}");
+    }
+    assert_eq!(client.ask("\nmn\n"), "END\nMN\n");
+}
+
+#[test]
 fn keys_of_a_long_line_are_answered_as_they_come() {
     let mut client = Client::new(MEGABYTE);
     client.ask(&format!("set k 0 0 500\n{}\n", "x".repeat(500)));
