@@ -28,7 +28,8 @@ AFTER = b''.join(b'mg %s v f t\r\n' % key.encode() for key in KEYS)
 NUMBERS = ['0', '-0', '+0', '1', '+1', '-1', '007', '1x', 'x', '-', '+', '1.5', '0x10', '2147483647', '4294967295', '9223372036854775807', '18446744073709551615', '18446744073709551616']
 # Flags have 32 bits, and memcached takes times for 32 bits, too.
 FLAGS = [number for number in NUMBERS if number not in ['9223372036854775807', '18446744073709551615']]
-TIMES = [number for number in FLAGS if number != '4294967295']
+# One second may be over at once.
+TIMES = ['100', '+100'] + [number for number in FLAGS if number not in ['1', '+1', '4294967295']]
 STORING = ['set', 'add', 'replace', 'append', 'prepend']
 # Flags that memcached takes and cefrodild refuses: some it lacks, and others belong to another meta command.
 REFUSED = {'mg': 'bhluNRDFIJM', 'ms': 'bINhluDJR', 'md': 'bIhluDFJMNR', 'ma': 'bhluFIR'}
@@ -36,7 +37,7 @@ REFUSED = {'mg': 'bhluNRDFIJM', 'ms': 'bINhluDJR', 'md': 'bIhluDFJMNR', 'ma': 'b
 
 def flags():
     """Each letter behind each meta command, with tokens and without."""
-    for verb, letter, token, key in itertools.product(REFUSED, string.ascii_letters + '!+0', ['', '0', '1', 'x', '-1', 'II', 'SS'], KEYS[:4]):
+    for verb, letter, token, key in itertools.product(REFUSED, string.ascii_letters + '!+0', ['', '0', '100', 'x', '-1', 'I', 'S', 'II', 'SS'], KEYS[:4]):
         if letter not in REFUSED[verb]:
             yield f'{verb} {key}{" 2" if verb == "ms" else ""} {letter}{token} v k f s', '55' if verb == 'ms' else None
 
@@ -78,12 +79,12 @@ def numbers():
 
 def faults():
     """Two faults at a time: the first one that is looked for is answered."""
-    for key, number, behind in itertools.product(['n', LONG], ['1', 'x', '-1'], ['', ' noreply', ' more', ' more noreply']):
+    for key, number, behind in itertools.product(['n', LONG], ['100', 'x', '-1'], ['', ' noreply', ' more', ' more noreply']):
         yield from ((f'{line}{behind}', None) for line in [f'incr {key} {number}', f'decr {key} {number}', f'touch {key} {number}', f'delete {key} {number}', f'delete {key}', f'gat {number} {key}', f'gats {number} {key}'])
         if not behind:
             yield from ((line, None) for line in [f'mg {key} T{number}', f'md {key} C{number}', f'ma {key} D{number}', f'ma {key} D{number} D{number}'])
         yield from ((f'{line}{behind}', None) for verb in STORING for line in [f'{verb} {key} {number} 0 2', f'{verb} {key} 0 {number} 2', f'{verb} {key} 0 0 {number}'])
-    for line in [f'ms n x T1', f'ms {LONG} 2', f'ms {LONG} x', 'ms n 2 MX T', 'ms n 2 T MX', 'ms n 2 MX MX', 'ms n 2 ! k k', 'ms n 2 k k !', 'mg', 'ms', 'md', 'ma', 'mx n', 'm n']:
+    for line in ['ms n x T100', f'ms {LONG} 2', f'ms {LONG} x', 'ms n 2 MX T', 'ms n 2 T MX', 'ms n 2 MX MX', 'ms n 2 ! k k', 'ms n 2 k k !', 'mg', 'ms', 'md', 'ma', 'mx n', 'm n']:
         yield line, '55'
 
 
@@ -101,7 +102,7 @@ def odd_bytes():
         for value in [f'{byte}5', f'5{byte}', f'5{byte}6', f' {byte}5']:
             yield f'set n 7 0 {len(value)}\r\n{value}\r\nincr n 1', None
         if byte not in '\nb':
-            places = ['get n{}', 'get {}n', '{}get n', 'get{}n', 'incr n 2{}', 'incr n {}2', 'touch n 2{}', 'delete n{}', 'delete n noreply{}', 'incr n 1 noreply{}', 'gat 0{} n', 'flush_all{}', 'flush_all {}0', 'mg n v{}']
+            places = ['get n{}', 'get {}n', '{}get n', 'get{}n', 'incr n 2{}', 'incr n {}2', 'touch n 200{}', 'delete n{}', 'delete n noreply{}', 'incr n 1 noreply{}', 'gat 0{} n', 'flush_all{}', 'flush_all {}0', 'mg n v{}']
             yield from ((place.format(byte), None) for place in places)
             yield f'set n 0 0{byte}2', '55'
 
