@@ -45,7 +45,7 @@ def flags():
 def modes():
     """Each meta command, quiet or not, with each mode and condition."""
     known = {'mg': [''], 'ms': [f'M{mode}' for mode in 'EAPRSX'] + ['', 'M'], 'md': [''], 'ma': ['', 'MI', 'M+', 'MD', 'M-', 'MX', 'M']}
-    for verb, more, condition in itertools.product(known, ['', 'q', 'q k Oabc', 'N0 q', 'N0 J8 v q', 'N0 J8 v'], ['', 'C1', f'C{1 << 50}']):
+    for verb, more, condition in itertools.product(known, ['', 'q', 'q k Oabc c', 'N0 q', 'N0 J8 v q', 'N0 J8 v'], ['', 'C1', f'C{1 << 50}']):
         for mode, key in itertools.product(known[verb], KEYS[:4]):
             if verb == 'ma' or 'N' not in more:
                 yield f'{verb} {key}{" 2" if verb == "ms" else ""} {mode} {condition} {more}', '55' if verb == 'ms' else None

@@ -80,6 +80,15 @@ fn the_longest_key_of_each_command() {
 }
 
 #[test]
+fn one_carriage_return_belongs_to_the_end_of_a_line() {
+    let mut client = client();
+    // Any other one belongs to the last word.
+    let ask = b"set k\r 0 0 1\r\n1\r\nget k\r\r\nget k\r\nget k\r\n\n";
+    assert_eq!(client.ask_bytes(ask).0, b"STORED\r\nVALUE k\r 0 1\r\n1\r\nEND\r\nEND\r\nEND\r\nERROR\r\n");
+    assert_eq!(client.ask_bytes(b"mn\nmn\r\nmn\r\r\n").0, b"MN\r\nMN\r\nERROR\r\n");
+}
+
+#[test]
 fn the_longest_line() {
     // With its end it has so many bytes.
     let line = |bytes: usize| format!("{}\r\n", "x".repeat(bytes - 2));
