@@ -83,6 +83,7 @@ fn quiet_meta_commands_tell_of_all_else() {
         ("md n C9 q", "EX\n"),
         ("ma none q", "NF\n"),
         ("ma n C9 q", "EX\n"),
+        ("ma t C9 q", "EX\n"),
         ("ma t q", "CLIENT_ERROR cannot increment or decrement non-numeric value\n"),
         ("ms n 1 q\n66", "CLIENT_ERROR bad data chunk\n"),
         ("mg n ! q", "CLIENT_ERROR invalid flag\n"),

@@ -52,9 +52,18 @@ def faults(program):
             assert ran.stderr.startswith('cefrodild: ') and named in ran.stderr, (words, ran)
 
 
+def has_version_6():
+    """Whether the system has the addresses of IP version 6."""
+    with contextlib.suppress(OSError), socket.socket(socket.AF_INET6) as probe:
+        probe.bind(('::1', 0))
+        return True
+    return False
+
+
 def addresses(program):
     """The line that it prints has the address at which it listens, and it listens at no other."""
-    for address, shown in [('127.0.0.2', '127.0.0.2'), ('0.0.0.0', '0.0.0.0'), ('::1', '[::1]')]:
+    known = [('127.0.0.2', '127.0.0.2'), ('0.0.0.0', '0.0.0.0')] + [('::1', '[::1]')] * has_version_6()
+    for address, shown in known:
         server = subprocess.Popen([program, '-l', address, '-p', '0'], stdout=subprocess.PIPE, text=True)
         try:
             begin, _, port = server.stdout.readline().rstrip().rpartition(':')
