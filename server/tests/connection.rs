@@ -210,11 +210,10 @@ fn a_client_that_sends_no_more_gets_all_its_answers() {
     let mut both = Both::new();
     let waiting = both.fill();
     both.stream.shutdown(Shutdown::Write).expect("it is connected");
-    let (mut bytes, mut next) = (0, both.turn());
-    while next != Next::Nothing {
-        assert!(bytes < waiting, "all is answered, and the connection has not ended");
+    let (mut bytes, end) = (0, Instant::now() + LIMIT);
+    while both.turn() != Next::Nothing {
+        assert!(Instant::now() < end, "the connection does not end");
         bytes += both.read().len();
-        next = both.turn();
         yield_now();
     }
     assert_eq!(bytes + both.read_all(waiting - bytes).len(), waiting);
@@ -226,7 +225,9 @@ fn what_a_client_began_and_did_not_end_is_not_done() {
         let mut both = Both::new();
         both.write(part.as_bytes());
         both.stream.shutdown(Shutdown::Write).expect("it is connected");
+        let end = Instant::now() + LIMIT;
         while both.turn() != Next::Nothing {
+            assert!(Instant::now() < end, "{part}: the connection does not end");
             yield_now();
         }
         assert!(both.read().is_empty() && both.client.store.room.items() == 0, "{part}");
