@@ -130,6 +130,19 @@ fn words_that_are_wrong() {
 }
 
 #[test]
+fn of_two_faults_the_first_one_is_told() {
+    let long = "k".repeat(251);
+    for line in
+        ["incr KEY x", "decr KEY -1", "touch KEY x", "set KEY x 0 1", "cas KEY 0 0 1 x", "mg KEY Tx", "ms KEY x", "delete KEY"]
+    {
+        assert_eq!(refused(&line.replace("KEY", &long)), "CLIENT_ERROR bad command line format", "{line}");
+    }
+    // The time of `delete` comes before its key, and so does that of `gat`.
+    assert!(refused(&format!("delete {long} 1")).contains("Usage"));
+    assert_eq!(refused(&format!("gat x {long}")), "CLIENT_ERROR invalid exptime argument");
+}
+
+#[test]
 fn the_largest_numbers() {
     let Request::Store(order) = read("cas k 4294967295 9223372036854775807 2147483645 18446744073709551615") else { panic!() };
     assert_eq!((order.flags, order.expiry, order.compare), (u32::MAX, i64::MAX, Some(u64::MAX)));

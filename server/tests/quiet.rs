@@ -53,7 +53,8 @@ fn noreply_leaves_every_answer_out() {
 fn noreply_leaves_the_fault_of_a_line_out() {
     for line in ["incr n x", "decr n -1", "touch n x", "set n 0 0 x", "cas n 0 0 1 x", "delete n 1", "flush_all x", "verbosity x"]
     {
-        assert_eq!(answer(REFUSALS[0], &format!("{line} noreply\nmn\n")), "MN\n", "{line}");
+        // And nothing is done.
+        assert_eq!(answer(REFUSALS[0], &format!("{line} noreply\nmg n v t\n")), "VA 1 t-1\n5\n", "{line}");
     }
 }
 
@@ -79,6 +80,9 @@ fn quiet_meta_commands_tell_of_all_else() {
         ("ms n 1 ME q\n6", "NS\n"),
         ("ms n 1 C9 q\n6", "EX\n"),
         ("ms none 1 C9 q\n6", "NF\n"),
+        ("ms none 1 C9 MR q\n6", "NF\n"),
+        ("ms none 1 C9 MA q\n6", "NS\n"),
+        ("ms n 1 C9 MR q\n6", "EX\n"),
         ("md none q", "NF\n"),
         ("md n C9 q", "EX\n"),
         ("ma none q", "NF\n"),
