@@ -7,7 +7,10 @@ pub const NEVER: u64 = u64::MAX;
 const SECOND: u64 = 1_000_000_000;
 
 /// The longest time to live that is relative, in seconds: 30 days. A larger number is a time of day.
-const RELATIVE: i64 = 60 * 60 * 24 * 30;
+const RELATIVE: u64 = 60 * 60 * 24 * 30;
+
+/// What clients send for -1 that have 32 bits for a time.
+const MINUS_ONE: u64 = u32::MAX as u64;
 
 /// A monotonic clock. Time 0 has passed before the server started.
 #[derive(Debug)]
@@ -37,16 +40,21 @@ impl Clock {
     }
 
     /// When something ends that has this time to live, by the protocol: 0 is never, a negative number at once, up to 30 days counts from
-    /// now, and more is seconds since 1970.
+    /// now, and more is seconds since 1970. 4294967295 is -1, too.
     pub fn deadline(&self, seconds: i64) -> u64 {
-        let left = match seconds {
-            0 => return NEVER,
-            1..=RELATIVE => seconds,
-            _ => seconds.saturating_sub(unix_time() as i64),
-        };
-        match u64::try_from(left) {
-            Ok(left @ 1..) => self.now().saturating_add(left.saturating_mul(SECOND)),
-            _ => 0,
+        match u64::try_from(seconds) {
+            Ok(0) => NEVER,
+            Err(_) | Ok(MINUS_ONE) => 0,
+            Ok(seconds @ 1..=RELATIVE) => self.now() + seconds * SECOND,
+            Ok(seconds) => seconds.checked_mul(SECOND).map_or(NEVER, |then| self.deadline_at(then)),
+        }
+    }
+
+    /// When something ends that ends at this time, in nanoseconds since 1970.
+    fn deadline_at(&self, then: u64) -> u64 {
+        match then.saturating_sub(since_1970().as_nanos() as u64) {
+            0 => 0,
+            left => self.now().saturating_add(left),
         }
     }
 
@@ -67,5 +75,9 @@ impl Default for Clock {
 
 /// Seconds since 1970.
 pub fn unix_time() -> u64 {
-    SystemTime::now().duration_since(UNIX_EPOCH).unwrap_or(Duration::ZERO).as_secs()
+    since_1970().as_secs()
+}
+
+fn since_1970() -> Duration {
+    SystemTime::now().duration_since(UNIX_EPOCH).unwrap_or(Duration::ZERO)
 }

@@ -10,10 +10,10 @@ use std::io::Write;
 /// An answer, without its end.
 pub type Text = &'static str;
 
-/// The version that clients see. It begins with that of the memcached whose answers these are, since clients choose commands by it.
+/// The version that clients see: that of the memcached whose answers these are, since clients choose commands by it.
 macro_rules! version {
     () => {
-        concat!("1.6.18-cefrodild-", env!("CARGO_PKG_VERSION"))
+        "1.6.18"
     };
 }
 pub(crate) use version;

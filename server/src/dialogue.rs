@@ -3,7 +3,7 @@ use crate::command::{line, run, value};
 use crate::counts::Count;
 use crate::item::Item;
 use crate::meta::Verb;
-use crate::request::{parse, refusal, words, Keys, Order, Refusal, Request, FORMAT, LONGEST_KEY};
+use crate::request::{parse, refusal, words, Keys, Order, Refusal, Request, ERROR, FORMAT, LONGEST_KEY};
 use crate::store::{Fault, Store};
 
 /// While so many bytes of answers wait, no command is carried out, and nothing is read.
@@ -17,6 +17,9 @@ const COMMANDS: u32 = 64;
 
 /// How many keys are looked up together.
 const KEYS: usize = 32;
+
+/// The first byte of the binary protocol.
+const BINARY: u8 = 0x80;
 
 /// How a turn ended.
 #[derive(Clone, Copy, Debug, PartialEq, Eq)]
@@ -37,7 +40,9 @@ pub struct Dialogue {
 
 #[derive(Debug, Default)]
 enum State {
+    /// Nothing has come yet.
     #[default]
+    New,
     Line,
     /// So many bytes belong to a command that was refused.
     Block(usize),
@@ -69,16 +74,23 @@ impl Dialogue {
 
     /// Whether a command has begun and not ended.
     pub fn is_within(&self) -> bool {
-        !matches!(self.state, State::Line)
+        !matches!(self.state, State::New | State::Line)
     }
 
     fn step(&mut self, store: &Store, input: &[u8], out: &mut Vec<u8>) -> Step {
         match self.state {
+            State::New => self.first(input),
             State::Line => self.line(store, input, out),
             State::Block(bytes) => self.skip(bytes, input),
             State::Keys(keys) => self.keys(keys, store, input, out),
             State::Rest => self.rest(input),
         }
+    }
+
+    /// A client of the binary protocol would wait for an answer that never comes.
+    fn first(&mut self, input: &[u8]) -> Step {
+        self.state = State::Line;
+        Step(0, (input.first() == Some(&BINARY)).then_some(Turn::Ends))
     }
 
     fn line(&mut self, store: &Store, input: &[u8], out: &mut Vec<u8>) -> Step {
@@ -98,6 +110,7 @@ impl Dialogue {
                 Some(order) => return self.block(store, &request, is_quiet, &order, rest, out).behind(end),
                 None => run(store, &request, b"", is_quiet, out),
             },
+            Err(ERROR) if is_http(text) => return Step(end, Some(Turn::Ends)),
             Err(why) => self.refuse(why, is_quiet, out),
         }
         Step(end, None)
@@ -212,6 +225,11 @@ impl Step {
             Step(taken, turn) => Step(bytes + taken, turn),
         }
     }
+}
+
+/// Whether this is the first line of a request of HTTP. A web page can make a browser send one, with commands in its body.
+fn is_http(line: &[u8]) -> bool {
+    words(line).last().is_some_and(|word| word.starts_with(b"HTTP/"))
 }
 
 /// What is to be stored, if a block follows the line.

@@ -1,5 +1,7 @@
 //! The program `cefrodild`.
 use cefrodild::audit::Audit;
+use cefrodild::complain::complain;
+use cefrodild::files;
 use cefrodild::objects::Objects;
 use cefrodild::options::{parse, Asked, Options, HELP};
 use cefrodild::room::Room;
@@ -9,6 +11,7 @@ use std::env;
 use std::error::Error;
 use std::ffi::OsString;
 use std::fs;
+use std::io::{self, Write};
 use std::process::ExitCode;
 use std::sync::Arc;
 
@@ -18,31 +21,44 @@ const PART_OF_LOSS: usize = 4;
 fn main() -> ExitCode {
     let words = env::args_os().skip(1).map(OsString::into_string).collect::<Result<Vec<String>, OsString>>();
     match words.map_err(|word| format!("{word:?} is no text")).and_then(parse) {
-        Ok(Asked::Help) => print!("{HELP}"),
-        Ok(Asked::Version) => println!("cefrodild {}", env!("CARGO_PKG_VERSION")),
+        Ok(Asked::Help) => return tell(HELP),
+        Ok(Asked::Version) => return tell(concat!("cefrodild ", env!("CARGO_PKG_VERSION"), "\n")),
         Ok(Asked::Serve(options)) => {
             if let Err(why) = serve(options) {
-                eprintln!("cefrodild: {why}");
+                complain(format_args!("{why}"));
                 return ExitCode::from(1);
             }
         }
         Err(why) => {
-            eprintln!("cefrodild: {why}");
+            complain(format_args!("{why}"));
             return ExitCode::from(2);
         }
     }
     ExitCode::SUCCESS
 }
 
+/// Writes to standard output, which may be full or closed.
+fn tell(text: &str) -> ExitCode {
+    match io::stdout().write_all(text.as_bytes()).and_then(|()| io::stdout().flush()) {
+        Ok(()) => ExitCode::SUCCESS,
+        Err(why) => {
+            complain(format_args!("standard output: {why}"));
+            ExitCode::from(1)
+        }
+    }
+}
+
 fn serve(options: Options) -> Result<(), Box<dyn Error>> {
-    let Options { listen, threads, memory, items, .. } = options;
+    let Options { listen, threads, memory, items, connections, .. } = options;
+    files::make_room(connections, threads)?;
     let log = options.audit.as_deref().map(Audit::create).transpose()?.map(Arc::new);
     let room = Arc::new(Room::new(0));
     let index = Objects::open(items, threads, &room, log.clone())?;
     let left = memory.checked_sub(resident()?).ok_or("the index takes all of the memory limit: choose a smaller -n")?;
     room.set_limit((left - left / PART_OF_LOSS) as u64);
     let store = Arc::new(Store::new(Box::new(index), room, options));
-    Server::run(store, listen, |address| println!("cefrodild: listening on {address}"))?;
+    // If nobody reads that, the server goes on.
+    Server::run(store, listen, |address| drop(writeln!(io::stdout(), "cefrodild: listening on {address}")))?;
     log.map_or(Ok(()), |log| log.end()).map_err(Into::into)
 }
 

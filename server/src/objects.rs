@@ -19,9 +19,19 @@ pub struct Objects {
     audit: Option<Arc<Audit>>,
 }
 
+/// How many items a shard has at most on average, and how many shards a map has by itself.
+const ITEMS_OF_A_SHARD: usize = 3_000_000;
+const SHARDS: usize = 16;
+
 thread_local! {
     /// The hash of the key that gave way to the put that this thread makes, for the log.
     static EVICTED: Cell<Option<u64>> = const { Cell::new(None) };
+}
+
+/// How many shards there are for so many items, if they are more than a map has by itself.
+pub fn shards_for(items: usize) -> Option<u32> {
+    let shards = items.div_ceil(ITEMS_OF_A_SHARD);
+    (shards > SHARDS).then(|| shards.next_power_of_two() as u32)
 }
 
 impl Objects {
@@ -39,6 +49,8 @@ impl Objects {
         if is_logged {
             // The log has one history, that of a shard.
             builder = builder.shards(1);
+        } else if let Some(shards) = shards_for(items) {
+            builder = builder.shards(shards);
         }
         Ok(Objects { map: builder.open()?, audit })
     }

@@ -11,7 +11,7 @@ cefrodild: a cache server that speaks memcached's text protocol
 -U, --udp-port=0       there is no UDP, so only 0 is allowed
 -t, --threads=N        worker threads, 1 to 64 (4)
 -m, --memory-limit=N   megabytes for keys, values and index, at least 16 (64)
--n, --items=N          most items (one for each 256 bytes of the memory limit)
+-n, --items=N          most items, up to 768000000 (one for each 256 bytes of the memory limit)
 -c, --conn-limit=N     most connections at a time (1024)
 -I, --max-item-size=N  longest value in bytes, or with k or m behind it, 1k to 128m (1m)
     --audit=FILE       log changes and answers for mccheck; one shard
@@ -23,6 +23,10 @@ const MEGABYTE: usize = 1 << 20;
 
 /// How many bytes of the limit go with one item of the index, if `-n` doesn't say how many items there are.
 const BYTES_OF_AN_ITEM: usize = 256;
+
+/// The most items, and the most with a log, which has one shard.
+const MOST_ITEMS: usize = 256 * 3_000_000;
+const MOST_LOGGED: usize = 3_774_873;
 
 /// The index takes at most this part of the limit.
 const PART_OF_INDEX: usize = 2;
@@ -80,7 +84,7 @@ pub fn parse(words: impl IntoIterator<Item = String>) -> Result<Asked, String> {
             'U' => drop(within(&word, &value, 0..=0)?),
             't' => threads = within(&word, &value, 1..=64)?,
             'm' => megabytes = within(&word, &value, 16..=1 << 20)?,
-            'n' => items = Some(within(&word, &value, 1..=1 << 29)?),
+            'n' => items = Some(within(&word, &value, 1..=MOST_ITEMS)?),
             'c' => connections = within(&word, &value, 1..=1 << 20)?,
             'I' => longest = size(&word, &value)?,
             'A' => audit = Some(value),
@@ -90,7 +94,11 @@ pub fn parse(words: impl IntoIterator<Item = String>) -> Result<Asked, String> {
     }
     let memory = megabytes * MEGABYTE;
     let listen = SocketAddr::new(address, port as u16);
-    let items = items.unwrap_or(memory / BYTES_OF_AN_ITEM);
+    let most = if audit.is_some() { MOST_LOGGED } else { MOST_ITEMS };
+    let items = items.unwrap_or((memory / BYTES_OF_AN_ITEM).min(most));
+    if items > most {
+        return Err(format!("-n: with --audit there are at most {most} items"));
+    }
     if items > memory / PART_OF_INDEX / BYTES_OF_AN_ENTRY {
         return Err(format!("-n: the index of {items} items would take half of the memory limit, or more"));
     }

@@ -1,6 +1,6 @@
 //! Accepts clients, and hands them to the workers in turn.
 use crate::accept::accept_some;
-use crate::complain::complain;
+use crate::complain::{complain, complain_at_times, Last};
 use crate::connection::Connection;
 use crate::counts::{self, Count};
 use crate::signal;
@@ -79,7 +79,12 @@ impl Server {
 impl Workers {
     fn hand(&mut self, mut stream: TcpStream) {
         let Some(seat) = self.store.seats.take() else {
+            static LAST: Last = Last::new(None);
             self.store.counts.add(Count::Rejected);
+            complain_at_times(
+                &LAST,
+                format_args!("clients are turned away: {} are connected (-c)", self.store.options.connections),
+            );
             // If the client doesn't get this, it sees all the same that the connection ends.
             let _ = stream.write(b"ERROR Too many open connections\r\n");
             return;

@@ -22,9 +22,10 @@ pub fn answer(store: &Store, what: &[u8], out: &mut Vec<u8>) {
 }
 
 fn general(store: &Store, out: &mut Vec<u8>) {
-    let version = version!();
+    let (version, own) = (version!(), env!("CARGO_PKG_VERSION"));
     text!(out, "STAT pid {}\r\nSTAT uptime {}\r\n", process::id(), store.clock.uptime());
-    text!(out, "STAT time {}\r\nSTAT version {version}\r\nSTAT pointer_size 64\r\n", unix_time());
+    text!(out, "STAT time {}\r\nSTAT version {version}\r\nSTAT cefrodild {own}\r\n", unix_time());
+    text!(out, "STAT pointer_size 64\r\n");
     text!(out, "STAT max_connections {}\r\n", store.options.connections);
     text!(out, "STAT curr_connections {}\r\nSTAT threads {}\r\n", store.seats.taken(), store.options.threads);
     for (name, sum) in store.counts.sums() {

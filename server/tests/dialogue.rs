@@ -290,12 +290,9 @@ fn arithmetic_keeps_the_flags() {
 }
 
 #[test]
-fn the_version_begins_with_that_of_a_memcached() {
-    // Clients choose commands by it.
-    let answer = Client::new(MEGABYTE).ask("version\n");
-    let numbers = answer.strip_prefix("VERSION ").and_then(|version| version.split('-').next()).expect("a version");
-    assert_eq!(numbers.split('.').filter_map(|number| number.parse::<u32>().ok()).count(), 3, "{answer}");
-    assert_eq!(answer.lines().count(), 1);
+fn the_version_is_that_of_a_memcached() {
+    // Clients choose commands by it, and some read no other form.
+    assert_eq!(Client::new(MEGABYTE).ask("version\n"), "VERSION 1.6.18\n");
 }
 
 #[test]

@@ -2,7 +2,7 @@
 use cefrodild::audit::Audit;
 use cefrodild::index::{Index, Outcome, Stamp, Token};
 use cefrodild::item::Item;
-use cefrodild::objects::Objects;
+use cefrodild::objects::{shards_for, Objects};
 use cefrodild::room::{cost, Room};
 use std::sync::Arc;
 
@@ -114,4 +114,14 @@ fn items_that_were_removed_or_replaced_did_not_give_way() {
 fn nobody_can_choose_keys_that_collide() {
     let open = || Objects::open(1000, 1, &Arc::new(Room::new(1 << 20)), None).expect("there is memory");
     assert_ne!(open().hash_of(b"key"), open().hash_of(b"key"), "each index has a secret of its own");
+}
+
+/// The crate says whether shards hold so many items.
+#[test]
+fn the_more_items_the_more_shards() {
+    let table = [(1, None), (48_000_000, None), (48_000_001, Some(32)), (96_000_001, Some(64)), (768_000_000, Some(256))];
+    for (items, shards) in table {
+        assert_eq!(shards_for(items), shards, "{items}");
+        assert!(cefrodil::Shape::for_shards(items as u32, shards.unwrap_or(16)).is_ok(), "{items}");
+    }
 }

@@ -29,6 +29,7 @@ fn memcached_s_names() {
         ("[::1]:1234".into(), 2, 100 << 20, 2 << 20)
     );
     assert_eq!(options("--audit=file -n 1000").items, 1000);
+    assert_eq!((options("-m 1048576").items, options("-m 1048576 --audit=file").items), (768_000_000, 3_774_873));
     assert_eq!(read("-h"), Ok(Asked::Help));
     assert_eq!(read("-p 1 --version"), Ok(Asked::Version));
 }
@@ -57,6 +58,8 @@ fn faults() {
         ("-A x", "'-A'"),
         ("-\u{e9}", "'-\u{e9}'"),
         ("-n 1000000", "half of the memory"),
+        ("-m 1048576 -n 768000001", "768000000"),
+        ("-m 1048576 -n 3774874 --audit=file", "-n: with --audit there are at most 3774873 items"),
     ] {
         let why = read(words).expect_err(words);
         assert!(why.contains(what), "{words}: {why}");

@@ -6,9 +6,9 @@ import subprocess
 TIMEOUT = 10
 
 
-def start(program, *options, port=0, stderr=None):
-    """Starts the server: its process and its port."""
-    server = subprocess.Popen([program, '-p', str(port), *options], stdout=subprocess.PIPE, stderr=stderr, text=True)
+def start(program, *options, port=0, stderr=None, before=None):
+    """Starts the server: its process and its port. `before` is called in the process first."""
+    server = subprocess.Popen([program, '-p', str(port), *options], stdout=subprocess.PIPE, stderr=stderr, text=True, preexec_fn=before)
     line = server.stdout.readline()
     if not line.startswith('cefrodild: listening on 127.0.0.1:'):
         server.kill()
@@ -22,9 +22,9 @@ def stop(process):
 
 
 @contextlib.contextmanager
-def running(program, *options, stderr=None):
+def running(program, *options, stderr=None, before=None):
     """The process and the port of a server, which is killed in the end."""
-    server, port = start(program, *options, stderr=stderr)
+    server, port = start(program, *options, stderr=stderr, before=before)
     try:
         yield server, port
     finally:

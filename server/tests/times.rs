@@ -3,7 +3,7 @@ use cefrodild::clock::{unix_time, Clock, NEVER};
 use cefrodild::item::{Flushes, Item};
 use std::sync::atomic::{AtomicU64, Ordering::SeqCst};
 use std::thread;
-use std::time::{Duration, Instant};
+use std::time::{Duration, Instant, SystemTime, UNIX_EPOCH};
 
 const SECOND: u64 = 1_000_000_000;
 const DAYS_30: i64 = 60 * 60 * 24 * 30;
@@ -27,10 +27,21 @@ fn times_to_live() {
         let (before, deadline, after) = (clock.now(), clock.deadline(seconds), clock.now());
         assert!(is_after(deadline, seconds as u64, before, after), "{seconds}");
     }
-    // From here on it is a time of day: one that is over, and one in a thousand seconds.
+    // From here on it is a time of day: one that is over.
     assert_eq!(clock.deadline(DAYS_30 + 1), 0);
-    let (before, deadline, after) = (clock.now(), clock.deadline(unix_time() as i64 + 1000), clock.now());
-    assert!((999..=1000).any(|seconds| is_after(deadline, seconds, before, after)));
+    // Clients with 32 bits for a time send this for -1.
+    assert_eq!(clock.deadline(4_294_967_295), 0);
+}
+
+#[test]
+fn a_time_of_day_is_exact() {
+    let clock = Clock::new();
+    let then = Duration::from_secs(unix_time() + 1000);
+    let left = || (then - SystemTime::now().duration_since(UNIX_EPOCH).unwrap()).as_nanos() as u64;
+    let (before, most) = (clock.now(), left());
+    let deadline = clock.deadline(then.as_secs() as i64);
+    let (least, after) = (left(), clock.now());
+    assert!((before + least..=after + most).contains(&deadline));
 }
 
 #[test]

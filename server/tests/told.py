@@ -31,7 +31,9 @@ def questions(program):
         assert (ran.returncode, ran.stderr) == (0, '') and re.fullmatch(r'cefrodild \d+\.\d+\.\d+\n', ran.stdout), ran
     with running(program) as (_, port), connect(port) as client:
         own = ran.stdout.split()[1]
-        assert ask(client, b'version\r\n').decode() == f'VERSION 1.6.18-cefrodild-{own}\r\n'
+        assert ask(client, b'version\r\n') == b'VERSION 1.6.18\r\n'
+        told = ask(client, b'stats\r\n', END).decode().split('\r\n')
+        assert 'STAT version 1.6.18' in told and f'STAT cefrodild {own}' in told, told
 
 
 def faults(program):

@@ -1,0 +1,116 @@
+#!/usr/bin/env python3
+"""What the server meets where it runs: web browsers, clients of the binary protocol, signals, limits of open files, an output that is full.
+
+usage: operated.py CEFRODILD
+"""
+import contextlib
+import os
+import resource
+import signal
+import socket
+import subprocess
+import sys
+
+from running import TIMEOUT, ask, connect, rest, running
+
+END = b'END\r\n'
+
+
+def answered(port, data):
+    """What a client is answered that sends this and no more."""
+    with connect(port) as client:
+        client.sendall(data)
+        client.shutdown(socket.SHUT_WR)
+        return rest(client)
+
+
+def web_pages(port):
+    """A browser's request ends the connection before the commands in its body."""
+    assert answered(port, b'set kept 0 0 1\r\nx\r\n') == b'STORED\r\n'
+    for line in [b'GET / HTTP/1.1', b'POST /a b HTTP/1.0', b'HTTP/1.1', b'one two three HTTP/']:
+        assert answered(port, line + b'\r\nHost: localhost\r\n\r\nflush_all\r\n') == b'', line
+    # Other lines with that word are commands, as they are to memcached.
+    for line, answer in [(b'get HTTP/1.1', END), (b'GET / HTTP/1.1 x', b'ERROR\r\n'), (b'GET / http/1.1', b'ERROR\r\n'), (b'GET /HTTP/1.1', b'ERROR\r\n')]:
+        assert answered(port, line + b'\r\nget kept\r\n') == answer + b'VALUE kept 0 1\r\nx\r\nEND\r\n', line
+
+
+def binary_clients(port):
+    """Such a client would wait for ever. Its first byte is no letter."""
+    assert answered(port, b'\x80' + bytes(23)) == b''
+    assert answered(port, b'\x80\r\nget kept\r\n') == b''
+    assert answered(port, b'get a\r\n\x80\r\nget a\r\n') == END + b'ERROR\r\n' + END
+
+
+def signals(program):
+    with running(program) as (server, port), connect(port) as client:
+        for idle in [signal.SIGHUP, signal.SIGUSR2]:
+            server.send_signal(idle)
+            assert ask(client, b'mn\r\n') == b'MN\r\n', idle
+        client.sendall(b'mn\r\n' * 1000)
+        server.send_signal(signal.SIGUSR1)
+        assert rest(client) == b'MN\r\n' * 1000
+        assert server.wait(TIMEOUT) == 0
+
+
+def full_output(program):
+    """Nobody reads where the server listens: it goes on. A question has failed then."""
+    with socket.create_server(('127.0.0.1', 0)) as free:
+        port = free.getsockname()[1]
+    with open('/dev/full', 'w', encoding='ascii') as full:
+        for word in ['--help', '--version']:
+            ran = subprocess.run([program, word], stdout=full, stderr=subprocess.PIPE, text=True, timeout=TIMEOUT, check=False)
+            assert ran.returncode == 1 and ran.stderr.startswith('cefrodild: standard output: '), ran
+        server = subprocess.Popen([program, '-p', str(port)], stdout=full)
+    try:
+        with connect_at_last(server, port) as client:
+            assert ask(client, b'mn\r\n') == b'MN\r\n'
+    finally:
+        server.kill()
+        server.wait()
+
+
+def connect_at_last(server, port):
+    while True:
+        with contextlib.suppress(ConnectionRefusedError):
+            return connect(port)
+        assert server.poll() is None, server.returncode
+
+
+def limited(soft, hard):
+    """Sets the limits of open files in the process that starts."""
+    return lambda: resource.setrlimit(resource.RLIMIT_NOFILE, (soft, hard))
+
+
+def open_files(program):
+    """The limit is raised, as far as that is allowed."""
+    with running(program, '-c', '300', before=limited(64, 1000)) as (_, port), contextlib.ExitStack() as stack:
+        clients = [stack.enter_context(connect(port)) for _ in range(300)]
+        assert all(ask(client, b'mn\r\n') == b'MN\r\n' for client in clients)
+    ran = subprocess.run([program, '-p', '0', '-c', '300'], preexec_fn=limited(64, 300), capture_output=True, text=True, timeout=TIMEOUT, check=False)
+    assert (ran.returncode, ran.stdout) == (1, '') and '300 are allowed: choose a smaller -c' in ran.stderr, ran
+
+
+def clients_too_many(program):
+    """The operator is told once, and not for each."""
+    read, write = os.pipe()
+    with running(program, '-c', '2', stderr=write) as (_, port), contextlib.ExitStack() as stack:
+        os.close(write)
+        for client in [stack.enter_context(connect(port)) for _ in range(2)]:
+            assert ask(client, b'mn\r\n') == b'MN\r\n'
+        for _ in range(5):
+            assert answered(port, b'') == b'ERROR Too many open connections\r\n'
+    with os.fdopen(read, encoding='ascii') as told:
+        assert told.read() == 'cefrodild: clients are turned away: 2 are connected (-c)\n'
+
+
+def main():
+    program = sys.argv[1]
+    with running(program) as (_, port):
+        web_pages(port)
+        binary_clients(port)
+    for test in [signals, full_output, open_files, clients_too_many]:
+        test(program)
+
+
+if __name__ == '__main__':
+    main()
