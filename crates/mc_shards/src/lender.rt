@@ -1,7 +1,7 @@
 //! The writer of a shard, lent in place by turns that are tried for once.
 ghost use Rattle.std.specs.Prelude.{◌≡◌, ◌≤◌, IfNone, IfOk, IfSome};
 
-use super::{FREE, LiesThere, WORDS, give, take};
+use crate::lending::{FREE, LiesThere, WORDS, give, take};
 use atomic_table::Table;
 use mc_cache::turn::{
     TurnCall, count_in_turn, get_in_turn, list_in_turn, make_in_turn, peek_in_turn,
@@ -32,7 +32,7 @@ impl<const V: usize> Model for Lender<V> {
 impl<const V: usize> Lender<V> {
     ghost use Rattle.mc_cache.specs.Failing.{TurnFails, versions_seen};
     ghost use Rattle.mc_cache.specs.Plain.{AreEntriesOf, Begins, HasAnswered, PeekMeans, TurnMeans, seen};
-    ghost use Rattle.mc_cache.specs.Turns.{HasLookedInTurn, HasLookedOrMet, HasTriedTo, HasTriedToList, HasTriedToPeek};
+    ghost use Rattle.mc_cache.specs.Turns.{HasLookedInTurn, HasLookedOrMet, HasMetAtDesk, HasTriedTo, HasTriedToList, HasTriedToPeek};
     ghost use Rattle.mc_words.specs.History.{key_count};
 
     /// A place for the writer.
@@ -68,7 +68,7 @@ impl<const V: usize> Lender<V> {
         let Some(mut turn) = take(shared) else {
             return Err(DeskError::Held);
         };
-        let answer = make_in_turn(cache, pass, turn.seat.slot_mut(shared, 0), call);
+        let answer = make_in_turn(cache, pass, turn.writer(shared), call);
         give(shared, turn);
         answer
     }
@@ -91,7 +91,7 @@ impl<const V: usize> Lender<V> {
         let Some(mut turn) = take(shared) else {
             return Err(DeskError::Held);
         };
-        let listed = list_in_turn(alloc, cache, pass, turn.seat.slot_mut(shared, 0));
+        let listed = list_in_turn(alloc, cache, pass, turn.writer(shared));
         give(shared, turn);
         listed
     }
@@ -102,13 +102,14 @@ impl<const V: usize> Lender<V> {
         requires of { (self.now ≡ cache.now) × (pass.old.of ≡ cache.now) }
         ensures of { pass.new.of ≡ pass.old.of }
         ensures held { IfNone result (pass.new ≡ pass.old) }
+        ensures met { IfSome result (λ _. HasMetAtDesk V pass.old pass.new) }
         ensures begins { Begins (seen V pass.old) (seen V pass.new) }
         ensures plain { IfSome result (λ many. many ≡ key_count (seen V pass.new)) }
         ensures few { IfSome result (λ many. many ≤ cache.now.layout.shape.items) }
     {
         let shared = &self.table.shared;
         let mut turn = take(shared)?;
-        let many = count_in_turn(cache, pass, turn.seat.slot_mut(shared, 0));
+        let many = count_in_turn(cache, pass, turn.writer(shared));
         give(shared, turn);
         Some(many)
     }
@@ -123,7 +124,7 @@ impl<const V: usize> Lender<V> {
     {
         let shared = &self.table.shared;
         let mut turn = take(shared)?;
-        let reply = peek_in_turn(cache, pass, turn.seat.slot_mut(shared, 0), key);
+        let reply = peek_in_turn(cache, pass, turn.writer(shared), key);
         give(shared, turn);
         Some(reply)
     }
@@ -157,7 +158,7 @@ impl<const V: usize> Lender<V> {
     {
         let shared = &self.table.shared;
         let mut turn = take(shared)?;
-        let reply = get_in_turn(cache, pass, turn.seat.slot_mut(shared, 0), key);
+        let reply = get_in_turn(cache, pass, turn.writer(shared), key);
         give(shared, turn);
         Some(reply)
     }

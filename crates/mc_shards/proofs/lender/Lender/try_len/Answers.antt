@@ -1,7 +1,7 @@
 use Rattle.std.proofs.Common.{arith, ap}
 use Rattle.mc_shared.specs.Records.{Opening}
 use Rattle.mc_shards.proofs.CountedShards.{few_keys}
-use Rattle.mc_shards.proofs.lending.lender.Lender.try_len.Goals as goal
+use Rattle.mc_shards.proofs.lender.Lender.try_len.Goals as goal
 
 pub returns-clause-few : goal.returns-clause-few
 returns-clause-few g c =
