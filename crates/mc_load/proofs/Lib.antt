@@ -2,6 +2,7 @@ pub mod Batches
 pub mod Each
 pub mod Histories
 pub mod LoadRuns
+pub mod Looked
 pub mod OneShard
 pub mod Readers
 pub mod Refused

@@ -1,5 +1,5 @@
 -- What a load of shards with writers in turns reports, and why there may be no report.
-use Rattle.std.specs.Prelude.{ℕ, ◌≡◌, ◌==◌, ◌+◌, ◌*◌, ◌<◌, ◌≤◌, ◌⊎◌, List, filter, length, slice_index_or, sum_by, if◌then◌else◌}
+use Rattle.std.specs.Prelude.{ℕ, ◌≡◌, ◌==◌, ◌+◌, ◌*◌, ◌<◌, ◌≤◌, ◌⊎◌, All, List, filter, length, slice_index_or, sum_by, if◌then◌else◌}
 use Rattle.mc_words.specs.Keys.{shard_of}
 use Rattle.mc_words.specs.Readers.{most_readers}
 use Rattle.mc_words.specs.Shapes.{HasShards, IsShape, RefusesShape}
@@ -11,6 +11,7 @@ use Rattle.mc_cache.specs.declared.opening.OpenError.{OpenError}
 use Rattle.mc_cache.specs.declared.opening.OpenError.TheVariants as opening
 use Rattle.mc_shards.specs.Sharded.{Sharded}
 use Rattle.mc_load.specs.Loads.{AreDrawn, AreTrue, HasKeys, is_absent, is_busy, is_found, total_of}
+use Rattle.mc_load.specs.Lookups.{HasGot}
 use Rattle.mc_load.specs.declared.asked.Load.{Load}
 use Rattle.mc_load.specs.declared.error.LoadError.{LoadError}
 use Rattle.mc_load.specs.declared.error.LoadError.TheVariants as error
@@ -53,8 +54,8 @@ pub record IsRightIn {V : ℕ} (mix : Mix) (shards : ℕ) (tries : List (Tries V
   pub one : AreOneHistory (journals_in mix shards n tries) history
   pub told : (r : ℕ) (d : List (Record V)) → r < length answers → AreTrue history (answers_in mix shards n (slice_index_or answers r d))
 
--- the readers and the writers of these shards have made all their calls, the totals add up, and if nothing is wrong all answers are right,
--- shard by shard
+-- the readers and the writers of these shards have made all their calls, each answer is that of a lookup, the totals add up, and if nothing
+-- is wrong all answers are right, shard by shard
 pub record ReportsTurns (V : ℕ) (load : Load) (shards writers : ℕ) (told : DeskReport) : Type 0 where
   pub opened : Sharded
   pub shape : opened.shape ≡ load.shape
@@ -68,6 +69,7 @@ pub record ReportsTurns (V : ℕ) (load : Load) (shards writers : ℕ) (told : D
   pub answers : List (List (Record V))
   pub readers : length answers ≡ load.readers
   pub looked : (r : ℕ) (d : List (Record V)) → r < length answers → HasAsked load r (slice_index_or answers r d)
+  pub got : All (λ (records : List (Record V)). HasGot opened records) answers
   pub found : told.found ≡ total_of is_found answers
   pub absent : told.absent ≡ total_of is_absent answers
   pub busy : told.busy ≡ total_of is_busy answers

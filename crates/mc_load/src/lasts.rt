@@ -1,7 +1,7 @@
 //! The last moment of each shard, looked up when all workers have ended.
 ghost use Rattle.std.specs.Prelude.{◌≡◌, vec_len};
 ghost use Rattle.mc_words.specs.Shapes.{HasShards};
-ghost use Rattle.mc_load.specs.Inside.Workers.{HaveAllNoted};
+ghost use Rattle.mc_load.specs.Inside.Workers.{HaveAllNoted, answers_of};
 
 use crate::asked::Load;
 use crate::dated::Dated;
@@ -45,6 +45,7 @@ pub(crate) fn last_moments<const V: usize>(
     requires noted { HaveAllNoted load reader_threads.old.items }
     ensures len { vec_len reader_threads.new ≡ vec_len reader_threads.old }
     ensures noted { HaveAllNoted load reader_threads.new.items }
+    ensures answers { answers_of reader_threads.new.items ≡ answers_of reader_threads.old.items }
 {
     let mut lasts = [0; MOST_SHARDS];
     let Some(thread) = reader_threads.pop() else {

@@ -1,6 +1,8 @@
-use Rattle.std.proofs.Common.{subst, sym}
+use Rattle.std.proofs.Common.{List, [], ◌∷◌, ◌∙◌, ap, subst, sym}
+use Rattle.std.proofs.lemmas.List.{map-append}
+use Rattle.mc_check.specs.declared.record.Record.{Record}
 use Rattle.mc_load.specs.ShardLoads.{HasAsked}
-use Rattle.mc_load.specs.Inside.Workers.{HaveAllNoted}
+use Rattle.mc_load.specs.Inside.Workers.{HaveAllNoted, answers_of}
 use Rattle.mc_load.specs.declared.reader_thread.ReaderThread.{ReaderThread}
 use Rattle.mc_load.proofs.Each.{each_front, each_last, each_more}
 use Rattle.mc_load.proofs.lasts.last_moments.Goals as goal
@@ -15,3 +17,12 @@ returns-clause-noted g c =
     subst (HaveAllNoted load) (sym c.push_reserved.ensures.items)
     (each_more (λ n (l : ReaderThread V). HasAsked load n l.records.items) rest _ (each_front (λ n (l : ReaderThread V). HasAsked load n l.records.items) xs rest c.in-Some.thread e c.requires.noted)
     (each_last (λ n (l : ReaderThread V). HasAsked load n l.records.items) xs rest c.in-Some.thread e c.requires.noted))
+
+pub returns-clause-answers : goal.returns-clause-answers
+returns-clause-answers g c =
+    let V = g.row.V in
+    let rest = c.pop.new.self.items in
+    let thread = c.in-Some.thread in
+    let records : ReaderThread V → List (Record V) = λ (l : ReaderThread V). l.records.items in
+    ap (λ (ls : List (ReaderThread V)). answers_of ls) c.push_reserved.ensures.items
+    ∙ (map-append records rest (_ ∷ []) ∙ (sym (map-append records rest (thread ∷ [])) ∙ ap (λ (ls : List (ReaderThread V)). answers_of ls) (sym c.in-Some.ensures.items)))
