@@ -1,6 +1,7 @@
 pub mod Batches
 pub mod Each
 pub mod Histories
+pub mod LastMoments
 pub mod LoadRuns
 pub mod Looked
 pub mod OneShard
