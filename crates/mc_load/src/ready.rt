@@ -8,7 +8,7 @@ ghost use Rattle.mc_load.specs.ShardLoads.{who_of};
 ghost use Rattle.mc_load.specs.Turns.{stream_of};
 ghost use Rattle.mc_load.specs.Inside.Handles.{cache_of, place_of};
 ghost use Rattle.mc_load.specs.Inside.Tries.{CanTry};
-ghost use Rattle.mc_load.specs.Inside.Workers.{AreReadersOf, AreReady, CanWrite, IsReady};
+ghost use Rattle.mc_load.specs.Inside.Workers.{AreReadersIn, AreReadersOf, AreReady, CanWrite, IsReady};
 
 use crate::asked::Load;
 use crate::draws::Draws;
@@ -133,6 +133,7 @@ pub(crate) fn reader_threads_of<'p, const V: usize>(
     ensures len { IfOk result (λ ls. vec_len ls ≡ load.readers) }
     ensures ready { IfOk result (λ ls. AreReady V load ls.items) }
     ensures of { (o : Opening) → All (λ h. cache_of h ≡ Some o) handles.entry.items → IfOk result (λ ls. AreReadersOf o ls.items) }
+    ensures place { (s : Sharded) → All (λ h. place_of h ≡ s) handles.entry.items → IfOk result (λ ls. AreReadersIn s ls.items) }
 {
     let mut reader_threads = Vec::new(alloc);
     while let Some(handle) = handles.pop() {

@@ -1,5 +1,5 @@
 //! What came of a load in turns is checked and added up.
-ghost use Rattle.std.specs.Prelude.{ℕ, ◌≡◌, ◌+◌, ◌*◌, ◌≤◌, ◌<◌, length, slice_index_or, sum_by, vec_len};
+ghost use Rattle.std.specs.Prelude.{ℕ, ◌≡◌, ◌+◌, ◌*◌, ◌≤◌, ◌<◌, length, slice_index, slice_index_or, sum_by, vec_len};
 ghost use Rattle.mc_words.specs.Places.{IsWidth};
 ghost use Rattle.mc_words.specs.Shapes.{HasShards};
 ghost use Rattle.mc_shards.specs.Sharded.{Sharded};
@@ -70,7 +70,7 @@ fn check_all<const V: usize>(
     requires noted { HaveAllNoted load reader_threads.now }
     requires can { CanAudit V load (length turn_threads.now) audit.old }
     ensures right { result ≡ 0 → (n : ℕ) → n < shards →
-        IsRightIn load.shape.mix shards (all_tries turn_threads.now) (answers_of reader_threads.now) n }
+        IsRightIn load.shape.mix shards (all_tries turn_threads.now) (answers_of reader_threads.now) (slice_index lasts.now n) n }
 {
     let mut wrong: u64 = 0;
     for shard in 0..shards {

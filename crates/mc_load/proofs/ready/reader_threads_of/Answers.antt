@@ -1,8 +1,8 @@
 use Rattle.std.proofs.Common.{rules, ℕ, ◌≡◌, ◌+◌, [], ◌∷◌, Some, ap, arith, length, subst, sym, ◌∙◌}
 use Rattle.std.proofs.lemmas.List.{length-append}
 use Rattle.mc_load.proofs.Each.{each_front, each_last, each_more}
-use Rattle.mc_load.specs.Inside.Handles.{cache_of}
-use Rattle.mc_load.specs.Inside.Workers.{AreReadersOf, AreReady, IsReady}
+use Rattle.mc_load.specs.Inside.Handles.{cache_of, place_of}
+use Rattle.mc_load.specs.Inside.Workers.{AreReadersIn, AreReadersOf, AreReady, IsReady}
 use Rattle.mc_load.specs.declared.handle.Handle.{Handle}
 use Rattle.mc_load.specs.declared.reader_thread.ReaderThread.{ReaderThread}
 use Rattle.mc_load.proofs.ready.reader_threads_of.Goals as goal
@@ -28,4 +28,9 @@ loop-handle-preserved g c =
           subst (AreReadersOf o) (sym c.in_ok-push.ensures.items)
           (each_more (λ k (x : ReaderThread V). cache_of x.handle ≡ Some o) ls l (was.of o all)
           (ap (λ (x : Handle V). cache_of x) c.in_ok-reader_thread_of.ensures.handle ∙ each_last (λ k (x : Handle V). cache_of x ≡ Some o) xs rest h c.in-Some.ensures.items (was.rest o all)));
+      left = λ s all. each_front (λ k (x : Handle V). place_of x ≡ s) xs rest h c.in-Some.ensures.items (was.left s all);
+      place = λ s all.
+          subst (AreReadersIn s) (sym c.in_ok-push.ensures.items)
+          (each_more (λ k (x : ReaderThread V). place_of x.handle ≡ s) ls l (was.place s all)
+          (ap (λ (x : Handle V). place_of x) c.in_ok-reader_thread_of.ensures.handle ∙ each_last (λ k (x : Handle V). place_of x ≡ s) xs rest h c.in-Some.ensures.items (was.left s all)));
     }
