@@ -82,10 +82,11 @@ pub record ReportsTurns (V : ℕ) (load : Load) (shards writers : ℕ) (told : D
   pub turns : told.held + told.answered ≡ told.calls
   pub few : told.changes ≤ 2 * told.answered
 
--- so they are for each writer
+-- and these are the turns of each writer
 pub record RunsTurns (V : ℕ) (load : Load) (shards writers : ℕ) (told : TurnsRun) : Type 0 where
   pub report : ReportsTurns V load shards writers told.report
   pub each : (n : ℕ) (d : Turns) → n < writers → (slice_index_or told.turns n d).held + (slice_index_or told.turns n d).answered ≡ load.writes
+  pub those : (n : ℕ) (d : Turns) (e : Tries V) → n < writers → slice_index_or told.turns n d ≡ (slice_index_or report.tries n e).turns
 
 -- ---- what is refused
 

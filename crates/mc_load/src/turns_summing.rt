@@ -44,7 +44,8 @@ fn tries_of<const V: usize>(load: Load, turn_threads: &[TurnThread<'_, V>]) -> (
 fn turns_of<const V: usize>(load: Load, turn_threads: &[TurnThread<'_, V>]) -> [Turns; MOST_WRITERS]
     requires few { length turn_threads.now ≤ most_writers }
     requires tried { HaveTriedWhole load turn_threads.now }
-    ensures { (n : ℕ) (d : Turns) → n < length turn_threads.now → (slice_index_or result n d).held + (slice_index_or result n d).answered ≡ load.writes }
+    ensures sums { (n : ℕ) (d : Turns) → n < length turn_threads.now → (slice_index_or result n d).held + (slice_index_or result n d).answered ≡ load.writes }
+    ensures each { (n : ℕ) (d : Turns) (e : TurnThread V) → n < length turn_threads.now → slice_index_or result n d ≡ (slice_index_or turn_threads.now n e).turns }
 {
     let mut turns = [Turns::none(); MOST_WRITERS];
     for n in 0..turn_threads.len() {

@@ -68,5 +68,10 @@ returns g c =
         turns = search rules;
         few = c.tries_of-changes.ensures.few;
       };
-      each = λ n d low. c.turns_of.ensures n d (omega (arith, low, many_writers));
+      each = λ n d low. c.turns_of.ensures.sums n d (omega (arith, low, many_writers));
+      those = λ n d e low.
+          let under : n < length ts = omega (arith, low, c.as_slice-turn_threads.ensures.len, ap length writers) in
+          let t = some_element ts n under in
+          c.turns_of.ensures.each n d t (omega (arith, low, many_writers))
+          ∙ (ap (λ (z : List (TurnThread V)). (get_or z n t).turns) writers ∙ ap (λ (z : Tries V). z.turns) (sym (get_or-map (λ (x : TurnThread V). tries_of x) ts n t e under)));
     }
