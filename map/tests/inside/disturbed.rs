@@ -1,6 +1,7 @@
 //! Calls that other threads disturb. With one try each, many fail. What fails says so, and has changed nothing.
 #[cfg(feature = "objects")]
 use super::done;
+use super::waiting::LONG;
 use crate::flight::Boarding;
 use crate::pass::{AnyPass, MANY};
 use crate::wait::TRIES;
@@ -42,7 +43,7 @@ fn beside<const CALLS: usize>(disturb: impl Fn() + Sync, round: impl Fn(u64) -> 
             if failures.iter().all(|count| *count >= FAILURES) {
                 return;
             }
-            assert!(begin.elapsed() < Duration::from_secs(200), "only so many calls failed: {failures:?}");
+            assert!(begin.elapsed() < LONG, "only so many calls failed: {failures:?}");
         }
     });
 }
