@@ -10,6 +10,8 @@ mod fills;
 mod flights;
 mod held;
 #[cfg(feature = "objects")]
+mod object_disturbed;
+#[cfg(feature = "objects")]
 mod object_flights;
 #[cfg(feature = "objects")]
 mod object_turns;
