@@ -6,6 +6,7 @@
 #include <chrono>
 #include <cstdlib>
 #include <new>
+#include <unistd.h>
 
 using namespace cefrodil;
 
@@ -326,6 +327,7 @@ static void by_maps() {
 }
 
 int main() {
+    alarm(100); // so that a thread which waits for ever fails the test
     const long before = kept;
     apart();
     by_passes();
