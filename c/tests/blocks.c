@@ -229,6 +229,23 @@ static void regions_go_with_their_blocks(void) {
     MUST(in_use == before);
 }
 
+/* A block of 128 KB to 2 MB is cut from a region, which is freed with it. Any other has a block of malloc by itself. */
+static void sizes_of_blocks_of_regions(void) {
+    const struct {
+        size_t size;
+        long regions;
+    } rows[] = {{8, 0}, {4096, 0}, {(128 << 10) - 1, 0}, {128 << 10, 1}, {(128 << 10) + 1, 1}, {(2 << 20) - 1, 1}, {2 << 20, 0}, {8 << 20, 0}};
+    const long before = in_use;
+    for (size_t n = 0; n < sizeof rows / sizeof *rows; n++) {
+        struct full full;
+        regions_made = 0;
+        make(&full, rows[n].size, 8);
+        MUST(regions_made == rows[n].regions && in_use == before + 1);
+        rattle_dealloc(full.at);
+        MUST(in_use == before);
+    }
+}
+
 /* The huge pages from `first` to `end` were requested, and nothing else. */
 static int were_requested(uintptr_t first, uintptr_t end) {
     return advices == 1 && advised[0].about == MADV_HUGEPAGE && (uintptr_t)advised[0].at == first && advised[0].size == end - first;
@@ -357,6 +374,7 @@ int main(void) {
     many_at_once();
     threads_at_once();
     regions_go_with_their_blocks();
+    sizes_of_blocks_of_regions();
     huge_pages_of_large_blocks();
     huge_pages_of_regions();
     full_regions();
