@@ -129,13 +129,13 @@ static void every_size(void) {
     }
 }
 
-/* No two small blocks share a pair of cache lines, and none shares one with a block of malloc. */
+/* No two blocks of up to 4,095 bytes share a pair of cache lines, and none shares one with a block of malloc. */
 static void small_blocks_are_alone(void) {
     struct full full[BLOCKS];
     void *others[BLOCKS];
     for (int n = 0; n < BLOCKS; n++) {
         others[n] = malloc((size_t)n + 1);
-        make(&full[n], (size_t)n * 7 + 1, 8);
+        make(&full[n], n < BLOCKS / 2 ? (size_t)n * 7 + 1 : (size_t)n * 65, 8);
     }
     for (int n = 0; n < BLOCKS; n++) {
         const uintptr_t first = (uintptr_t)full[n].at / 128, last = ((uintptr_t)full[n].at + full[n].size - 1) / 128;

@@ -182,8 +182,10 @@ static void overtaken_by_removals() {
     cefrodil::map<int, int> map;
     const auto never = [](int old) { return old + 1; };
     MUST(map.open({100, 1, 8, 5}) == Status::ok && map.insert(1, 10).status == Status::ok);
+    // The other thread counts its removal itself.
+    MUST(map.insert(2, 20).status == Status::ok);
     removed_before_condition = 1;
-    MUST(map.erase(1) == Status::absent && removed_before_condition == 0 && !map.find(1));
+    MUST(map.erase(1) == Status::absent && removed_before_condition == 0 && !map.find(1) && map.size() == 2);
     MUST(map.insert(1, 10).status == Status::ok);
     removed_before_condition = 1;
     const auto updated = map.update(1, never);
@@ -227,6 +229,22 @@ static void overtaken_puts_on_a_condition() {
     overtaken_puts = 5;
     const auto inserted = map.insert(2, 20);
     MUST(inserted.status == Status::ok && inserted.evicted && overtaken_puts == 0 && map.find(2) == 20 && !map.find(1) && map.size() == 1);
+}
+
+// The other key's entry is removed before the put over it. An insert that may not try again says `changed`, and another one finds the place free.
+static void overtaken_puts_over_another_key() {
+    cefrodil::map<int, int, Meeting> once, map;
+    MUST(once.open({100, 1, 8, 0}) == Status::ok && once.insert(1, 10).status == Status::ok);
+    removed_before_condition = 1;
+    MUST(once.insert(2, 20).status == Status::changed && removed_before_condition == 0 && !once.find(1) && !once.find(2));
+    MUST(once.insert(1, 10).status == Status::ok);
+    removed_before_condition = 1;
+    const auto first = once.update_or_insert(2, 20, [](int old) { return old; });
+    MUST(first.status == Status::changed && !first.value && !once.find(2));
+    MUST(map.open({100, 1, 8, 5}) == Status::ok && map.insert(1, 10).status == Status::ok);
+    removed_before_condition = 1;
+    const auto inserted = map.insert(2, 20);
+    MUST(inserted.status == Status::ok && !inserted.renewed && !inserted.evicted && map.find(2) == 20);
 }
 
 // `clear` goes on if another thread removes a key first.
@@ -317,6 +335,7 @@ int main() {
     overtaken_by_removals();
     overtaken_first_values();
     overtaken_puts_on_a_condition();
+    overtaken_puts_over_another_key();
     overtaken_clear();
     removed_before_it_counts();
     held_clear();

@@ -1,17 +1,26 @@
 //! Calls of a map of objects that writes of other threads disturb. What fails says so, and has changed nothing.
 use super::disturbed::beside;
 use super::done;
+use crate::pass::MANY;
 use crate::stats::Stats;
+use crate::wait::TRIES;
 use crate::{AbsentError, GetError, IfError, InsertError, Look, ObjectMap, RemoveError, UpdateError};
-use cefrodil::Shape;
+use cefrodil::{Reply, Shape};
+use std::cell::Cell;
 use std::iter::once;
 use std::time::Duration;
 
+// A map of objects whose calls try so often. It has the key 1, and a write of any other key disturbs its lookups.
+fn restless(tries: u32) -> ObjectMap<u64, u64> {
+    let shape = Shape { stripes: 1, tries: 1, ..Shape::for_items(100).unwrap() };
+    let map = ObjectMap::builder(1).open_shaped(&shape, 1, tries).unwrap();
+    map.insert(1, 10).unwrap();
+    map
+}
+
 #[test]
 fn a_lookup_that_stays_busy_says_so_and_is_counted() {
-    let shape = Shape { stripes: 1, tries: 1, ..Shape::for_items(100).unwrap() };
-    let map = ObjectMap::<u64, u64>::builder(1).open_shaped(&shape, 1, 1).unwrap();
-    map.insert(1, 10).unwrap();
+    let map = restless(1);
     let write = || done(map.insert(2, 20));
     beside(write, |_| {
         let before = map.stats().busy;
@@ -38,9 +47,7 @@ fn a_lookup_that_stays_busy_says_so_and_is_counted() {
 // No change or computation takes it for an absent key.
 #[test]
 fn a_busy_object_is_not_taken_for_an_absent_one() {
-    let shape = Shape { stripes: 1, tries: 1, ..Shape::for_items(100).unwrap() };
-    let map = ObjectMap::<u64, u64>::builder(1).open_shaped(&shape, 1, 1).unwrap();
-    map.insert(1, 10).unwrap();
+    let map = restless(1);
     let write = || done(map.insert(2, 20));
     beside(write, |_| {
         let changed = map.modify(&1, |old| *old);
@@ -73,4 +80,46 @@ fn a_computed_object_is_put_or_refused() {
             [after.busy > before.busy, after.refused > before.refused]
         },
     );
+}
+
+#[test]
+fn a_busy_key_of_many_is_looked_up_again() {
+    let map = restless(TRIES);
+    let hash = map.hash_of(&1);
+    beside(
+        || done(map.insert(2, 20)),
+        |_| {
+            let mut replies = [Reply::Busy; MANY];
+            map.inner.slots.call(|pass| pass.get_many(&[hash; MANY], &mut replies));
+            let (mut found, mut looked) = (0, 0);
+            map.get_many_with(&[&1; 40], |_, value| found += *value);
+            map.look_many(&[&1; 40], |_, look| looked += *look.unwrap().found().unwrap());
+            assert_eq!((found, looked), (400, 400));
+            [replies.contains(&Reply::Busy)]
+        },
+    );
+    assert_eq!((map.stats().busy, map.stats().misses), (0, 0));
+}
+
+// The other map's calls try once, so that it is seen whether they are disturbed.
+#[test]
+fn a_call_that_tries_more_often_finds_its_key() {
+    let (map, once) = (restless(TRIES), restless(1));
+    let write = || {
+        done(map.insert(2, 20));
+        done(once.insert(2, 20));
+    };
+    let rounds = Cell::new(0);
+    beside(write, |_| {
+        rounds.set(rounds.get() + 1);
+        assert!(map.get(&1) == Some(10) && map.contains_key(&1) && map.touch(&1, Duration::MAX));
+        assert_eq!(map.get_or_insert_with(&1, || unreachable!("it is there")), 10);
+        let Ok(Look::Found { result: 10, since, .. }) = map.look(&1, |value| *value) else { panic!("it is there") };
+        assert_eq!(map.insert_if_absent(1, 11).unwrap_err().why, AbsentError::Present { since });
+        assert!(map.modify(&1, |old| *old).unwrap().is_some_and(|put| put.at > since));
+        assert!(map.update(1, |old| *old.unwrap()).is_ok());
+        assert!(map.remove(&1) == Ok(true) && map.insert(1, 10).is_ok());
+        [once.look(&1, |_| ()) == Err(GetError::Busy)]
+    });
+    assert_eq!((map.stats().busy, map.stats().misses, map.stats().refused), (0, 0, rounds.get()));
 }
