@@ -4,8 +4,8 @@ use std::sync::mpsc::{channel, RecvTimeoutError};
 use std::thread;
 use std::time::Duration;
 
-/// How long a test may take that takes a moment.
-const LONG: Duration = Duration::from_secs(60);
+/// How long a test may take that takes a moment. On a machine with much else to do that may be long.
+const LONG: Duration = Duration::from_secs(100);
 
 /// Runs the test in a thread of its own. If that does not end, this fails and leaves it behind.
 pub fn ends(test: impl FnOnce() + Send + 'static) {

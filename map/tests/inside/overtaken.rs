@@ -72,6 +72,8 @@ fn a_change_begins_anew_with_what_was_put() {
         assert_eq!((called.get(), map.get(&1), map.stats().refused), (TRIES, Some(15), 1));
         assert_eq!(beside_puts(&map, TRIES - 1, || change(&map, &double)), Ok(Some(38)));
         assert_eq!((called.get(), map.get(&1), map.stats().refused), (2 * TRIES, Some(38), 1));
+        // The puts in between, and one of the changes.
+        assert_eq!((map.stats().added, map.stats().renewed), (1, u64::from(2 * TRIES - 1) + 1));
     }
 }
 
