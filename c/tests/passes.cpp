@@ -6,7 +6,8 @@ static cefrodil_handle *called = nullptr;
 static uint32_t asked = 0, put_calls = 0, look_calls = 0;
 static cefrodil_status answer = CEFRODIL_OK;
 
-static cefrodil_status noted_put_within(cefrodil_handle *pass, uint32_t tries, uint64_t key, const uint64_t *value, size_t words, cefrodil_reply *reply) {
+static cefrodil_status noted_put_within(cefrodil_handle *pass, uint32_t tries, uint64_t key, const uint64_t *value, size_t words,
+                                        cefrodil_reply *reply) {
     called = pass, asked = tries, put_calls++;
     MUST(key == 7 && words == 2 && value[0] == 70 && value[1] == 71);
     *reply = cefrodil_reply{};
