@@ -1,13 +1,13 @@
 //! Links the archive, which `c/build` makes: from the folder that `CEFRODIL_LIB` names, else from the folder `native` here, else from
-//! the one that pkg-config knows.
+//! the one that pkg-config knows, else from the release beside this crate in Cefrodil's repository.
 use std::env;
 use std::path::{Path, PathBuf};
 use std::process::{exit, Command};
 
 const ARCHIVE: &str = "libcefrodil.a";
 const HOW: &str =
-    "build it with `c/build FOLDER` and set CEFRODIL_LIB to FOLDER/lib, or PKG_CONFIG_PATH to FOLDER/lib/pkgconfig \
-    (if pkg-config looks there already, run `cargo clean -p cefrodil`)";
+    "unpack a release with `c/unpack FOLDER`, or build it with `c/build FOLDER`, and set CEFRODIL_LIB to FOLDER/lib, or PKG_CONFIG_PATH to \
+    FOLDER/lib/pkgconfig (if pkg-config looks there already, run `cargo clean -p cefrodil`)";
 // Before version 1.0 another minor version may differ in its calls.
 const SERIES: &str = concat!(env!("CARGO_PKG_VERSION_MAJOR"), ".", env!("CARGO_PKG_VERSION_MINOR"), ".");
 
@@ -15,7 +15,8 @@ fn main() {
     for name in ["CEFRODIL_LIB", "PKG_CONFIG", "PKG_CONFIG_PATH", "PKG_CONFIG_LIBDIR"] {
         println!("cargo::rerun-if-env-changed={name}");
     }
-    let here = PathBuf::from(env::var_os("CARGO_MANIFEST_DIR").expect("cargo sets CARGO_MANIFEST_DIR")).join("native");
+    let top = PathBuf::from(env::var_os("CARGO_MANIFEST_DIR").expect("cargo sets CARGO_MANIFEST_DIR"));
+    let here = top.join("native");
     let folder = if let Some(named) = env::var_os("CEFRODIL_LIB").map(PathBuf::from) {
         if !named.is_absolute() {
             fail(&format!("CEFRODIL_LIB must be an absolute path, and not {}", named.display()));
@@ -27,7 +28,7 @@ fn main() {
     } else if here.join(ARCHIVE).is_file() {
         here
     } else {
-        known().unwrap_or_else(|| {
+        known().or_else(|| released(&top)).unwrap_or_else(|| {
             // Without an archive `cargo check` and `cargo doc` work, so this is no error yet.
             println!("cargo::warning=there is no {ARCHIVE} in {}, nor where pkg-config looks: {HOW}", here.display());
             here
@@ -55,6 +56,28 @@ fn known() -> Option<PathBuf> {
     // Some versions of pkg-config put a backslash before a space.
     let folder = PathBuf::from(answer("--variable=libdir")?.replace('\\', ""));
     folder.join(ARCHIVE).is_file().then_some(folder)
+}
+
+/// Unpacks the archive of the release, if it is there and this is the system that it is for.
+fn released(top: &Path) -> Option<PathBuf> {
+    let name = concat!("cefrodil-", env!("CARGO_PKG_VERSION"), "-x86_64-linux.tar.xz");
+    let packed = top.join("../release").join(name);
+    let is_for_target = variable("CARGO_CFG_TARGET_ARCH")? == "x86_64" && variable("CARGO_CFG_TARGET_OS")? == "linux";
+    if !is_for_target || !packed.is_file() {
+        return None;
+    }
+    watch(&packed);
+    let folder = PathBuf::from(env::var_os("OUT_DIR")?);
+    let member = format!("./lib/{ARCHIVE}");
+    let unpacked = Command::new("tar").arg("-xJf").arg(&packed).arg("-C").arg(&folder).arg(member).status();
+    if !unpacked.is_ok_and(|status| status.success()) {
+        fail(&format!("cannot unpack {}: tar and xz are needed", packed.display()));
+    }
+    Some(folder.join("lib"))
+}
+
+fn variable(name: &str) -> Option<String> {
+    env::var(name).ok()
 }
 
 /// What pkg-config answers, if it is there and knows the library.

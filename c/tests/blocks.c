@@ -129,13 +129,13 @@ static void every_size(void) {
     }
 }
 
-/* No two small blocks share a pair of cache lines, and none shares one with a block of malloc. */
+/* No two blocks of up to 4,095 bytes share a pair of cache lines, and none shares one with a block of malloc. */
 static void small_blocks_are_alone(void) {
     struct full full[BLOCKS];
     void *others[BLOCKS];
     for (int n = 0; n < BLOCKS; n++) {
         others[n] = malloc((size_t)n + 1);
-        make(&full[n], (size_t)n * 7 + 1, 8);
+        make(&full[n], n < BLOCKS / 2 ? (size_t)n * 7 + 1 : (size_t)n * 65, 8);
     }
     for (int n = 0; n < BLOCKS; n++) {
         const uintptr_t first = (uintptr_t)full[n].at / 128, last = ((uintptr_t)full[n].at + full[n].size - 1) / 128;
@@ -227,6 +227,23 @@ static void regions_go_with_their_blocks(void) {
     rattle_dealloc(fulls[0].at);
     rattle_dealloc(fulls[1].at);
     MUST(in_use == before);
+}
+
+/* A block of 128 KB to 2 MB is cut from a region, which is freed with it. Any other has a block of malloc by itself. */
+static void sizes_of_blocks_of_regions(void) {
+    const struct {
+        size_t size;
+        long regions;
+    } rows[] = {{8, 0}, {4096, 0}, {(128 << 10) - 1, 0}, {128 << 10, 1}, {(128 << 10) + 1, 1}, {(2 << 20) - 1, 1}, {2 << 20, 0}, {8 << 20, 0}};
+    const long before = in_use;
+    for (size_t n = 0; n < sizeof rows / sizeof *rows; n++) {
+        struct full full;
+        regions_made = 0;
+        make(&full, rows[n].size, 8);
+        MUST(regions_made == rows[n].regions && in_use == before + 1);
+        rattle_dealloc(full.at);
+        MUST(in_use == before);
+    }
 }
 
 /* The huge pages from `first` to `end` were requested, and nothing else. */
@@ -357,6 +374,7 @@ int main(void) {
     many_at_once();
     threads_at_once();
     regions_go_with_their_blocks();
+    sizes_of_blocks_of_regions();
     huge_pages_of_large_blocks();
     huge_pages_of_regions();
     full_regions();

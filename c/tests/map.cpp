@@ -67,6 +67,8 @@ static void openings() {
     MUST(numbers.update_or_insert(1, 1, [](uint64_t n) { return n; }).status == Status::closed);
     const Computed<uint64_t> computed = numbers.find_or_compute(1, [] { return uint64_t(7); });
     MUST(computed.status == Status::closed && computed.value == 7 && computed.computed);
+    const cefrodil::MapOptions usual{100};
+    MUST(usual.entries == 100 && usual.shards == 16 && usual.passes == 64 && usual.tries == 10000);
     MUST(numbers.open({100, 4, 1024}) == Status::ok && numbers.open({100}) == Status::in_use && numbers.is_open());
     cefrodil_shape shape{};
     MUST(cefrodil_shape_for_shards(100, 4, &shape) == CEFRODIL_OK && numbers.capacity() == 4 * shape.items);
@@ -424,7 +426,7 @@ static void computations() {
 // With an argument the calls are so many times fewer, for valgrind.
 int main(int argc, char **argv) {
     const uint64_t fewer = argc > 1 ? std::strtoull(argv[1], nullptr, 10) : 1;
-    alarm(240); // so that a flight which never ends fails the test
+    alarm(argc > 1 ? 240 : 100); // so that a flight which never ends fails the test
     openings();
     answers();
     MUST(random_calls({2000}, 200, 100000 / fewer) == 0);

@@ -5,6 +5,7 @@
 #include "must.h"
 #include <chrono>
 #include <cstdlib>
+#include <unistd.h>
 
 using cefrodil::Status;
 using std::chrono::steady_clock;
@@ -66,6 +67,7 @@ static bool change(cefrodil::map<uint64_t, uint64_t> &map, uint64_t round, uint6
 int main(int argc, char **argv) {
     const uint64_t rounds = argc > 1 ? std::strtoull(argv[1], nullptr, 10) : 500000;
     const auto end = steady_clock::now() + std::chrono::seconds(5);
+    alarm(100); // so that a computation or an erasure which never ends fails the test
     cefrodil::map<uint64_t, uint64_t> map;
     MUST(map.open({100, 1}) == Status::ok);
     std::thread computing(compute, std::ref(map));

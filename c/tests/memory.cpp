@@ -6,6 +6,7 @@
 #include <chrono>
 #include <cstdlib>
 #include <new>
+#include <unistd.h>
 
 using namespace cefrodil;
 
@@ -135,20 +136,35 @@ static void put_batch(Status expected, uint64_t at) {
     MUST(at_desk[1].meter().counts().held == before + (expected == Status::held ? 40 : 0));
 }
 
-static void held_peek() {
+// Whether a call by the other pass is held, and counted once.
+template <class Call> static bool is_held(Call call) {
     const uint64_t before = at_desk[1].meter().counts().held;
-    const Answer<1> peeked = at_desk[1].try_peek(7);
-    MUST(peeked.status == Status::held && !peeked.value && at_desk[1].meter().counts().held == before + 1);
+    return inside::status_of(call(at_desk[1])) == Status::held && at_desk[1].meter().counts().held == before + 1;
 }
 
-// While a list has the turn, a peek is held, and each group of a batch, and nothing is changed.
+static void each_call_is_held() {
+    std::vector<uint64_t> list{1, 2};
+    uint64_t len = 99;
+    MUST(is_held([](auto &pass) { return pass.try_put(7, {71}); }) && is_held([](auto &pass) { return pass.put_within(3, 7, {71}); }));
+    MUST(is_held([](auto &pass) { return pass.try_put_if(7, 1, {71}); }) && is_held([](auto &pass) { return pass.try_put_if_absent(8, {80}); }));
+    MUST(is_held([](auto &pass) { return pass.try_remove(7); }) && is_held([](auto &pass) { return pass.try_swap(7, {71}); }));
+    MUST(is_held([](auto &pass) { return pass.try_swap_if(7, 1, {71}); }) && is_held([](auto &pass) { return pass.try_take(7); }));
+    MUST(is_held([](auto &pass) { return pass.try_take_if(7, 1); }) && is_held([](auto &pass) { return pass.try_peek(7); }));
+    MUST(is_held([&](auto &pass) { return pass.try_len(len); }) && len == 99);
+    MUST(is_held([&](auto &pass) { return pass.try_entries(list); }) && list.empty());
+    MUST(is_held([&](auto &pass) { return pass.try_stamped_entries(list); }) && list.empty());
+    // Lookups need no turn.
+    MUST(at_desk[1].get(7).since == 1 && at_desk[1].get_or_desk(7).since == 1 && at_desk[1].get(8).status == Status::absent);
+}
+
+// While a list has the turn, each call that needs it is held, and each group of a batch, and nothing is changed.
 static void batch_beside_a_list() {
     std::vector<uint64_t> list;
     list.reserve(100);
     MUST(open_desk(shape, 2, at_desk) == Status::ok && at_desk[0].try_put(7, {70}).status == Status::ok);
     in_turn = [] {
         put_batch(Status::held, 0);
-        held_peek();
+        each_call_is_held();
     };
     MUST(at_desk[0].try_entries(list) == Status::ok && list.size() == 2 && in_turn == nullptr);
     put_batch(Status::ok, 2);
@@ -326,6 +342,7 @@ static void by_maps() {
 }
 
 int main() {
+    alarm(100); // so that a thread which waits for ever fails the test
     const long before = kept;
     apart();
     by_passes();

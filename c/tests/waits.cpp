@@ -22,8 +22,16 @@ static cefrodil_status some_put(cefrodil_handle *pass, uint64_t key, const uint6
 }
 // Before so many removals on a condition the key is put anew, as by another thread. Before so many puts on a condition the entry is.
 static uint32_t overtaken = 0, overtaken_puts = 0;
-// Before so many puts of absent keys the key is put with the value 99, and before so many removals the key is removed, as by another thread.
-static uint32_t put_before = 0, removed_before = 0;
+// Before so many puts of absent keys the key is put with the value 99, and before so many removals the key is removed, as by another thread. It is
+// also removed before so many puts and removals on a condition.
+static uint32_t put_before = 0, removed_before = 0, removed_before_condition = 0;
+
+static void remove_before_condition(cefrodil_handle *pass, uint64_t key, cefrodil_reply *reply) {
+    if (removed_before_condition != 0) {
+        removed_before_condition--;
+        MUST(cefrodil_remove(pass, key, reply) == CEFRODIL_OK);
+    }
+}
 
 static cefrodil_status some_take_if(cefrodil_handle *pass, uint64_t key, uint64_t since, uint64_t *old, size_t words, cefrodil_reply *reply) {
     if (overtaken != 0) {
@@ -31,6 +39,7 @@ static cefrodil_status some_take_if(cefrodil_handle *pass, uint64_t key, uint64_
         MUST(cefrodil_get_or_desk_of_width(pass, key, old, words, reply) == CEFRODIL_OK);
         MUST(cefrodil_put_of_width(pass, key, old, words, reply) == CEFRODIL_OK);
     }
+    remove_before_condition(pass, key, reply);
     return cefrodil_take_if(pass, key, since, old, words, reply);
 }
 static cefrodil_status some_put_if(cefrodil_handle *pass, uint64_t key, uint64_t since, const uint64_t *value, size_t words, cefrodil_reply *reply) {
@@ -40,6 +49,7 @@ static cefrodil_status some_put_if(cefrodil_handle *pass, uint64_t key, uint64_t
         MUST(words == 2 && cefrodil_get_or_desk_of_width(pass, key, same, 2, reply) == CEFRODIL_OK);
         MUST(cefrodil_put_of_width(pass, key, same, 2, reply) == CEFRODIL_OK);
     }
+    remove_before_condition(pass, key, reply);
     return cefrodil_put_if(pass, key, since, value, words, reply);
 }
 static cefrodil_status some_put_if_absent(cefrodil_handle *pass, uint64_t key, const uint64_t *value, size_t words, cefrodil_reply *reply) {
@@ -50,13 +60,23 @@ static cefrodil_status some_put_if_absent(cefrodil_handle *pass, uint64_t key, c
     }
     return cefrodil_put_if_absent(pass, key, value, words, reply);
 }
+// So many removals are held.
+static uint32_t held_removals = 0;
+
 static cefrodil_status some_remove(cefrodil_handle *pass, uint64_t key, cefrodil_reply *reply) {
     if (removed_before != 0) {
         removed_before--;
         MUST(cefrodil_remove(pass, key, reply) == CEFRODIL_OK);
     }
     *reply = cefrodil_reply{};
+    if (held_removals != 0) {
+        held_removals--;
+        return CEFRODIL_HELD;
+    }
     return is_disturbed() ? cefrodil_status(CEFRODIL_HELD) : cefrodil_remove(pass, key, reply);
+}
+static cefrodil_status some_entries(cefrodil_handle *pass, uint64_t *entries, size_t words, uint64_t *count) {
+    return is_disturbed() ? cefrodil_status(CEFRODIL_HELD) : cefrodil_entries_or_none(pass, entries, words, count);
 }
 // Each key counts as a call.
 static cefrodil_status some_get_many(cefrodil_handle *pass, const uint64_t *keys, size_t count, uint64_t *values, size_t words,
@@ -70,6 +90,7 @@ static cefrodil_status some_get_many(cefrodil_handle *pass, const uint64_t *keys
 #define cefrodil_get_or_desk_of_width some_get_or_desk
 #define cefrodil_put_of_width some_put
 #define cefrodil_get_many_or_none some_get_many
+#define cefrodil_entries_or_none some_entries
 #define cefrodil_remove some_remove
 #define cefrodil_take_if some_take_if
 #define cefrodil_put_if some_put_if
@@ -156,6 +177,25 @@ static void overtaken_erasures() {
     MUST(map.erase(1) == Status::ok && overtaken == 0 && !map.find(1) && map.size() == 0);
 }
 
+// A key that another thread removes first is absent, and nothing brings it back.
+static void overtaken_by_removals() {
+    cefrodil::map<int, int> map;
+    const auto never = [](int old) { return old + 1; };
+    MUST(map.open({100, 1, 8, 5}) == Status::ok && map.insert(1, 10).status == Status::ok);
+    // The other thread counts its removal itself.
+    MUST(map.insert(2, 20).status == Status::ok);
+    removed_before_condition = 1;
+    MUST(map.erase(1) == Status::absent && removed_before_condition == 0 && !map.find(1) && map.size() == 2);
+    MUST(map.insert(1, 10).status == Status::ok);
+    removed_before_condition = 1;
+    const auto updated = map.update(1, never);
+    MUST(updated.status == Status::absent && !updated.value && removed_before_condition == 0 && !map.find(1));
+    MUST(map.insert(1, 10).status == Status::ok);
+    removed_before_condition = 1;
+    const auto first = map.update_or_insert(1, 7, never);
+    MUST(first.status == Status::ok && first.value == 7 && removed_before_condition == 0 && map.find(1) == 7);
+}
+
 // What another thread puts right before the put of a computed or a first value stays.
 static void overtaken_first_values() {
     cefrodil::map<int, int> map;
@@ -191,6 +231,22 @@ static void overtaken_puts_on_a_condition() {
     MUST(inserted.status == Status::ok && inserted.evicted && overtaken_puts == 0 && map.find(2) == 20 && !map.find(1) && map.size() == 1);
 }
 
+// The other key's entry is removed before the put over it. An insert that may not try again says `changed`, and another one finds the place free.
+static void overtaken_puts_over_another_key() {
+    cefrodil::map<int, int, Meeting> once, map;
+    MUST(once.open({100, 1, 8, 0}) == Status::ok && once.insert(1, 10).status == Status::ok);
+    removed_before_condition = 1;
+    MUST(once.insert(2, 20).status == Status::changed && removed_before_condition == 0 && !once.find(1) && !once.find(2));
+    MUST(once.insert(1, 10).status == Status::ok);
+    removed_before_condition = 1;
+    const auto first = once.update_or_insert(2, 20, [](int old) { return old; });
+    MUST(first.status == Status::changed && !first.value && !once.find(2));
+    MUST(map.open({100, 1, 8, 5}) == Status::ok && map.insert(1, 10).status == Status::ok);
+    removed_before_condition = 1;
+    const auto inserted = map.insert(2, 20);
+    MUST(inserted.status == Status::ok && !inserted.renewed && !inserted.evicted && map.find(2) == 20);
+}
+
 // `clear` goes on if another thread removes a key first.
 static void overtaken_clear() {
     cefrodil::map<int, int> map;
@@ -200,7 +256,7 @@ static void overtaken_clear() {
     }
     disturb(0);
     removed_before = 1;
-    MUST(map.clear() == Status::ok && made == 3 && removed_before == 0 && !map.contains(0) && !map.contains(1) && !map.contains(2));
+    MUST(map.clear() == Status::ok && made == 4 && removed_before == 0 && !map.contains(0) && !map.contains(1) && !map.contains(2));
 }
 
 // A thread may note that it removed a key before the one that put it has noted that. There are never fewer keys than none.
@@ -221,9 +277,27 @@ static void held_clear() {
     for (int key = 0; key < 3; key++) {
         MUST(map.insert(key, key).status == Status::ok);
     }
+    held_removals = 1;
+    disturb(0);
+    MUST(map.clear() == Status::held && made == 1 && held_removals == 0 && map.size() == 3);
+    MUST(map.clear() == Status::ok && made == 5 && map.size() == 0);
+    MUST(map.insert(1, 10).status == Status::ok);
     disturb(1);
-    MUST(map.clear() == Status::held && made == 1 && map.size() == 3);
-    MUST(map.clear() == Status::ok && made == 4 && map.size() == 0);
+    MUST(map.clear() == Status::held && made == 1 && map.size() == 1 && map.find(1) == 10);
+}
+
+// A list that is held is repeated, and so is a removal.
+static void clear_that_waits() {
+    cefrodil::map<int, int> map;
+    MUST(map.open({100, 1, 8, 50}) == Status::ok && map.insert(1, 10).status == Status::ok);
+    disturb(50);
+    MUST(map.clear() == Status::ok && made == 52 && waited(43, 0) && map.size() == 0);
+    MUST(map.insert(1, 10).status == Status::ok);
+    disturb(51);
+    MUST(map.clear() == Status::held && made == 51 && waited(43, 0) && map.find(1) == 10);
+    held_removals = 50;
+    disturb(0);
+    MUST(map.clear() == Status::ok && made == 2 && held_removals == 0 && waited(43, 0) && map.size() == 0);
 }
 
 // Of many keys, those that are busy are looked up again.
@@ -235,13 +309,21 @@ static void many_keys() {
     for (int i = 0; i < 50; i++) {
         keys[i] = 1 + i % 3;
     }
-    for (uint32_t busy : {0, 1, 31, 32}) {
-        disturb(busy);
-        MUST(map.find_many(keys, 50, values) == 34 && made == 50 + busy && waited(0, 0));
+    // So many keys are busy, of the first 32 that one call looks up. Then the first key is, again and again.
+    const struct {
+        uint32_t busy;
+        uint64_t yields, sleeps;
+    } rows[] = {{0, 0, 0}, {1, 0, 0}, {31, 0, 0}, {32, 0, 0}, {33, 0, 0}, {34, 0, 0}, {100, 61, 0}, {1032, 193, 800}};
+    for (const auto &row : rows) {
+        disturb(row.busy);
+        MUST(map.find_many(keys, 50, values) == 34 && made == 50 + row.busy && waited(row.yields, row.sleeps));
         for (int i = 0; i < 50; i++) {
             MUST(keys[i] == 3 ? !values[i] : values[i] == 10 * keys[i]);
         }
     }
+    // One that stays busy is a miss.
+    disturb(1033);
+    MUST(map.find_many(keys, 50, values) == 33 && !values[0] && values[1] == 20 && made == 50 + 1032 && waited(193, 800));
 }
 
 int main() {
@@ -250,11 +332,14 @@ int main() {
     calls({100, 16, 64, 50}, 50, 43, 0);
     lookups();
     overtaken_erasures();
+    overtaken_by_removals();
     overtaken_first_values();
     overtaken_puts_on_a_condition();
+    overtaken_puts_over_another_key();
     overtaken_clear();
     removed_before_it_counts();
     held_clear();
+    clear_that_waits();
     many_keys();
     return outcome("waits");
 }

@@ -43,6 +43,12 @@ static inline __attribute__((always_inline)) void serves(size_t words, size_t ot
 
     MUST(cefrodil_put(&reader, 5, first, words, &reply) == CEFRODIL_KIND && cefrodil_put(&reader, 5, first, unknown(words), &reply) == CEFRODIL_KIND);
     MUST(cefrodil_put(&reader, 5, first, other, &reply) == CEFRODIL_KIND && cefrodil_put(&reader, 5, first, unknown(other), &reply) == CEFRODIL_KIND);
+    MUST(cefrodil_get_or_desk(&reader, 5, found, words, &reply) == CEFRODIL_KIND);
+    MUST(cefrodil_get_or_desk(&reader, 5, found, unknown(words), &reply) == CEFRODIL_KIND);
+    MUST(cefrodil_get_or_desk(&writer, 5, found, words, &reply) == CEFRODIL_KIND);
+    MUST(cefrodil_get_or_desk(&writer, 5, found, unknown(words), &reply) == CEFRODIL_KIND);
+    MUST(cefrodil_get_or_desk(&none, 5, found, words, &reply) == CEFRODIL_CLOSED);
+    MUST(cefrodil_get_or_desk(&none, 5, found, unknown(words), &reply) == CEFRODIL_CLOSED);
     MUST(cefrodil_put(&none, 5, first, words, &reply) == CEFRODIL_CLOSED && cefrodil_get(&none, 5, found, words, &reply) == CEFRODIL_CLOSED);
     MUST(cefrodil_get(&none, 5, found, unknown(words), &reply) == CEFRODIL_CLOSED && is_found(found, second, words));
     MUST(cefrodil_close(&reader) == CEFRODIL_OK && cefrodil_close(&writer) == CEFRODIL_OK);

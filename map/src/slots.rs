@@ -66,6 +66,8 @@ impl<P: 'static> Slots<P> {
     /// The thread's own pass and its counts, unless it has none. `None`, too, if the pass is borrowed: if a call by it were to call this.
     #[inline]
     pub fn own(self: &Arc<Self>) -> Option<(RefMut<'_, P>, &Counts)> {
+        #[cfg(test)]
+        before_call();
         let slot = self.mine()?;
         Some((slot.pass.try_borrow_mut().ok()?, &slot.counts))
     }
@@ -210,4 +212,21 @@ impl Drop for Claims {
             }
         }
     }
+}
+
+#[cfg(test)]
+fn before_call() {
+    CALLS.set(CALLS.get() + 1);
+    match BEFORE_CALL.take() {
+        Some((0, act)) => act(),
+        later => BEFORE_CALL.set(later.map(|(calls, act)| (calls - 1, act))),
+    }
+}
+
+#[cfg(test)]
+thread_local! {
+    /// How many calls of an index this thread has made, if it has a pass.
+    pub(crate) static CALLS: Cell<u32> = const { Cell::new(0) };
+    /// What a test does before a call of this thread: after so many others.
+    pub(crate) static BEFORE_CALL: Cell<Option<(u32, Box<dyn FnOnce()>)>> = const { Cell::new(None) };
 }

@@ -5,6 +5,7 @@ use cefrodil_map::Map;
 use cefrodil_map::ObjectMap;
 use std::hint::spin_loop;
 use std::sync::atomic::{AtomicU64, Ordering::Acquire, Ordering::Relaxed, Ordering::Release};
+use std::sync::Mutex;
 use std::thread;
 
 const KEY: u64 = 7;
@@ -46,6 +47,15 @@ impl Store {
     }
 }
 
+/// The last step of a thread, also if it panics: then no other thread waits for it.
+struct Last<'a>(&'a Line);
+
+impl Drop for Last<'_> {
+    fn drop(&mut self) {
+        self.0 .0.store(u64::MAX, Release);
+    }
+}
+
 // Waits until a thread has come so far.
 fn wait(step: &Line, number: u64) {
     for spun in 0_u64.. {
@@ -66,17 +76,21 @@ fn pause(seed: &mut u64) {
     (0..(*seed >> 33) % SPINS).for_each(|_| spin_loop());
 }
 
-// In how many rounds the map keeps a value that is older than the removal. `compute` is `get_or_insert_with` of the key.
-fn late(compute: impl Fn(&Store) -> u64 + Sync, remove: impl Fn(), get: impl Fn() -> Option<u64>) -> usize {
+// In no round does the map keep a value that is older than the removal. `compute` is `get_or_insert_with` of the key.
+fn check(compute: impl Fn(&Store) -> u64 + Sync, remove: impl Fn(), get: impl Fn() -> Option<u64>) {
+    // One test at a time: with more threads than processors, what the tests look for comes less often.
+    static ALONE: Mutex<()> = Mutex::new(());
+    let _alone = ALONE.lock();
     let store = Store::new();
     let (begun, ended) = (Line::default(), Line::default());
-    thread::scope(|threads| {
+    let late = thread::scope(|threads| {
         threads.spawn(|| {
             while ended.0.load(Acquire) < ROUNDS {
                 store.change_record(0);
             }
         });
         threads.spawn(|| {
+            let _last = Last(&ended);
             let mut seed = 1;
             for round in 1..=ROUNDS {
                 wait(&begun, round);
@@ -85,6 +99,7 @@ fn late(compute: impl Fn(&Store) -> u64 + Sync, remove: impl Fn(), get: impl Fn(
                 ended.0.store(round, Release);
             }
         });
+        let _last = Last(&begun);
         let mut seed = 2;
         let is_late = |round: &u64| {
             begun.0.store(*round, Release);
@@ -97,7 +112,8 @@ fn late(compute: impl Fn(&Store) -> u64 + Sync, remove: impl Fn(), get: impl Fn(
             late
         };
         (1..=ROUNDS).filter(is_late).count()
-    })
+    });
+    assert_eq!(late, 0, "so often the map kept an older value");
 }
 
 // Without optimization the way from the look for computations to the next read of the store is too long.
@@ -105,12 +121,7 @@ fn late(compute: impl Fn(&Store) -> u64 + Sync, remove: impl Fn(), get: impl Fn(
 #[cfg_attr(debug_assertions, ignore = "it would see nothing")]
 fn a_removal_comes_after_what_its_thread_did_before() {
     let map = Map::<u64, u64>::new(100).unwrap();
-    let compute = |store: &Store| map.get_or_insert_with(&KEY, || store.read());
-    let remove = || {
-        map.remove(&KEY).unwrap();
-    };
-    let late = late(compute, remove, || map.get(&KEY));
-    assert_eq!(late, 0, "so often the map kept an older value");
+    check(|store| map.get_or_insert_with(&KEY, || store.read()), || assert!(map.remove(&KEY).is_ok()), || map.get(&KEY));
 }
 
 #[test]
@@ -118,12 +129,7 @@ fn a_removal_comes_after_what_its_thread_did_before() {
 #[cfg_attr(debug_assertions, ignore = "it would see nothing")]
 fn so_does_a_removal_of_an_object() {
     let map = ObjectMap::<u64, u64>::new(100).unwrap();
-    let compute = |store: &Store| map.get_or_insert_with(&KEY, || store.read());
-    let remove = || {
-        map.remove(&KEY).unwrap();
-    };
-    let late = late(compute, remove, || map.get(&KEY));
-    assert_eq!(late, 0, "so often the map kept an older value");
+    check(|store| map.get_or_insert_with(&KEY, || store.read()), || assert!(map.remove(&KEY).is_ok()), || map.get(&KEY));
 }
 
 // The value that is computed comes to the map once the map is clear: before, it would be removed.
@@ -137,7 +143,5 @@ fn so_does_a_clear() {
         (0..SPINS).for_each(|_| spin_loop());
         number
     };
-    let compute = |store: &Store| map.get_or_insert_with(&KEY, || make(store));
-    let late = late(compute, || map.clear().unwrap(), || map.get(&KEY));
-    assert_eq!(late, 0, "so often the map kept an older value");
+    check(|store| map.get_or_insert_with(&KEY, || make(store)), || assert!(map.clear().is_ok()), || map.get(&KEY));
 }

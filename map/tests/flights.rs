@@ -1,5 +1,8 @@
 //! `get_or_insert_with`: one thread computes and the others wait. What `inside/flights.rs` leaves open.
+mod ends;
+
 use cefrodil_map::Map;
+use ends::ends;
 use std::sync::atomic::{AtomicU64, Ordering::SeqCst};
 use std::sync::Barrier;
 use std::thread;
@@ -10,6 +13,10 @@ const KEY: u64 = 7;
 
 #[test]
 fn one_thread_computes_for_all() {
+    ends(compute_for_all);
+}
+
+fn compute_for_all() {
     const THREADS: usize = 4;
     let map = Map::<String, u64>::new(1_000).unwrap();
     let (made, start) = (AtomicU64::new(0), Barrier::new(THREADS));
@@ -44,6 +51,10 @@ fn an_error_puts_nothing() {
 
 #[test]
 fn a_computation_may_call_the_map() {
+    ends(compute_within_a_computation);
+}
+
+fn compute_within_a_computation() {
     let map = Numbers::new(100).unwrap();
     let value = map.get_or_insert_with(&KEY, || {
         let inner = map.get_or_insert_with(&KEY, || 1);
@@ -58,6 +69,10 @@ fn a_computation_may_call_the_map() {
 // complete before the lookup.
 #[test]
 fn a_map_before_a_store_does_not_fall_behind() {
+    ends(change_a_store);
+}
+
+fn change_a_store() {
     const KEYS: usize = 4;
     const ROUNDS: usize = 3_000;
     let store: [AtomicU64; KEYS] = Default::default();

@@ -1,7 +1,6 @@
 //! What can't be opened says why, and each error has a text.
 use cefrodil_map::{Builder, ClearError, GetError, InsertError, Map, OpenError, RemoveError, UpdateError};
 use std::collections::hash_map::RandomState;
-use std::collections::HashSet;
 use std::error::Error;
 use std::time::Duration;
 
@@ -35,36 +34,48 @@ fn there_is_room_for_what_was_asked_for() {
 }
 
 #[test]
-fn each_error_has_a_text_of_its_own() {
+fn each_error_has_its_text() {
+    const BUSY: &str = "writes disturbed each lookup";
+    const HELD: &str = "other threads held the shard's turn";
+    const CONTENDED: &str = "other threads changed the key each time";
+    const NO_MEMORY: &str = "out of memory";
+    const SPENT: &str = "the shard has made all its changes";
     let index = cefrodil::OpenError::Processor;
-    let all: [Box<dyn Error>; 20] = [
-        Box::new(OpenError::Capacity),
-        Box::new(OpenError::Shards),
-        Box::new(OpenError::Threads),
-        Box::new(OpenError::Index(index)),
-        Box::new(GetError::Computing),
-        Box::new(InsertError::NoPlace),
-        Box::new(InsertError::AllRecent),
-        Box::new(InsertError::NoTimeToLive),
-        Box::new(RemoveError::Busy),
-        Box::new(RemoveError::Held),
-        Box::new(RemoveError::Contended),
-        Box::new(RemoveError::Spent),
-        Box::new(ClearError::NoMemory),
-        // These have the texts of others.
-        Box::new(UpdateError::Busy),
-        Box::new(UpdateError::Contended),
-        Box::new(UpdateError::Insert(InsertError::Held)),
-        Box::new(GetError::Busy),
-        Box::new(ClearError::Held),
-        Box::new(ClearError::Spent),
-        Box::new(InsertError::Spent),
+    let all: [(Box<dyn Error>, &str); 22] = [
+        (Box::new(OpenError::Capacity), "the capacity must be at least 1, and at most 3774873 for each shard"),
+        (Box::new(OpenError::Shards), "the number of shards must be a power of two from 1 to 256"),
+        (Box::new(OpenError::Threads), "at most 1023 threads can have a pass of their own"),
+        (Box::new(OpenError::NoMemory), NO_MEMORY),
+        (Box::new(OpenError::Index(index)), "the processor is older than x86-64-v2"),
+        (Box::new(GetError::Busy), BUSY),
+        (Box::new(GetError::Computing), "another thread computes the value"),
+        (Box::new(InsertError::Held), HELD),
+        (Box::new(InsertError::NoPlace), "there is no place for the key"),
+        (Box::new(InsertError::AllRecent), "the shard is full, and each entry was used again"),
+        (Box::new(InsertError::NoTimeToLive), "the map was opened without a time to live"),
+        (Box::new(InsertError::Spent), SPENT),
+        (Box::new(RemoveError::Busy), BUSY),
+        (Box::new(RemoveError::Held), HELD),
+        (Box::new(RemoveError::Contended), CONTENDED),
+        (Box::new(RemoveError::Spent), SPENT),
+        (Box::new(UpdateError::Busy), BUSY),
+        (Box::new(UpdateError::Contended), CONTENDED),
+        (Box::new(UpdateError::Insert(InsertError::NoPlace)), "there is no place for the key"),
+        (Box::new(ClearError::Held), HELD),
+        (Box::new(ClearError::NoMemory), NO_MEMORY),
+        (Box::new(ClearError::Spent), SPENT),
     ];
-    let texts: HashSet<String> = all.iter().map(ToString::to_string).collect();
-    assert_eq!(texts.len(), 13, "{texts:?}");
-    assert!(texts.iter().all(|text| !text.is_empty()));
-    assert_eq!(OpenError::Index(index).to_string(), index.to_string());
-    assert_eq!(InsertError::NoPlace.to_string(), "there is no place for the key");
+    for (error, text) in all {
+        assert_eq!(error.to_string(), text, "{error:?}");
+    }
+}
+
+// An opening with the most entries of a shard would take much memory, and one with one more says so at once.
+#[test]
+fn a_shard_has_so_many_entries_at_most() {
+    const MOST: usize = 3_774_873;
+    let too_many = |capacity, shards| open(Map::builder(capacity).shards(shards).threads(0)) == Err(OpenError::Capacity);
+    assert!(too_many(MOST + 1, 1) && too_many(4 * MOST, 4) && too_many(256 * MOST, 256));
 }
 
 #[test]

@@ -2,8 +2,8 @@
 //! in turn: the archive and the crate allocate by this program's own functions. A list allocates in its turn, so a batch of another pass is
 //! held meanwhile.
 use cefrodil::{
-    Cache, Desk, EndError, Entry, ListError, NoDesk, NotEnded, OpenError, Pass, Put, PutError, Shape, Shards, TurnError, Why,
-    Writer,
+    Cache, Desk, EndError, Entry, ListError, NoDesk, NotEnded, OpenError, Pass, Put, PutError, Reply, Shape, Shards, TurnError,
+    Why, Writer,
 };
 use std::cell::{Cell, RefCell};
 use std::error::Error;
@@ -230,6 +230,63 @@ fn a_batch_beside_a_list_is_held() -> Tested {
     let told = BESIDE.take().map(|mut pass| put_batch(&mut pass)).ok_or("no pass")?;
     assert_eq!(told.map(|put| put.map(Put::at)), std::array::from_fn(|n| Ok(2 + n as u64)));
     assert_eq!(passes[0].get(139).value(), Some([39]));
+    Ok(())
+}
+
+// Each call that tries for the turn is held, and each but a batch's is counted once. Lookups need no turn.
+fn call_beside() -> bool {
+    BESIDE.with_borrow_mut(|pass| {
+        let Some(pass) = pass else { return false };
+        let is_held = pass.try_len() == Err(TurnError::Held);
+        if is_held {
+            each_call_is_held(pass);
+        }
+        is_held
+    })
+}
+
+fn each_call_is_held(pass: &mut Pass<1>) {
+    let meter = pass.meter();
+    type Call = fn(&mut Pass<1>) -> bool;
+    let calls: [Call; 14] = [
+        |pass| pass.try_put(7, &[71]) == Err(TurnError::Held),
+        |pass| pass.put_within(3, 7, &[71]) == Err(TurnError::Held),
+        |pass| pass.try_put_if(7, 1, &[71]) == Err(TurnError::Held),
+        |pass| pass.try_put_if_absent(8, &[80]) == Err(TurnError::Held),
+        |pass| pass.try_remove(7) == Err(TurnError::Held),
+        |pass| pass.try_swap(7, &[71]) == Err(TurnError::Held),
+        |pass| pass.try_swap_if(7, 1, &[71]) == Err(TurnError::Held),
+        |pass| pass.try_take(7) == Err(TurnError::Held),
+        |pass| pass.try_take_if(7, 1) == Err(TurnError::Held),
+        |pass| pass.try_peek(7).is_none(),
+        |pass| pass.try_len() == Err(TurnError::Held),
+        |pass| pass.try_entries() == Err(TurnError::Held),
+        |pass| pass.try_stamped_entries() == Err(TurnError::Held),
+        |pass| {
+            let mut told = [Ok(Put::Renewed { at: 0 })];
+            pass.try_put_many(&[(7, [71])], &mut told);
+            told == [Err(TurnError::Held)]
+        },
+    ];
+    for (number, call) in calls.into_iter().enumerate() {
+        let before = meter.counts().held;
+        assert!(call(pass), "call {number}");
+        assert_eq!(meter.counts().held, before + u64::from(cfg!(feature = "counts")), "call {number}");
+    }
+    let found = Reply::Found { value: [70], at: 1, since: 1 };
+    assert_eq!((pass.get(7), pass.get_or_desk(7), pass.get(8), pass.capacity()), (found, found, Reply::Absent { at: 1 }, 100));
+}
+
+#[test]
+fn each_call_beside_a_list_is_held() -> Tested {
+    let mut passes = Desk::<1>::open(&Shape::for_items(100)?, 2)?.into_passes();
+    BESIDE.set(passes.pop());
+    passes[0].try_put(7, &[70])?;
+    IN_TURN.set(Some(call_beside));
+    assert_eq!(passes[0].try_entries()?, [(7, [70])]);
+    assert!(IN_TURN.take().is_none(), "the list took no memory in its turn");
+    assert_eq!((passes[0].get(7), passes[0].try_len()?), (Reply::Found { value: [70], at: 1, since: 1 }, 1));
+    drop(BESIDE.take());
     Ok(())
 }
 

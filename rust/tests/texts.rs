@@ -1,5 +1,8 @@
 //! Each status that is an error in Rust has the text of the archive. If one has another, the table says so.
-use cefrodil::{EndError, ListError, OpenError, PutError, PutIfAbsentError, PutIfError, Spent, TurnError, Why};
+use cefrodil::{
+    Cache, Desk, EndError, ListError, NoDesk, NotEnded, OpenError, PutError, PutIfAbsentError, PutIfError, Shape, Spent,
+    TurnError, Why,
+};
 use std::ffi::{c_char, CStr};
 
 extern "C" {
@@ -64,4 +67,22 @@ fn errors_that_say_more_have_texts_of_their_own() {
     let version = OpenError::Version { archive: 12_345, crate_version: 120_007 };
     assert_eq!(version.to_string(), "libcefrodil.a has version 1.23.45, and the crate 12.0.7");
     assert_eq!(EndError::NoWriter.to_string(), "no pass got the writer, since one was forgotten");
+}
+
+#[test]
+fn a_desk_that_is_not_made_or_does_not_end_says_why() {
+    let shape = Shape::for_items(10).expect("a shape");
+    for (why, text) in [
+        (OpenError::Readers, "there must be passes, and no more than the cache has readers to spare"),
+        (OpenError::NoMemory, "no memory"),
+    ] {
+        let (writer, _readers) = Cache::<1>::open(&shape, 1).expect("a cache");
+        assert_eq!(NoDesk { writer, why }.to_string(), text);
+    }
+    for (why, text) in
+        [(EndError::NoMemory, "no memory"), (EndError::NoWriter, "no pass got the writer, since one was forgotten")]
+    {
+        let desk = Desk::<1>::open(&shape, 1).expect("a desk");
+        assert_eq!(NotEnded { desk, readers: Vec::new(), why }.to_string(), text);
+    }
 }

@@ -1,6 +1,9 @@
-//! A call is made again only while it is held, and at most as often as it may be.
+//! A call is made again only while it is held, and at most as often as it may be. So is a put with many tries.
 use cefrodil::{Desk, Shape, Shards, Spent, Take, TurnError};
 use std::cell::Cell;
+use std::sync::atomic::{AtomicBool, Ordering::SeqCst};
+use std::thread;
+use std::time::{Duration, Instant};
 
 /// Makes a call that is held this often, and takes key 1 then: what came of it, and how often it was made.
 fn tried(tries: u32, held: u32) -> (Result<Take<1>, TurnError<Spent>>, u32) {
@@ -37,4 +40,30 @@ fn a_refusal_is_returned_at_once() {
         pass.try_remove(1)
     });
     assert_eq!((told, calls), (Err(TurnError::Call(Spent)), 1));
+}
+
+// Another thread lists the entries again and again, so that it has the turn most of the time.
+#[test]
+fn a_put_with_many_tries_gets_the_turn_that_one_try_was_refused() {
+    const KEYS: u64 = 10_000;
+    const LONG: Duration = Duration::from_secs(60);
+    let mut passes = Desk::<1>::open(&Shape::for_items(KEYS as u32).unwrap(), 2).unwrap().into_passes();
+    let (mut lists, mut puts) = (passes.remove(0), passes.remove(0));
+    (0..KEYS).for_each(|key| assert!(puts.try_put(key, &[key]).is_ok()));
+    let (end, begin, mut refused, mut lost) = (AtomicBool::new(false), Instant::now(), 0, 0);
+    thread::scope(|threads| {
+        threads.spawn(|| {
+            while !end.load(SeqCst) {
+                let _ = lists.try_entries();
+            }
+        });
+        while refused < 5 && begin.elapsed() < LONG {
+            if puts.try_put(1, &[1]) == Err(TurnError::Held) {
+                refused += 1;
+                lost += u32::from(puts.put_within(u32::MAX, 1, &[1]).is_err());
+            }
+        }
+        end.store(true, SeqCst);
+    });
+    assert_eq!((refused, lost), (5, 0));
 }

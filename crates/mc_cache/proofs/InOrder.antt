@@ -1,5 +1,5 @@
 -- Steps that are made in order: one more.
-use Rattle.std.proofs.Common.{ℕ, ◌≡◌, List, [], ◌∷◌, ◌++◌, refl, subst}
+use Rattle.std.proofs.Common.{List, [], ◌∷◌, ◌++◌, refl, subst}
 use Rattle.mc_cache.specs.Batches.{InOrder}
 
 pub one_more : {A B S : Type 0} (Step : A → S → S → B → Type 0) (xs : List A) (a : A) (s mid s' : S) (bs : List B) (b : B) → InOrder Step xs s mid bs → Step a mid s' b → InOrder Step (xs ++ a ∷ []) s s' (bs ++ b ∷ [])

@@ -1,3 +1,4 @@
 pub mod KeptMoments
 pub mod StampedLists
+pub mod Taken
 pub mod Turned

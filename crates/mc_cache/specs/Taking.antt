@@ -51,9 +51,10 @@ HasTakenIf V sh k w w' (Err (why.NotThere at)) = HasCalled V sh (RemoveCall k) w
 HasTakenIf V sh k w w' (Err (why.Changed stands)) = w' ≡ w
 HasTakenIf V sh k w w' (Err why.Spent) = (spent : Spent) × HasCalled V sh (RemoveCall k) w w' (answer.Remove (Err spent))
 
--- a removal on a condition, and what the map held of its key: its last put was the one that the caller had seen
+-- a removal on a condition, and what the map held of its key: its last put was the one that the caller had seen. That another one had changed
+-- the key comes before that the limit could be passed
 abbrev pub TakeIfMeans : (V : ℕ) → List (Change V) → List (Change V) → ℕ → ℕ → Result (Replaced V) IfError → Type 0
 TakeIfMeans V h h' k since (Ok replaced) = RemovalMeans V h h' k (Ok (removal.Removed replaced.at)) × Holds h k (Some replaced.old) × (replaced.old.since ≡ since)
 TakeIfMeans V h h' k since (Err (why.NotThere at)) = RemovalMeans V h h' k (Ok (removal.NotThere at))
 TakeIfMeans V h h' k since (Err (why.Changed stands)) = ((stays : Entry V) × Holds h k (Some stays) × (stays.since ≡ stands)) × (stands ≢ since) × (h' ≡ h)
-TakeIfMeans V h h' k since (Err why.Spent) = h' ≡ h
+TakeIfMeans V h h' k since (Err why.Spent) = ((stays : Entry V) → Holds h k (Some stays) → stays.since ≡ since) × (h' ≡ h)

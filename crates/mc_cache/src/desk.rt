@@ -5,6 +5,7 @@ ghost use Rattle.mc_cache.specs.Resting.{IsAtRest, IsFit};
 
 mod batches;
 mod looking;
+mod turns;
 
 use crate::cache::Cache;
 use crate::calls::{
@@ -13,7 +14,7 @@ use crate::calls::{
 use crate::reader::Reader;
 use crate::turn::{TurnCall, get_in_turn, make_in_turn};
 use crate::writer::Writer;
-use counted_slot::{Counted, Fits, TAKEN};
+use counted_slot::{Counted, Fits};
 use mc_plan::{AbsentError, IfError, Put, PutError, Remove, Spent};
 use mc_words::Reply;
 use mc_writer::{Replaced, Swapped, Take};
@@ -28,11 +29,6 @@ pub enum DeskError<E> {
     /// The try won, and the writer's call returned this error.
     Call(E),
 }
-
-// The words of the slot. The high half says whether the writer is there.
-const HOME: u64 = 0;
-
-const AWAY: u64 = 0x1_0000_0000;
 
 // The tag is the writer as it came.
 impl<const V: usize> Fits for Writer<V> {
@@ -54,46 +50,6 @@ impl<const V: usize> Model for Desk<V> {
     ghost Value = { Opening };
 
     ghost view = { λ d. d.slot.value.of };
-}
-
-// The writer, while a turn has it. It is not `Drop`: a turn that forgets to give it back does not compile.
-struct Turn<const V: usize> {
-    writer: Writer<V>,
-}
-
-impl<const V: usize> Desk<V> {
-    // Takes the writer if it is there and the try wins. A word that says it is not there is left alone, so that a turn which gives it back
-    // is not in the way.
-    fn take(&self) -> Option<Turn<V>>
-        ensures { IfSome result (λ turn. IsFit V self.now turn.writer) }
-    {
-        if self.slot.load() != HOME {
-            return None;
-        }
-        let (found, claim) = self.slot.turn(HOME, TAKEN);
-        if found != HOME {
-            claim.done();
-            return None;
-        }
-        match claim.put(None, AWAY) {
-            Some(writer) => Some(Turn { writer }),
-            None => None,
-        }
-    }
-
-    // Tries once to give the writer back. If the try does not win, the writer is dropped.
-    fn give(&self, turn: Turn<V>)
-        requires { turn.writer.of ≡ self.now }
-    {
-        let Turn { writer } = turn;
-        writer.known();
-        let (found, claim) = self.slot.turn(AWAY, AWAY + TAKEN);
-        if found == AWAY {
-            let _ = claim.put(Some(writer), HOME);
-        } else {
-            claim.done();
-        }
-    }
 }
 
 impl<const V: usize> Desk<V> {
@@ -119,7 +75,7 @@ impl<const V: usize> Desk<V> {
         let Some(mut turn) = self.take() else {
             return Err(DeskError::Held);
         };
-        let answer = make_in_turn(cache, pass, &mut turn.writer, call);
+        let answer = make_in_turn(cache, pass, turn.writer(), call);
         self.give(turn);
         answer
     }
@@ -325,7 +281,7 @@ impl<const V: usize> Reader<V> {
         ensures met { IfSome result (λ reply. HasLookedInTurn V cache.now self.old self.new key reply) }
     {
         let mut turn = desk.take()?;
-        let reply = get_in_turn(cache, self, &mut turn.writer, key);
+        let reply = get_in_turn(cache, self, turn.writer(), key);
         desk.give(turn);
         Some(reply)
     }

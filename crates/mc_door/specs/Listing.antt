@@ -1,8 +1,12 @@
 -- The entries of a cache as words, as a list for C has them.
 use Rattle.std.specs.Prelude.{ℕ, ◌≡◌, ◌+◌, ◌*◌, ◌<◌, List, [], ◌∷◌, ◌++◌, drop, length}
+use Rattle.mc_words.specs.declared.no_memory.NoMemory.{NoMemory}
 use Rattle.mc_cache.specs.Plain.{AreEntriesOf, Begins, history, seen}
+use Rattle.mc_cache.specs.declared.desk.DeskError.{DeskError}
+use Rattle.mc_cache.specs.declared.desk.DeskError.TheVariants as desk
 use Rattle.mc_shards.specs.Plain.{AllBegin, AreEntriesOfAll, seens}
-use Rattle.mc_door.specs.Means.{CanChange, HasTurns}
+use Rattle.mc_shards.specs.Unlisted.{HasNotListed, HasStopped}
+use Rattle.mc_door.specs.Means.{CanChange}
 use Rattle.mc_door.specs.Roles.{Role, Writes, Reads, Passes, Shares, Idle}
 use Rattle.mc_door.specs.declared.listed.ListError.{ListError}
 use Rattle.mc_door.specs.declared.listed.ListError.TheVariants as why
@@ -42,9 +46,17 @@ HasListed V role old new count = (es : List (ℕ × List ℕ)) × AreEntries V r
 abbrev pub HasMore : (V : ℕ) → Role → ℕ → ℕ → Type 0
 HasMore V role words count = (es : List (ℕ × List ℕ)) × AreEntries V role es × (count ≡ length es) × (words < count * (1 + V))
 
--- the side does not list, its try for a turn was held, there are more entries than fit, or there is no memory
+-- the side was the one before the list and is the other after it, and the list was stopped for this reason. A writer is held by nobody
+abbrev pub HasStoppedList : (V : ℕ) → DeskError NoMemory → Role → Role → Type 0
+HasStoppedList V desk.Held (Writes w) (Writes w') = ⊥
+HasStoppedList V (desk.Call none) (Writes w) (Writes w') = w' ≡ w
+HasStoppedList V why (Passes r) (Passes r') = HasNotListed V why r r'
+HasStoppedList V why (Shares s rs) (Shares s' rs') = (s' ≡ s) × HasStopped V rs rs' why
+HasStoppedList V why _ _ = ⊥
+
+-- the side does not list, a try for a turn was held, there are more entries than fit, or there is no memory
 abbrev pub RefusesList : (V : ℕ) → Role → Role → ℕ → ListError → Type 0
 RefusesList V role role' words why.Kind = ¬ CanChange role
-RefusesList V role role' words why.Held = HasTurns role
+RefusesList V role role' words why.Held = HasStoppedList V desk.Held role role'
 RefusesList V role role' words (why.Count count) = HasMore V role' words count
-RefusesList V role role' words why.NoMemory = CanChange role
+RefusesList V role role' words why.NoMemory = (none : NoMemory) × HasStoppedList V (desk.Call none) role role'

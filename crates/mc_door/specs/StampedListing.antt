@@ -1,10 +1,12 @@
 -- The entries of a cache with their stamps as words, as a list for C has them.
 use Rattle.std.specs.Prelude.{ℕ, ◌≡◌, ◌+◌, ◌*◌, ◌<◌, List, [], ◌∷◌, ◌++◌, length, map}
+use Rattle.mc_words.specs.declared.no_memory.NoMemory.{NoMemory}
 use Rattle.mc_cache.specs.Plain.{history, seen}
 use Rattle.mc_cache.specs.Stamped.{AreStampedEntriesOf}
+use Rattle.mc_cache.specs.declared.desk.DeskError.TheVariants as desk
 use Rattle.mc_writer.specs.declared.entry.Entry.{Entry}
 use Rattle.mc_door.specs.Leaving.{IsPass}
-use Rattle.mc_door.specs.Listing.{AreWritten, SeesMore}
+use Rattle.mc_door.specs.Listing.{AreWritten, HasStoppedList, SeesMore}
 use Rattle.mc_door.specs.Means.{ChangesOneTable}
 use Rattle.mc_door.specs.Roles.{Role, Writes, Passes}
 use Rattle.mc_door.specs.declared.listed.ListError.{ListError}
@@ -34,4 +36,4 @@ abbrev pub RefusesStampedList : (V : ℕ) → Role → Role → ℕ → ListErro
 RefusesStampedList V role role' words why.Kind = (¬ ChangesOneTable role) × (role' ≡ role)
 RefusesStampedList V role role' words why.Held = IsPass role × (role' ≡ role)
 RefusesStampedList V role role' words (why.Count count) = SeesMore V role role' × HasMoreStamped V role' words count
-RefusesStampedList V role role' words why.NoMemory = SeesMore V role role' × ChangesOneTable role
+RefusesStampedList V role role' words why.NoMemory = SeesMore V role role' × ((none : NoMemory) × HasStoppedList V (desk.Call none) role role')

@@ -76,7 +76,7 @@ pub(crate) fn of_turn<T>(listed: Result<T, DeskError<NoMemory>>) -> Result<T, Li
 impl<const V: usize> Side<V> {
     fn list(&mut self, alloc: Global) -> Result<Vec<(u64, [u64; V])>, ListError>
         ensures more { SeesMore V (role_of self.old) (role_of self.new) }
-        ensures listed { MatchResult result (λ es. AreEntries V (role_of self.new) es.items) (RefusesOutright (role_of self.old)) }
+        ensures listed { MatchResult result (λ es. AreEntries V (role_of self.new) es.items) (RefusesOutright V (role_of self.old) (role_of self.new)) }
     {
         match self {
             Side::Writer(side) => match side.writer.entries(alloc, &side.cache) {

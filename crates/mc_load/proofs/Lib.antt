@@ -1,7 +1,9 @@
 pub mod Batches
 pub mod Each
 pub mod Histories
+pub mod LastMoments
 pub mod LoadRuns
+pub mod Looked
 pub mod OneShard
 pub mod Readers
 pub mod Refused

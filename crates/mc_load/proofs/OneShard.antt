@@ -16,7 +16,7 @@ unfolding shard_of
 first_of_one mix k = omega arith
 
 -- if there is one shard, it is the one that changes
-one_changes : {A : Type 0} (mix : Mix) (k : ℕ) (x y : A) (Goes : A → A → Type 0) → Goes x y → ChangesAt (shard_of mix 1 k) (x ∷ []) (y ∷ []) Goes
+pub one_changes : {A : Type 0} (mix : Mix) (k : ℕ) (x y : A) (Goes : A → A → Type 0) → Goes x y → ChangesAt (shard_of mix 1 k) (x ∷ []) (y ∷ []) Goes
 one_changes {A} mix k x y Goes goes = subst (λ (n : ℕ). ChangesAt n (x ∷ []) (y ∷ []) Goes) (sym (first_of_one mix k)) (record { before = x; after = y; was = refl; is = refl; goes = goes })
 
 -- a try at a desk
@@ -24,6 +24,12 @@ pub desk_changes : {V : ℕ} (h : Handle V) (held : DeskPass V) (k : ℕ) (new :
     → ChangesAt (shard_in (place_of h) k) (records_of h) (new ∷ []) (Goes (place_of h).shape)
 desk_changes {V} h held k new Goes is goes =
     subst (λ (x : Handle V). ChangesAt (shard_in (place_of x) k) (records_of x) (new ∷ []) (Goes (place_of x).shape)) (sym is) (one_changes held.cache.now.layout.shape.mix k held.pass new (Goes held.cache.now.layout.shape) goes)
+
+-- a lookup in a cache with no desk
+pub reader_changes : {V : ℕ} (h : Handle V) (held : CacheReader V) (k : ℕ) (new : ReaderRecord) (Goes : Shape → ReaderRecord → ReaderRecord → Type 0) → h ≡ handle.Cache held → Goes held.cache.now.layout.shape held.reader new
+    → ChangesAt (shard_in (place_of h) k) (records_of h) (new ∷ []) (Goes (place_of h).shape)
+reader_changes {V} h held k new Goes is goes =
+    subst (λ (x : Handle V). ChangesAt (shard_in (place_of x) k) (records_of x) (new ∷ []) (Goes (place_of x).shape)) (sym is) (one_changes held.cache.now.layout.shape.mix k held.reader new (Goes held.cache.now.layout.shape) goes)
 
 -- if there is no desk, nothing changes
 pub nothing_changes : {V : ℕ} (h : Handle V) (held : CacheReader V) (k : ℕ) → h ≡ handle.Cache held → ChangesAt (shard_in (place_of h) k) (records_of h) (records_of h) (λ r r'. r' ≡ r)

@@ -3,6 +3,7 @@ pub mod Drawn
 pub mod Handles
 pub mod Histograms
 pub mod Journals
+pub mod Lasts
 pub mod Parted
 pub mod Refusals
 pub mod Seats

@@ -4,6 +4,7 @@ pub mod Draws
 pub mod Inside
 pub mod LoadPrograms
 pub mod Loads
+pub mod Lookups
 pub mod ShardLoads
 pub mod Told
 pub mod Turns

@@ -1,5 +1,5 @@
 -- What a load of shards with writers in turns reports, and why there may be no report.
-use Rattle.std.specs.Prelude.{ℕ, ◌≡◌, ◌==◌, ◌+◌, ◌*◌, ◌<◌, ◌≤◌, ◌⊎◌, List, filter, length, slice_index_or, sum_by, if◌then◌else◌}
+use Rattle.std.specs.Prelude.{ℕ, ◌≡◌, ◌==◌, ◌+◌, ◌*◌, ◌<◌, ◌≤◌, ◌⊎◌, All, List, filter, length, slice_index_or, sum_by, if◌then◌else◌}
 use Rattle.mc_words.specs.Keys.{shard_of}
 use Rattle.mc_words.specs.Readers.{most_readers}
 use Rattle.mc_words.specs.Shapes.{HasShards, IsShape, RefusesShape}
@@ -11,6 +11,7 @@ use Rattle.mc_cache.specs.declared.opening.OpenError.{OpenError}
 use Rattle.mc_cache.specs.declared.opening.OpenError.TheVariants as opening
 use Rattle.mc_shards.specs.Sharded.{Sharded}
 use Rattle.mc_load.specs.Loads.{AreDrawn, AreTrue, HasKeys, is_absent, is_busy, is_found, total_of}
+use Rattle.mc_load.specs.Lookups.{HasGot, IsLastOf}
 use Rattle.mc_load.specs.declared.asked.Load.{Load}
 use Rattle.mc_load.specs.declared.error.LoadError.{LoadError}
 use Rattle.mc_load.specs.declared.error.LoadError.TheVariants as error
@@ -47,14 +48,16 @@ pub record HasAsked {V : ℕ} (load : Load) (r : ℕ) (records : List (Record V)
 abbrev pub answers_in : {V : ℕ} → Mix → ℕ → ℕ → List (Record V) → List (Record V)
 answers_in {V} mix shards n records = filter (λ (r : Record V). shard_of mix shards r.key == n) records
 
--- no answer of shard n was wrong: the changes of its keys by all writers are one history, and each answer about its keys is true of it
-pub record IsRightIn {V : ℕ} (mix : Mix) (shards : ℕ) (tries : List (Tries V)) (answers : List (List (Record V))) (n : ℕ) : Type 0 where
+-- no answer of shard n was wrong: the changes of its keys by all writers are one history, up to this last moment, and each answer about its
+-- keys is true of it
+pub record IsRightIn {V : ℕ} (mix : Mix) (shards : ℕ) (tries : List (Tries V)) (answers : List (List (Record V))) (last n : ℕ) : Type 0 where
   pub history : List (Change V)
   pub one : AreOneHistory (journals_in mix shards n tries) history
+  pub whole : length history ≡ last
   pub told : (r : ℕ) (d : List (Record V)) → r < length answers → AreTrue history (answers_in mix shards n (slice_index_or answers r d))
 
--- the readers and the writers of these shards have made all their calls, the totals add up, and if nothing is wrong all answers are right,
--- shard by shard
+-- the readers and the writers of these shards have made all their calls, each answer is that of a lookup, the totals add up, and if nothing
+-- is wrong all answers are right, shard by shard
 pub record ReportsTurns (V : ℕ) (load : Load) (shards writers : ℕ) (told : DeskReport) : Type 0 where
   pub opened : Sharded
   pub shape : opened.shape ≡ load.shape
@@ -68,20 +71,22 @@ pub record ReportsTurns (V : ℕ) (load : Load) (shards writers : ℕ) (told : D
   pub answers : List (List (Record V))
   pub readers : length answers ≡ load.readers
   pub looked : (r : ℕ) (d : List (Record V)) → r < length answers → HasAsked load r (slice_index_or answers r d)
+  pub got : All (λ (records : List (Record V)). HasGot opened records) answers
   pub found : told.found ≡ total_of is_found answers
   pub absent : told.absent ≡ total_of is_absent answers
   pub busy : told.busy ≡ total_of is_busy answers
-  pub right : told.wrong ≡ 0 → (n : ℕ) → n < shards → IsRightIn load.shape.mix shards tries answers n
+  pub right : told.wrong ≡ 0 → (n : ℕ) → n < shards → (last : ℕ) × IsLastOf V opened n last × IsRightIn load.shape.mix shards tries answers last n
   pub lookups : told.lookups ≡ load.readers * load.lookups
   pub sum : told.found + told.absent + told.busy ≡ told.lookups
   pub calls : told.calls ≡ writers * load.writes
   pub turns : told.held + told.answered ≡ told.calls
   pub few : told.changes ≤ 2 * told.answered
 
--- so they are for each writer
+-- and these are the turns of each writer
 pub record RunsTurns (V : ℕ) (load : Load) (shards writers : ℕ) (told : TurnsRun) : Type 0 where
   pub report : ReportsTurns V load shards writers told.report
   pub each : (n : ℕ) (d : Turns) → n < writers → (slice_index_or told.turns n d).held + (slice_index_or told.turns n d).answered ≡ load.writes
+  pub those : (n : ℕ) (d : Turns) (e : Tries V) → n < writers → slice_index_or told.turns n d ≡ (slice_index_or report.tries n e).turns
 
 -- ---- what is refused
 

@@ -70,7 +70,7 @@ pub(crate) fn check_shard<const V: usize>(
     requires noted { HaveAllNoted load reader_threads.now }
     requires can { CanAudit V load (length turn_threads.now) audit.old }
     ensures can { CanAudit V load (length turn_threads.now) audit.new }
-    ensures right { result ≡ 0 → IsRightIn share.mix share.shards (all_tries turn_threads.now) (answers_of reader_threads.now) share.shard }
+    ensures right { result ≡ 0 → IsRightIn share.mix share.shards (all_tries turn_threads.now) (answers_of reader_threads.now) last share.shard }
 {
     audit.dated.clear();
     gather(load, share, turn_threads, &mut audit.dated);

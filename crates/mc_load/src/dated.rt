@@ -1,7 +1,7 @@
 //! The changes that a turn's answer reports, written down, each with its moment.
 ghost use Rattle.std.specs.Prelude.{◌≡◌, ◌+◌, ◌≤◌, ◌++◌, IfOk, vec_len, vec_capacity};
 ghost use Rattle.mc_load.specs.Dates.{put_dated, removal_dated};
-ghost use Rattle.mc_load.specs.Inside.Dates.{IsAfterEviction};
+ghost use Rattle.mc_load.specs.Inside.Dates.{IsAfterEviction, put_at, removal_at};
 
 use mc_cache::{Change, DeskError, Put, PutError, Remove, Spent};
 
@@ -21,6 +21,7 @@ pub(crate) fn note_put_at<const V: usize>(
 ) -> Option<u64>
     requires room { vec_len journal.old + 2 ≤ vec_capacity journal.old }
     requires moment { IfOk told IsAfterEviction }
+    ensures at { result ≡ put_at told }
     ensures items { journal.new.items ≡ journal.old.items ++ put_dated key value.entry told }
     ensures len { vec_len journal.new ≤ vec_len journal.old + 2 }
     ensures capacity { vec_capacity journal.old ≤ vec_capacity journal.new }
@@ -46,6 +47,7 @@ pub(crate) fn note_removal_at<const V: usize>(
     told: Result<Remove, DeskError<Spent>>,
 ) -> Option<u64>
     requires room { vec_len journal.old + 1 ≤ vec_capacity journal.old }
+    ensures at { result ≡ removal_at told }
     ensures items { journal.new.items ≡ journal.old.items ++ removal_dated key told }
     ensures len { vec_len journal.new ≤ vec_len journal.old + 1 }
     ensures capacity { vec_capacity journal.old ≤ vec_capacity journal.new }

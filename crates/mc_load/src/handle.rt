@@ -44,10 +44,13 @@ pub(crate) enum Handle<'p, const V: usize> {
 
 impl<'p, const V: usize> Handle<'p, V> {
     ghost use Rattle.mc_load.specs.Inside.Handles.{AreTold, IsTold, cache_of, place_of, records_of};
+    ghost use Rattle.mc_load.specs.Lookups.{HasLookedIn, HaveLookedIn};
 
     /// Looks a key up. If the lookup is busy and there is a desk, tries for a turn.
     pub(crate) fn get(&mut self, key: u64) -> Reply<V>
         ensures cache { cache_of self.new ≡ cache_of self.old }
+        ensures place { place_of self.new ≡ place_of self.old }
+        ensures looked { HasLookedIn V (place_of self.old) key (records_of self.old) (records_of self.new) result }
         ensures told { IsTold V self.new key result }
         ensures later { (k : ℕ) (reply : Reply V) → IsTold V self.old k reply → IsTold V self.new k reply }
     {
@@ -72,6 +75,8 @@ impl<'p, const V: usize> Handle<'p, V> {
         requires many { length replies.old ≡ length keys.now }
         ensures many { length replies.new ≡ length keys.now }
         ensures cache { cache_of self.new ≡ cache_of self.old }
+        ensures place { place_of self.new ≡ place_of self.old }
+        ensures looked { HaveLookedIn V (place_of self.old) keys.now (records_of self.old) (records_of self.new) replies.new }
         ensures told { AreTold V self.new keys.now replies.new }
         ensures later { (k : ℕ) (reply : Reply V) → IsTold V self.old k reply → IsTold V self.new k reply }
     {

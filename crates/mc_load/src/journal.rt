@@ -1,5 +1,6 @@
 //! The changes of the map that the writer's calls make, written down.
 ghost use Rattle.std.specs.Prelude.{◌≡◌, ◌+◌, ◌≤◌, ◌<◌, [], ◌∷◌, ◌++◌, vec_len, vec_capacity};
+ghost use Rattle.mc_load.specs.Inside.Dates.{put_at, removal_at};
 ghost use Rattle.mc_load.specs.Inside.Journals.{put_changes, remove_changes};
 
 use mc_cache::{Change, Put, PutError, Remove, Spent};
@@ -22,6 +23,7 @@ pub(crate) fn note_put<const V: usize>(
     told: Result<Put, PutError>,
 ) -> Option<u64>
     requires { vec_len journal.old + 2 ≤ vec_capacity journal.old }
+    ensures at { result ≡ put_at told }
     ensures items { journal.new.items ≡ journal.old.items ++ put_changes key value.entry told }
     ensures len { vec_len journal.new ≤ vec_len journal.old + 2 }
     ensures capacity { vec_capacity journal.old ≤ vec_capacity journal.new }
@@ -49,6 +51,7 @@ pub(crate) fn note_removal<const V: usize>(
     told: Result<Remove, Spent>,
 ) -> Option<u64>
     requires { vec_len journal.old + 1 ≤ vec_capacity journal.old }
+    ensures at { result ≡ removal_at told }
     ensures items { journal.new.items ≡ journal.old.items ++ remove_changes key told }
     ensures len { vec_len journal.new ≤ vec_len journal.old + 1 }
     ensures capacity { vec_capacity journal.old ≤ vec_capacity journal.new }

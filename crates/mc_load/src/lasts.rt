@@ -1,7 +1,10 @@
 //! The last moment of each shard, looked up when all workers have ended.
-ghost use Rattle.std.specs.Prelude.{◌≡◌, vec_len};
+ghost use Rattle.std.specs.Prelude.{◌≡◌, All, length, vec_len};
 ghost use Rattle.mc_words.specs.Shapes.{HasShards};
-ghost use Rattle.mc_load.specs.Inside.Workers.{HaveAllNoted};
+ghost use Rattle.mc_shards.specs.Sharded.{Sharded};
+ghost use Rattle.mc_load.specs.Inside.Handles.{place_of};
+ghost use Rattle.mc_load.specs.Inside.Lasts.{AreLasts, HasLast};
+ghost use Rattle.mc_load.specs.Inside.Workers.{AreReadersIn, HaveAllNoted, answers_of};
 
 use crate::asked::Load;
 use crate::dated::Dated;
@@ -14,6 +17,31 @@ use mc_check::key_of;
 /// The most shards.
 const MOST_SHARDS: usize = 256;
 
+/// Looks the key of a change up, if its shard has no moment yet, and notes the moment of the reply.
+fn note_last<const V: usize>(
+    handle: &mut Handle<'_, V>,
+    mix: Mix,
+    shards: u32,
+    change: &Dated<V>,
+    lasts: &mut [u64; MOST_SHARDS],
+)
+    requires { HasShards shards }
+    ensures place { place_of handle.new ≡ place_of handle.old }
+    ensures lasts { AreLasts V (place_of handle.old) mix shards lasts.old → AreLasts V (place_of handle.old) mix shards lasts.new }
+    ensures looked { AreLasts V (place_of handle.old) mix shards lasts.old →
+        HasLast V (place_of handle.old) lasts.new change.now }
+    ensures kept { AreLasts V (place_of handle.old) mix shards lasts.old →
+        (d : Dated V) → HasLast V (place_of handle.old) lasts.old d → HasLast V (place_of handle.old) lasts.new d }
+{
+    let key = key_of(&change.change);
+    let shard = mix.shard(key, shards) as usize;
+    if lasts[shard] != 0 {
+        return;
+    }
+    let reply = handle.get(key);
+    lasts[shard] = moment_of(&reply).unwrap_or(0);
+}
+
 /// Looks up a key of each shard that these changes are in and that has no moment yet.
 fn note_lasts<const V: usize>(
     handle: &mut Handle<'_, V>,
@@ -23,14 +51,13 @@ fn note_lasts<const V: usize>(
     lasts: &mut [u64; MOST_SHARDS],
 )
     requires { HasShards shards }
+    ensures place { place_of handle.new ≡ place_of handle.old }
+    ensures lasts { AreLasts V (place_of handle.old) mix shards lasts.old → AreLasts V (place_of handle.old) mix shards lasts.new }
+    ensures looked { AreLasts V (place_of handle.old) mix shards lasts.old →
+        All (HasLast V (place_of handle.old) lasts.new) journal.now }
 {
     for n in 0..journal.len() {
-        let key = key_of(&journal[n].change);
-        let shard = mix.shard(key, shards) as usize;
-        if lasts[shard] == 0 {
-            let reply = handle.get(key);
-            lasts[shard] = moment_of(&reply).unwrap_or(0);
-        }
+        note_last(handle, mix, shards, &journal[n], lasts);
     }
 }
 
@@ -45,6 +72,9 @@ pub(crate) fn last_moments<const V: usize>(
     requires noted { HaveAllNoted load reader_threads.old.items }
     ensures len { vec_len reader_threads.new ≡ vec_len reader_threads.old }
     ensures noted { HaveAllNoted load reader_threads.new.items }
+    ensures lasts { (s : Sharded) → s.shape ≡ load.shape → length s.tables ≡ shards → AreReadersIn s reader_threads.old.items →
+        AreLasts V s load.shape.mix shards result }
+    ensures answers { answers_of reader_threads.new.items ≡ answers_of reader_threads.old.items }
 {
     let mut lasts = [0; MOST_SHARDS];
     let Some(thread) = reader_threads.pop() else {

@@ -1,5 +1,5 @@
 //! A reader at work.
-ghost use Rattle.std.specs.Prelude.{ℕ, ◌≡◌, ◌+◌, ◌^◌, ◌≤◌, ◌<◌, IfSome, None, Some, length, take, vec_len, vec_capacity};
+ghost use Rattle.std.specs.Prelude.{ℕ, ◌≡◌, ◌+◌, ◌^◌, ◌≤◌, ◌<◌, ◌++◌, ◌∷◌, [], IfSome, List, None, Some, length, take, vec_len, vec_capacity};
 ghost use Rattle.mc_load.specs.Loads.{at_of, most_at_once};
 
 use crate::asked::Load;
@@ -44,8 +44,10 @@ pub fn moment_of<const V: usize>(reply: &Reply<V>) -> Option<u64>
 impl<'p, const V: usize> ReaderThread<'p, V> {
     ghost use Rattle.mc_load.specs.Drawn.{HasDrawn};
     ghost use Rattle.mc_load.specs.Inside.Drawn.{AreNext};
-    ghost use Rattle.mc_load.specs.Inside.Handles.{AreAllTold, AreTold, IsTold, cache_of};
-    ghost use Rattle.mc_load.specs.Inside.Workers.{AreNextOf, HasNotedDrawn, IsNextOf};
+    ghost use Rattle.mc_load.specs.Inside.Handles.{AreAllTold, AreTold, IsTold, cache_of, place_of};
+    ghost use Rattle.mc_load.specs.Inside.Workers.{AreNextOf, HasLookedFrom, HasNotedDrawn, IsNextOf};
+    ghost use Rattle.mc_load.specs.Lookups.{keys_in, replies_in};
+    ghost use Rattle.mc_shared.specs.Records.{ReaderRecord};
     ghost use Rattle.mc_words.specs.Readers.{most_readers};
 
     /// Writes one answer down, and passes it to the gate.
@@ -55,6 +57,8 @@ impl<'p, const V: usize> ReaderThread<'p, V> {
         ensures told { AreAllTold V self.old.handle self.old.records.items → IsTold V self.old.handle key reply.entry →
             AreAllTold V self.new.handle self.new.records.items }
         ensures drawn { (load : Load) → HasNotedDrawn V load self.old → IsNextOf V load self.old key → HasNotedDrawn V load self.new }
+        ensures key { keys_in self.new.records.items ≡ keys_in self.old.records.items ++ key ∷ [] }
+        ensures reply { replies_in self.new.records.items ≡ replies_in self.old.records.items ++ reply.entry ∷ [] }
         ensures len { length self.new.records.items ≡ length self.old.records.items + 1 }
         ensures capacity { vec_capacity self.old.records ≤ vec_capacity self.new.records }
         ensures kept { (self.new.number ≡ self.old.number) × (self.new.refused ≡ self.old.refused) }
@@ -74,6 +78,8 @@ impl<'p, const V: usize> ReaderThread<'p, V> {
         ensures told { AreAllTold V self.old.handle self.old.records.items → AreTold V self.old.handle keys.now replies.now →
             AreAllTold V self.new.handle self.new.records.items }
         ensures drawn { (load : Load) → HasNotedDrawn V load self.old → AreNextOf V load self.old keys.now → HasNotedDrawn V load self.new }
+        ensures keys { keys_in self.new.records.items ≡ keys_in self.old.records.items ++ keys.now }
+        ensures replies { replies_in self.new.records.items ≡ replies_in self.old.records.items ++ replies.now }
         ensures len { length self.new.records.items ≡ length self.old.records.items + length keys.now }
         ensures capacity { vec_capacity self.old.records ≤ vec_capacity self.new.records }
         ensures kept { (self.new.number ≡ self.old.number) × (self.new.refused ≡ self.old.refused) }
@@ -92,6 +98,9 @@ impl<'p, const V: usize> ReaderThread<'p, V> {
         requires room { vec_len self.old.records + length keys.now ≤ vec_capacity self.old.records }
         ensures told { AreAllTold V self.new.handle self.new.records.items }
         ensures cache { cache_of self.new.handle ≡ cache_of self.old.handle }
+        ensures place { place_of self.new.handle ≡ place_of self.old.handle }
+        ensures looked { (before : List ReaderRecord) → HasLookedFrom V (place_of self.old.handle) before self.old →
+            HasLookedFrom V (place_of self.old.handle) before self.new }
         ensures drawn { (load : Load) → HasNotedDrawn V load self.old → AreNextOf V load self.old keys.now → HasNotedDrawn V load self.new }
         ensures len { length self.new.records.items ≡ length self.old.records.items + length keys.now }
         ensures capacity { vec_capacity self.old.records ≤ vec_capacity self.new.records }

@@ -8,7 +8,7 @@ ghost use Rattle.mc_load.specs.ShardLoads.{who_of};
 ghost use Rattle.mc_load.specs.Turns.{stream_of};
 ghost use Rattle.mc_load.specs.Inside.Handles.{cache_of, place_of};
 ghost use Rattle.mc_load.specs.Inside.Tries.{CanTry};
-ghost use Rattle.mc_load.specs.Inside.Workers.{AreReadersOf, AreReady, CanWrite, IsReady};
+ghost use Rattle.mc_load.specs.Inside.Workers.{AreReadersIn, AreReadersOf, AreReady, CanWrite, IsReady};
 
 use crate::asked::Load;
 use crate::draws::Draws;
@@ -106,6 +106,7 @@ fn reader_thread_of<'p, const V: usize>(
     requires few { number + 1 < 2 ^ 32 }
     ensures ready { IfOk result (λ l. IsReady V load number l) }
     ensures handle { IfOk result (λ l. l.handle ≡ handle.entry) }
+    ensures many { IfOk result (λ l. l.many ≡ many) }
 {
     let draws = Draws::new(load, u64::from(number) + 1);
     let records = Vec::with_capacity(alloc, load.lookups as usize)?;
@@ -132,7 +133,9 @@ pub(crate) fn reader_threads_of<'p, const V: usize>(
     requires handles { vec_len handles ≡ load.readers }
     ensures len { IfOk result (λ ls. vec_len ls ≡ load.readers) }
     ensures ready { IfOk result (λ ls. AreReady V load ls.items) }
+    ensures many { IfOk result (λ ls. All (λ l. l.many ≡ many) ls.items) }
     ensures of { (o : Opening) → All (λ h. cache_of h ≡ Some o) handles.entry.items → IfOk result (λ ls. AreReadersOf o ls.items) }
+    ensures place { (s : Sharded) → All (λ h. place_of h ≡ s) handles.entry.items → IfOk result (λ ls. AreReadersIn s ls.items) }
 {
     let mut reader_threads = Vec::new(alloc);
     while let Some(handle) = handles.pop() {

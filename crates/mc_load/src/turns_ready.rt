@@ -62,6 +62,7 @@ fn turn_threads_of<'p, const V: usize>(
     ensures len { IfOk result (λ ts. vec_len ts ≡ writers) }
     ensures ready { (s : Sharded) → All (λ h. place_of h ≡ s) handles.old.items → IfOk result (λ ts. CanAllTry V s load ts.items) }
     ensures left { IfOk result (λ ts. vec_len handles.new ≡ load.readers) }
+    ensures place { (s : Sharded) → All (λ h. place_of h ≡ s) handles.old.items → IfOk result (λ ts. All (λ h. place_of h ≡ s) handles.new.items) }
 {
     let mut turn_threads = Vec::new(alloc);
     for number in 0..writers {

@@ -1,5 +1,5 @@
 //! What came of a load in turns is checked and added up.
-ghost use Rattle.std.specs.Prelude.{ℕ, ◌≡◌, ◌+◌, ◌*◌, ◌≤◌, ◌<◌, length, slice_index_or, sum_by, vec_len};
+ghost use Rattle.std.specs.Prelude.{ℕ, ◌≡◌, ◌+◌, ◌*◌, ◌≤◌, ◌<◌, length, slice_index, slice_index_or, sum_by, vec_len};
 ghost use Rattle.mc_words.specs.Places.{IsWidth};
 ghost use Rattle.mc_words.specs.Shapes.{HasShards};
 ghost use Rattle.mc_shards.specs.Sharded.{Sharded};
@@ -44,7 +44,8 @@ fn tries_of<const V: usize>(load: Load, turn_threads: &[TurnThread<'_, V>]) -> (
 fn turns_of<const V: usize>(load: Load, turn_threads: &[TurnThread<'_, V>]) -> [Turns; MOST_WRITERS]
     requires few { length turn_threads.now ≤ most_writers }
     requires tried { HaveTriedWhole load turn_threads.now }
-    ensures { (n : ℕ) (d : Turns) → n < length turn_threads.now → (slice_index_or result n d).held + (slice_index_or result n d).answered ≡ load.writes }
+    ensures sums { (n : ℕ) (d : Turns) → n < length turn_threads.now → (slice_index_or result n d).held + (slice_index_or result n d).answered ≡ load.writes }
+    ensures each { (n : ℕ) (d : Turns) (e : TurnThread V) → n < length turn_threads.now → slice_index_or result n d ≡ (slice_index_or turn_threads.now n e).turns }
 {
     let mut turns = [Turns::none(); MOST_WRITERS];
     for n in 0..turn_threads.len() {
@@ -70,7 +71,7 @@ fn check_all<const V: usize>(
     requires noted { HaveAllNoted load reader_threads.now }
     requires can { CanAudit V load (length turn_threads.now) audit.old }
     ensures right { result ≡ 0 → (n : ℕ) → n < shards →
-        IsRightIn load.shape.mix shards (all_tries turn_threads.now) (answers_of reader_threads.now) n }
+        IsRightIn load.shape.mix shards (all_tries turn_threads.now) (answers_of reader_threads.now) (slice_index lasts.now n) n }
 {
     let mut wrong: u64 = 0;
     for shard in 0..shards {

@@ -1,5 +1,6 @@
 pub mod Kept
 pub mod Readable
+pub mod Orders
 pub mod Paths
 pub mod Free
 pub mod Sweeps

@@ -6,6 +6,7 @@ ghost use Rattle.mc_words.specs.Chains.{Leads, NoChain};
 ghost use Rattle.mc_words.specs.Checks.{shape_of};
 ghost use Rattle.mc_words.specs.KeyParts.{HasParts};
 ghost use Rattle.mc_words.specs.Places.{IsWidth, word_count};
+ghost use Rattle.mc_search.specs.Orders.{IsFirstHoleOf, IsFirstMove, IsFirstMoveOf};
 ghost use Rattle.mc_search.specs.Paths.{IsCrowded, IsLeastPath, direct_path, path_of_move};
 ghost use Rattle.mc_search.specs.Readable.{HasSlots, IsFilled};
 ghost use Rattle.mc_search.specs.Inside.Readable.{IsFull};
@@ -35,6 +36,7 @@ pub enum Room {
 }
 
 impl Room {
+    ghost use Rattle.mc_search.specs.Orders.{IsFirstHoleOf, IsFirstMove, IsFirstMoveOf};
     ghost use Rattle.mc_search.specs.Paths.{IsCut, path_of_room};
 
     /// The room that is left once the victim is taken out: if the key that was to move is the victim, its place is a hole. A kept path is
@@ -69,6 +71,7 @@ pub fn find_hole<P: Peek>(checked: &Checked, peek: &mut P, parts: KeyParts) -> O
         IfSome result (λ hole. IsLeastPath (shape_of checked.now) (P.words peek.old) k (direct_path hole)) }
     ensures none { (k : ℕ) → HasParts (shape_of checked.now) k parts →
         IfNone result (NoChain (shape_of checked.now) (P.words peek.old) k 0) }
+    ensures first { IfSome result (IsFirstHoleOf (shape_of checked.now) (P.words peek.old) parts.first parts.second) }
     ensures kept { peek.new ≡ peek.old }
 {
     // A copy, which stays in registers while words are read.
@@ -111,6 +114,7 @@ fn move_from<P: Peek>(checked: &Checked, peek: &mut P, bucket: u32) -> Option<On
     requires full { IsFull (shape_of checked.now) (P.words peek.old) bucket }
     ensures found { IfSome result (λ m. Leads (shape_of checked.now) (P.words peek.old) bucket (m.from ∷ []) m.hole) }
     ensures none { IfNone result ((from hole : Place) → Leads (shape_of checked.now) (P.words peek.old) bucket (from ∷ []) hole → ⊥) }
+    ensures first { IfSome result (IsFirstMove (shape_of checked.now) (P.words peek.old) bucket) }
     ensures kept { peek.new ≡ peek.old }
 {
     for slot in 0..4 {
@@ -142,6 +146,7 @@ pub fn find_move<const V: usize, P: Peek>(
         IfSome result (λ m. IsLeastPath (shape_of checked.now) (P.words peek.old) k (path_of_move m)) }
     ensures none { (k : ℕ) → IsCrowded (shape_of checked.now) (P.words peek.old) k parts →
         IfNone result (0 < (shape_of checked.now).depth → NoChain (shape_of checked.now) (P.words peek.old) k 1) }
+    ensures first { IfSome result (IsFirstMoveOf (shape_of checked.now) (P.words peek.old) parts.first parts.second) }
     ensures kept { peek.new ≡ peek.old }
 {
     let table = *checked;

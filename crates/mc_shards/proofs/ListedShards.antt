@@ -1,8 +1,9 @@
 -- Shards are listed one after the other, from the last one back.
 use Rattle.std.specs.Prelude.{Err, slice_get, slice_set}
-use Rattle.std.proofs.Common.{ℕ, zero, suc, ◌≡◌, ◌+◌, ◌<◌, ◌≤◌, ◌∙◌, List, [], ◌∷◌, length, drop, set, Some, ap, arith, refl, subst, sym}
+use Rattle.std.proofs.Common.{ℕ, zero, suc, ◌≡◌, ◌+◌, ◌<◌, ◌≤◌, ◌∙◌, List, [], ◌∷◌, length, drop, set, Some, ap, arith, inl, inr, refl, subst, sym}
+use Rattle.std.proofs.Math.Nat.{eq-or-lt_of_le}
 use Rattle.std.proofs.lemmas.List.{length-map}
-use Rattle.std.proofs.lemmas.Option.{none-some, slice_get_within}
+use Rattle.std.proofs.lemmas.Option.{none-some, same_Some, slice_get_within}
 use Rattle.mc_words.specs.Keys.{shard_of}
 use Rattle.mc_words.specs.Shapes.{HasShards}
 use Rattle.mc_words.specs.declared.history.Change.{Change}
@@ -10,7 +11,7 @@ use Rattle.mc_words.specs.declared.mix.Mix.{Mix}
 use Rattle.mc_shared.specs.Records.{ReaderRecord}
 use Rattle.mc_words.specs.declared.no_memory.NoMemory.{NoMemory}
 use Rattle.mc_cache.specs.Plain.{Begins, seen}
-use Rattle.mc_cache.specs.Turns.{HasTriedToList}
+use Rattle.mc_cache.specs.Turns.{HasMetAtDesk, HasTriedToList}
 use Rattle.mc_cache.specs.declared.desk.DeskError.{DeskError}
 use Rattle.mc_cache.specs.declared.desk.DeskError.TheVariants as desk
 use Rattle.mc_shards.proofs.Dealt.{as_many}
@@ -20,7 +21,7 @@ use Rattle.mc_shards.proofs.OneMap.{all_begin_set}
 use Rattle.mc_shards.specs.Inside.Listed.{AddsShard, AreListed}
 use Rattle.mc_shards.specs.Plain.{AllBegin, AreEntriesOfAll, seens}
 use Rattle.mc_shards.specs.Sharded.{ArePassOf, ChangesAt, Sharded}
-use Rattle.mc_shards.specs.Unlisted.{HasNotListed, HasStopped}
+use Rattle.mc_shards.specs.Unlisted.{HasNotListed, HaveMetFrom, StopsAt}
 
 -- ---- lists
 pub drop_all : {A : Type 0} (xs : List A) (n : ℕ) → n ≡ length xs → drop n xs ≡ []
@@ -89,16 +90,45 @@ get_set_below (x ∷ xs) zero m y l = absurd (omega (arith, l))
 get_set_below (x ∷ xs) (suc n) zero y l = refl
 get_set_below (x ∷ xs) (suc n) (suc m) y l = get_set_below xs n m y (omega (arith, l))
 
+get_set_above : {A : Type 0} (xs : List A) (n m : ℕ) (y : A) → n < m → slice_get (slice_set xs n y) m ≡ slice_get xs m
+get_set_above [] n m y l = refl
+get_set_above (x ∷ xs) zero zero y l = absurd (omega (arith, l))
+get_set_above (x ∷ xs) zero (suc m) y l = refl
+get_set_above (x ∷ xs) (suc n) zero y l = absurd (omega (arith, l))
+get_set_above (x ∷ xs) (suc n) (suc m) y l = get_set_above xs n m y (omega (arith, l))
+
 -- the readers of the shards below are as they were
 pub still_below : {A : Type 0} (n m k : ℕ) (first xs ys : List A) (Goes : A → A → Type 0) → m ≡ n + 1 → ((i : ℕ) → i < m → slice_get xs i ≡ slice_get first i) → ChangesAt n xs ys Goes → k < n → slice_get ys k ≡ slice_get first k
 still_below n m k first xs ys Goes next same c less = ap (λ zs. slice_get zs k) c.is ∙ (get_set_below xs n k c.after less ∙ same k (omega (arith, less, next)))
 
-pub stopped : (V n m : ℕ) (first rs rs' : List ReaderRecord) (why : DeskError NoMemory) → m ≡ n + 1 → ((i : ℕ) → i < m → slice_get rs i ≡ slice_get first i) → ChangesAt n rs rs' (λ r r'. HasNotListed V why r r') → HasStopped V first rs' why
-stopped V n m first rs rs' why next same c = record {
-  shard = n;
+-- no reader has met the writer behind the last shard
+pub met_none : (V : ℕ) (s : Sharded) (rs : List ReaderRecord) (n : ℕ) → ArePassOf s rs → n ≡ length s.tables → HaveMetFrom V n rs rs
+met_none V s rs n are is i r r' from was now = absurd (omega (arith, from, is, as_many s rs are, slice_get_within rs i r was))
+
+-- what is so of the readers behind a change stays so
+pub met_behind : (V n m : ℕ) (first rs rs' : List ReaderRecord) (Goes : ReaderRecord → ReaderRecord → Type 0) → m ≡ n + 1 → HaveMetFrom V m first rs → ChangesAt n rs rs' Goes → HaveMetFrom V (n + 1) first rs'
+met_behind V n m first rs rs' Goes next met c i r r' from was now =
+    met i r r' (omega (arith, from, next)) was (sym (get_set_above rs n i c.after (omega (arith, from))) ∙ (sym (ap (λ zs. slice_get zs i) c.is) ∙ now))
+
+-- one more reader has met it
+pub met_more : (V n m : ℕ) (first rs rs' : List ReaderRecord) → m ≡ n + 1 → ((i : ℕ) → i < m → slice_get rs i ≡ slice_get first i) → HaveMetFrom V m first rs
+    → ChangesAt n rs rs' (λ r r'. HasMetAtDesk V r r') → HaveMetFrom V n first rs'
+met_more V n m first rs rs' next same met c i r r' from was now = elim (eq-or-lt_of_le from) [
+  | inl here ↦
+      let before : c.before ≡ r = same_Some c.before r (sym c.was ∙ (same n (omega (arith, next)) ∙ subst (λ (k : ℕ). slice_get first k ≡ Some r) (sym here) was)) in
+      let after : c.after ≡ r' = same_Some c.after r' (sym (get_set_same rs n c.before c.after c.was) ∙ (sym (ap (λ zs. slice_get zs n) c.is) ∙ subst (λ (k : ℕ). slice_get rs' k ≡ Some r') (sym here) now)) in
+      subst (λ (x : ReaderRecord). HasMetAtDesk V x r') before (subst (λ (x : ReaderRecord). HasMetAtDesk V c.before x) after c.goes)
+  | inr behind ↦ met_behind V n m first rs rs' _ next met c i r r' (omega (arith, behind)) was now
+]
+
+pub stopped : (V n m : ℕ) (first rs rs' : List ReaderRecord) (why : DeskError NoMemory) → m ≡ n + 1 → ((i : ℕ) → i < m → slice_get rs i ≡ slice_get first i) → HaveMetFrom V m first rs
+    → ChangesAt n rs rs' (λ r r'. HasNotListed V why r r') → StopsAt V n first rs' why
+stopped V n m first rs rs' why next same met c = record {
   before = c.before;
   after = c.after;
   was = sym (same n (omega (arith, next))) ∙ c.was;
   is = ap (λ zs. slice_get zs n) c.is ∙ get_set_same rs n c.before c.after c.was;
   failed = c.goes;
+  asked = met_behind V n m first rs rs' _ next met c;
+  left = λ i less. still_below n m i first rs rs' _ next same c less;
 }

@@ -2,7 +2,7 @@
 use denote.RattleType.{RattleType}
 use denote.Param.Send.{IsSend, IsSync, sendable}
 use Rattle.std.proofs.Crossing.{crosses}
-use Rattle.mc_shards.proofs.lending.lender.Lender.TheSendSync.{the_sync as lender_sync}
+use Rattle.mc_shards.proofs.lender.Lender.TheSendSync.{the_sync as lender_sync}
 use Rattle.mc_cache.proofs.cache.Cache.TheSendSync.{the_sync as cache_sync}
 use Rattle.mc_cache.proofs.reader.Reader.TheSendSync.{the_send as reader_send}
 use Rattle.mc_shards.specs.contracts.shards.Shards as shards

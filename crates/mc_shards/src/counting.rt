@@ -1,6 +1,7 @@
 //! The keys of all shards, counted.
 ghost use Rattle.std.specs.Prelude.{◌≡◌, ◌<◌, ◌≤◌, IfNone, IfSome, length};
 ghost use Rattle.mc_words.specs.History.{key_count};
+ghost use Rattle.mc_cache.specs.Turns.{HasMetAtDesk};
 ghost use Rattle.mc_cache.specs.declared.desk.DeskError.TheVariants as desk;
 ghost use Rattle.mc_shards.specs.Counted.{keys_in_all};
 ghost use Rattle.mc_shards.specs.Plain.{AllBegin, Begins, seens};
@@ -16,7 +17,7 @@ impl<const V: usize> Pass<V> {
         requires of { ArePassOf shards.now self.old }
         requires range { n < length shards.now.tables }
         ensures of { ArePassOf shards.now self.new }
-        ensures held { ChangesAt n self.old self.new (λ r r'. IfNone result (r' ≡ r)) }
+        ensures met { ChangesAt n self.old self.new (λ r r'. IfNone result (r' ≡ r) × IfSome result (λ _. HasMetAtDesk V r r')) }
         ensures plain { ChangesAt n (seens V self.old) (seens V self.new)
             (λ h h'. Begins h h' × IfSome result (λ many. many ≡ key_count h')) }
         ensures few { IfSome result (λ many. many ≤ shards.now.shape.items) }

@@ -2,28 +2,45 @@
 ghost use Rattle.std.specs.Prelude.{◌≡◌, ⊤, IfSome};
 ghost use Rattle.mc_shards.specs.Lending.{HasTaken, IsKept};
 
-mod lender;
-
 use atomic_table::{Play, Seat, Shared, TableRule};
-pub(crate) use lender::Lender;
 use mc_cache::Writer;
 use std::snapshot::Snapshot;
 
 // The word while the writer is there.
-const FREE: u64 = 0;
+pub(crate) const FREE: u64 = 0;
 
 // The word while a turn has the writer.
 const LENT: u64 = 1;
 
 // Only the first word is used. The others fill the rest of its cache line, so the words of two shards never share one.
-const WORDS: usize = 16;
+pub(crate) const WORDS: usize = 16;
 
 /// The rule of the word: while it is 0, the writer is there and at rest. It is the writer of the key's table.
 pub(crate) struct LiesThere;
 
-// The right to a lent writer. It is not `Drop`: a turn that forgets to give it back does not compile.
-struct Turn<const V: usize> {
+// The right to a lent writer. It is not `Drop`: a turn that forgets to give it back does not compile. No other file can take it apart.
+pub(crate) struct Turn<const V: usize> {
     seat: Seat<Writer<V>, Snapshot<Writer<V>>>,
+}
+
+impl<const V: usize> Turn<V> {
+    ghost use Rattle.std.specs.Borrow.{sem};
+    ghost use Rattle.std.specs.Prelude.{◌∷◌};
+    ghost use Rattle.atomic_table.specs.Table.{rest};
+    ghost use Rattle.mc_shards.specs.Inside.Taken.{LendsWriter};
+
+    // The writer where it lies, for the call of this turn.
+    #[inline(always)]
+    pub(crate) fn writer<'a>(
+        &'a mut self,
+        shared: &'a Shared<Writer<V>, Snapshot<Writer<V>>, Snapshot<Writer<V>>, LiesThere>,
+    ) -> &'a mut Writer<V>
+        requires turn { (self.old.seat.table_id ≡ shared.now.table_id) × HasTaken V self.old.seat.me }
+        ensures* writes_back { sem 𝓛 (LendsWriter V.row self.entry result) }
+        ensures value { self.old.seat.me.1 ≡ (0, result.now) ∷ rest self.old.seat.me.1 }
+    {
+        self.seat.slot_mut(shared, 0)
+    }
 }
 
 impl<const V: usize> TableRule<Writer<V>, Snapshot<Writer<V>>, Snapshot<Writer<V>>> for LiesThere {
@@ -55,7 +72,7 @@ impl<const V: usize> Play<Writer<V>, Snapshot<Writer<V>>> for Gives {
 
 // Takes the writer if it is there and the try wins. A word that says it is lent is not written.
 #[inline(always)]
-fn take<const V: usize>(
+pub(crate) fn take<const V: usize>(
     shared: &Shared<Writer<V>, Snapshot<Writer<V>>, Snapshot<Writer<V>>, LiesThere>,
 ) -> Option<Turn<V>>
     requires sized { (shared.now.table_id.words ≡ 16) × (shared.now.table_id.slots ≡ 1) }
@@ -73,7 +90,7 @@ fn take<const V: usize>(
 
 // Gives the writer back. Nobody else writes the word meanwhile, so this one store does it.
 #[inline(always)]
-fn give<const V: usize>(
+pub(crate) fn give<const V: usize>(
     shared: &Shared<Writer<V>, Snapshot<Writer<V>>, Snapshot<Writer<V>>, LiesThere>,
     turn: Turn<V>,
 )

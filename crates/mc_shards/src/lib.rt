@@ -20,6 +20,7 @@
 mod closing;
 mod counting;
 pub mod laws;
+mod lender;
 mod lending;
 mod listing;
 mod loading;

@@ -7,12 +7,19 @@ ghost use Rattle.mc_shards.specs.Inside.Listed.{AddsShard};
 ghost use Rattle.mc_shards.specs.Own.{own_of};
 ghost use Rattle.mc_shards.specs.Plain.{AllBegin, AreEntriesOfAll, Begins, seens};
 ghost use Rattle.mc_shards.specs.Sharded.{ArePassOf, ChangesAt};
-ghost use Rattle.mc_shards.specs.Unlisted.{HasNotListed, HasStopped};
+ghost use Rattle.mc_shards.specs.Unlisted.{HasStopped, StopsAt};
 
 use crate::pass::Pass;
 use crate::shards::Shards;
 use mc_cache::{DeskError, Mix, NoMemory};
 use std::alloc::{AllocError, Global};
+
+// The shard that stopped a list, and why.
+#[derive(Clone, Copy)]
+struct Stopped {
+    shard: usize,
+    why: DeskError<NoMemory>,
+}
 
 // Adds those of the entries that belong to the shard.
 fn list_own<const V: usize>(
@@ -64,7 +71,7 @@ impl<const V: usize> Pass<V> {
         requires of { ArePassOf shards.now self.old }
         requires range { n < length shards.now.tables }
         ensures of { ArePassOf shards.now self.new }
-        ensures failed { ChangesAt n self.old self.new (λ r r'. IfErr result (λ why. HasNotListed V why r r')) }
+        ensures met { ChangesAt n self.old self.new (λ r r'. HasTriedToList V r r' result) }
         ensures begins { ChangesAt n (seens V self.old) (seens V self.new) (λ h h'. Begins h h') }
         ensures listed { OnOk result (ChangesAt n (seens V self.old) (seens V self.new)
             (λ h h'. AddsShard V shards.now.shape.mix (length shards.now.tables) n h' all.old.items all.new.items)) }
@@ -77,6 +84,30 @@ impl<const V: usize> Pass<V> {
             return Err(DeskError::Call(NoMemory));
         };
         Ok(())
+    }
+
+    // Lists the shards, from the last one back. If one of them stops the list, the answer says which.
+    fn list_all(
+        &mut self,
+        alloc: Global,
+        shards: &Shards<V>,
+    ) -> Result<Vec<(u64, [u64; V])>, Stopped>
+        requires of { ArePassOf shards.now self.old }
+        ensures of { ArePassOf shards.now self.new }
+        ensures begins { AllBegin (seens V self.old) (seens V self.new) }
+        ensures stopped { IfErr result (λ at. StopsAt V at.shard self.old self.new at.why) }
+        ensures plain { IfOk result (λ es. AreEntriesOfAll V shards.now.shape.mix (seens V self.new) es.items) }
+    {
+        let mut all = Vec::new(alloc);
+        let mut left = shards.count() as usize;
+        while left > 0 {
+            left -= 1;
+            match self.list_shard(alloc, shards, left, &mut all) {
+                Ok(()) => {}
+                Err(why) => return Err(Stopped { shard: left, why }),
+            }
+        }
+        Ok(all)
     }
 
     /// Lists each key that the shards hold with its value, in no stated order. It tries once for the turn of each shard, so it lists
@@ -92,15 +123,9 @@ impl<const V: usize> Pass<V> {
         ensures stopped { IfErr result (λ why. HasStopped V self.old self.new why) }
         ensures plain { IfOk result (λ es. AreEntriesOfAll V shards.now.shape.mix (seens V self.new) es.items) }
     {
-        let mut all = Vec::new(alloc);
-        let mut left = shards.count() as usize;
-        while left > 0 {
-            left -= 1;
-            match self.list_shard(alloc, shards, left, &mut all) {
-                Ok(()) => {}
-                Err(why) => return Err(why),
-            }
+        match self.list_all(alloc, shards) {
+            Ok(entries) => Ok(entries),
+            Err(stopped) => Err(stopped.why),
         }
-        Ok(all)
     }
 }

@@ -14,7 +14,7 @@ ghost use Rattle.mc_shards.specs.Loadings.{new_writers};
 ghost use Rattle.mc_shards.specs.Inside.Dealt.{AreDealt};
 ghost use Rattle.mc_shards.specs.Sharded.{ArePassOf};
 
-use crate::lending::Lender;
+use crate::lender::Lender;
 use crate::pass::Pass;
 use crate::shards::Shards;
 use mc_cache::{Cache, OpenError, Reader, Shape, Writer, open};

@@ -2,7 +2,7 @@
 ghost use Rattle.std.specs.Prelude.{◌≡◌, ◌<◌, ◌*◌, Some, length, slice_get};
 ghost use Rattle.mc_shards.specs.Sharded.{shard_in};
 
-use crate::lending::Lender;
+use crate::lender::Lender;
 use mc_cache::{Cache, Shape};
 use std::marker::Model;
 

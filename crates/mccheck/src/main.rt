@@ -11,6 +11,10 @@ use std::alloc::Global;
 use std::process::ExitCode;
 use std::{env, fs, io};
 
+const VERSION: &str = "0.2.0";
+
+const USAGE: &str = "usage: mccheck LOG..";
+
 /// The exit statuses of answers that are wrong, of a log that is refused, and of a failure.
 const WRONG: u8 = 1;
 
@@ -74,15 +78,35 @@ fn refuse(rt: &HostRuntime, why: Refused, files: &[String]) -> u8 {
             if file < files.len() {
                 let _ = eprintln!(rt; "{}: line {line}: not a line of a log", files[file]);
             } else {
-                let _ = eprintln!(rt; "usage: mccheck LOG..");
+                let _ = eprintln!(rt; "{USAGE}");
             }
             REFUSED
         }
     }
 }
 
+/// Prints the version or the usage, if the command line asks for nothing else. Says whether it did.
+fn tell_of_itself(rt: &HostRuntime, words: &[String]) -> io::Result<bool> {
+    if words.len() != 1 {
+        return Ok(false);
+    }
+    let word = words[0].as_str();
+    if word == "--version" || word == "-V" {
+        println!(rt; "mccheck {VERSION}")?;
+        return Ok(true);
+    }
+    if word == "--help" || word == "-h" {
+        println!(rt; "{USAGE}")?;
+        return Ok(true);
+    }
+    Ok(false)
+}
+
 fn run(rt: &HostRuntime) -> io::Result<u8> {
     let files = files_of(rt)?;
+    if tell_of_itself(rt, files.as_slice())? {
+        return Ok(0);
+    }
     match texts_of(rt, files.as_slice()) {
         Err(n) => {
             if n < files.len() {

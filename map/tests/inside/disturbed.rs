@@ -1,19 +1,19 @@
 //! Calls that other threads disturb. With one try each, many fail. What fails says so, and has changed nothing.
-#[cfg(feature = "objects")]
-use super::done;
 use crate::flight::Boarding;
 use crate::pass::{AnyPass, MANY};
 use crate::wait::TRIES;
-#[cfg(feature = "objects")]
-use crate::{AbsentError, IfError, Look, ObjectMap};
-use crate::{ClearError, GetError, InsertError, Map, RemoveError, UpdateError};
+use crate::{ClearError, GetError, InsertError, Inserted, Map, RemoveError, UpdateError};
 use cefrodil::{Reply, Shape};
+use std::cell::Cell;
 use std::sync::atomic::{AtomicBool, Ordering::SeqCst};
 use std::thread;
 use std::time::{Duration, Instant};
 
 // So many calls of a kind must fail.
 const FAILURES: usize = 10;
+
+// How long they may take for it. On a machine with much else to do that may be long.
+const MOST: Duration = Duration::from_secs(100);
 
 // Ends other threads, also if an assertion fails.
 struct End<'a>(&'a AtomicBool);
@@ -24,8 +24,8 @@ impl Drop for End<'_> {
     }
 }
 
-// Calls `round` until each of the calls has failed so often. Beside it `disturb` is called by other threads.
-fn beside<const CALLS: usize>(disturb: impl Fn() + Sync, round: impl Fn(u64) -> [bool; CALLS]) {
+/// Calls `round` until each of the calls has failed so often. Beside it `disturb` is called by other threads.
+pub fn beside<const CALLS: usize>(disturb: impl Fn() + Sync, round: impl Fn(u64) -> [bool; CALLS]) {
     let (end, begin) = (AtomicBool::new(false), Instant::now());
     thread::scope(|threads| {
         for _ in 0..2 {
@@ -42,7 +42,7 @@ fn beside<const CALLS: usize>(disturb: impl Fn() + Sync, round: impl Fn(u64) -> 
             if failures.iter().all(|count| *count >= FAILURES) {
                 return;
             }
-            assert!(begin.elapsed() < Duration::from_secs(200), "only so many calls failed: {failures:?}");
+            assert!(begin.elapsed() < MOST, "only so many calls failed: {failures:?}");
         }
     });
 }
@@ -244,35 +244,6 @@ fn a_lookup_that_stays_busy_says_so_and_is_counted() {
     });
 }
 
-#[cfg(feature = "objects")]
-#[test]
-fn so_does_a_lookup_of_an_object() {
-    let shape = Shape { stripes: 1, tries: 1, ..Shape::for_items(100).unwrap() };
-    let map = ObjectMap::<u64, u64>::builder(1).open_shaped(&shape, 1, 1).unwrap();
-    map.insert(1, 10).unwrap();
-    let write = || done(map.insert(2, 20));
-    beside(write, |_| {
-        let before = map.stats().busy;
-        let looked = map.look(&1, |value| *value);
-        assert!(matches!(looked, Ok(Look::Found { result: 10, .. }) | Err(GetError::Busy)), "{looked:?}");
-        assert_eq!(map.stats().busy, before + u64::from(looked.is_err()));
-        let added = map.insert_if_absent(1, 11).unwrap_err().why;
-        assert!(matches!(added, AbsentError::Present { .. } | AbsentError::Busy), "{added:?}");
-        // No put has this moment.
-        let taken = map.remove_if(&1, 0);
-        assert!(matches!(taken, Err(IfError::Changed { .. } | IfError::Busy)), "{taken:?}");
-        let removed = map.remove(&1);
-        match removed {
-            Ok(was_there) => {
-                assert!(was_there);
-                while map.insert(1, 10).is_err() {}
-            }
-            Err(why) => assert!(matches!(why, RemoveError::Busy | RemoveError::Held), "{why:?}"),
-        }
-        [looked.is_err(), added == AbsentError::Busy, taken == Err(IfError::Busy), removed == Err(RemoveError::Busy)]
-    });
-}
-
 #[test]
 fn a_busy_key_of_many_is_looked_up_again() {
     let map = restless(TRIES);
@@ -289,10 +260,10 @@ fn a_busy_key_of_many_is_looked_up_again() {
     assert_eq!(map.stats().busy, 0);
 }
 
-// Only another key is written meanwhile.
+// Only another key is written meanwhile. The lookups that try once alone are busy.
 #[test]
 fn a_change_after_a_busy_lookup_is_made_once() {
-    let map = restless(TRIES);
+    let (map, busy) = (restless(TRIES), Cell::new(0));
     let write = || {
         let _ = map.insert(&2, 20);
     };
@@ -303,7 +274,32 @@ fn a_change_after_a_busy_lookup_is_made_once() {
             old.unwrap()
         };
         assert_eq!((map.update(&1, change), calls), (Ok(10), 1));
-        [map.try_get(&1) == Err(GetError::Busy)]
+        assert!(map.contains_key(&1));
+        assert_eq!(map.get_or_insert_with(&1, || unreachable!("it is there")), 10);
+        let is_busy = map.try_get(&1) == Err(GetError::Busy);
+        busy.set(busy.get() + u64::from(is_busy));
+        [is_busy]
+    });
+    assert_eq!((map.stats().busy, map.stats().misses, map.stats().refused), (busy.get(), 0, 0));
+}
+
+#[test]
+fn a_removal_that_tries_once_may_be_busy() {
+    let map = restless(TRIES);
+    let write = || {
+        let _ = map.insert(&2, 20);
+    };
+    beside(write, |_| {
+        let before = map.stats().refused;
+        let removed = map.try_remove(&1);
+        match removed {
+            Ok(old) => assert_eq!((old, map.insert(&1, 10)), (Some(10), Ok(Inserted::New))),
+            Err(why) => assert!(matches!(why, RemoveError::Busy | RemoveError::Held), "{why:?}"),
+        }
+        assert_eq!(map.stats().refused, before + u64::from(removed.is_err()));
+        let updated = map.try_update(&1, |old| old.unwrap());
+        assert!(matches!(updated, Ok(10) | Err(UpdateError::Busy | UpdateError::Insert(InsertError::Held))), "{updated:?}");
+        [removed == Err(RemoveError::Busy), updated == Err(UpdateError::Busy)]
     });
 }
 

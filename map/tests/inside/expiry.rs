@@ -1,5 +1,6 @@
 //! Values expire by a clock that the tests turn.
 use super::done;
+use crate::clock::{Clock, NEVER};
 use crate::{InsertError, Inserted, Map, UpdateError};
 use std::time::Duration;
 
@@ -164,4 +165,23 @@ fn a_map_without_a_time_to_live_has_no_deadlines() {
     let renewed = map.modify_for(&1, seconds(1), |_| 11);
     assert_eq!((renewed, map.stats().refused), (Err(UpdateError::Insert(InsertError::NoTimeToLive)), 2));
     assert_eq!(map.get(&1), Some(10));
+}
+
+// A life is counted to the nanosecond.
+#[test]
+fn a_deadline_is_so_long_after_now() {
+    let clock = Clock::new();
+    for nanos in [0, 1, 999, 1_000, 999_999, 1_000_001, 1_999_999_999, 10_u64.pow(18)] {
+        let (before, deadline, after) = {
+            let life = Duration::from_nanos(nanos);
+            (clock.deadline(Duration::ZERO), clock.deadline(life), clock.deadline(Duration::ZERO))
+        };
+        assert!(before + nanos <= deadline && deadline <= after + nanos, "{nanos} ns: {before}, {deadline}, {after}");
+        assert!(clock.has_passed(before) && clock.has_passed(after));
+    }
+    let days = clock.deadline(seconds(100 * 86_400));
+    clock.turn(seconds(99 * 86_400));
+    assert!(!clock.has_passed(days) && !clock.has_passed(NEVER));
+    clock.turn(seconds(86_400));
+    assert!(clock.has_passed(days) && !clock.has_passed(NEVER));
 }

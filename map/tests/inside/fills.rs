@@ -3,8 +3,8 @@ use super::waiting::LONG;
 use crate::clock::NEVER;
 use crate::flight::{Boarding, Leader};
 use crate::Map;
-use std::sync::mpsc::channel;
-use std::thread::{self, JoinHandle};
+use std::sync::mpsc::{channel, Receiver};
+use std::thread;
 use std::time::Instant;
 
 type Numbers = Map<u64, u64>;
@@ -31,16 +31,27 @@ fn remove(map: &Numbers) {
     assert_eq!(map.get(&KEY), None);
 }
 
-// A call that begins now, in another thread, once it has joined the key's flight or has ended. It makes 2.
-fn call(map: &Numbers) -> JoinHandle<u64> {
+// A call in another thread.
+struct Call(Receiver<u64>);
+
+impl Call {
+    // What it returns.
+    fn end(self) -> u64 {
+        self.0.recv_timeout(LONG).expect("the call does not end")
+    }
+}
+
+// A call that begins now, once it has joined the key's flight or has ended. It makes 2.
+fn call(map: &Numbers) -> Call {
     let (calls, print, begin) = (map.clone(), map.inner.print(&KEY), Instant::now());
     let before = map.inner.flights.passengers(print);
-    let thread = thread::spawn(move || calls.get_or_insert_with(&KEY, || 2));
+    let (send, receive) = channel();
+    let thread = thread::spawn(move || send.send(calls.get_or_insert_with(&KEY, || 2)));
     while map.inner.flights.passengers(print) == before && !thread.is_finished() {
         assert!(begin.elapsed() < LONG, "the call neither waits nor ends");
         thread::yield_now();
     }
-    thread
+    Call(receive)
 }
 
 #[test]
@@ -52,7 +63,7 @@ fn a_value_that_came_meanwhile_stays_and_all_get_it() {
         Ok::<u64, ()>(11)
     });
     drop(leader);
-    assert_eq!((made, waiting.join().unwrap(), map.get(&KEY)), (Ok(10), 10, Some(10)));
+    assert_eq!((made, waiting.end(), map.get(&KEY)), (Ok(10), 10, Some(10)));
 }
 
 #[test]
@@ -90,6 +101,7 @@ fn nobody_gets_the_value_before_it_is_put() {
         assert!(!flight.has_outcome());
         None
     });
+    assert!(flight.has_outcome());
     assert_eq!(flight.wait(), Some(1));
 }
 
@@ -104,7 +116,7 @@ fn a_value_that_was_found_and_removed_is_not_for_those_that_wait() {
     remove(&map);
     let later = call(&map);
     drop(leader);
-    assert_eq!((earlier.join().unwrap(), later.join().unwrap(), map.get(&KEY)), (2, 2, Some(2)));
+    assert_eq!((earlier.end(), later.end(), map.get(&KEY)), (2, 2, Some(2)));
 }
 
 #[test]
@@ -118,7 +130,7 @@ fn nor_is_one_that_came_meanwhile_and_was_removed() {
     remove(&map);
     let later = call(&map);
     drop(leader);
-    let told = (earlier.join().unwrap(), later.join().unwrap());
+    let told = (earlier.end(), later.end());
     assert_eq!((made, told, map.get(&KEY)), (Ok(1), (2, 2), Some(2)));
 }
 
@@ -130,7 +142,7 @@ fn one_that_was_computed_and_removed_is_not_for_later_calls() {
     remove(&map);
     let later = call(&map);
     drop(leader);
-    assert_eq!((earlier.join().unwrap(), later.join().unwrap(), map.get(&KEY)), (1, 2, Some(2)));
+    assert_eq!((earlier.end(), later.end(), map.get(&KEY)), (1, 2, Some(2)));
 }
 
 // A thread that is woken before it can see that the flight has ended waits on, and nobody wakes it again.
@@ -164,7 +176,7 @@ fn a_failure_lets_those_that_wait_find_what_was_put_since() {
     let (leader, waiting) = (board(&map), call(&map));
     put(&map, 10);
     drop(leader);
-    assert_eq!((waiting.join().unwrap(), map.get(&KEY)), (10, Some(10)));
+    assert_eq!((waiting.end(), map.get(&KEY)), (10, Some(10)));
     // A call is one lookup, also if it waited.
     assert_eq!((map.stats().hits, map.stats().misses), (1, 1));
 }

@@ -3,7 +3,7 @@ use super::waiting::LONG;
 use crate::{GetError, Inserted, Map};
 use std::panic::catch_unwind;
 use std::sync::mpsc::{channel, Receiver, Sender};
-use std::thread::{self, JoinHandle};
+use std::thread;
 use std::time::Instant;
 
 type Numbers = Map<u64, u64>;
@@ -12,7 +12,7 @@ const KEY: u64 = 7;
 
 /// A thread that has begun to compute a value, and waits before it goes on.
 struct Computation {
-    thread: JoinHandle<u64>,
+    value: Receiver<u64>,
     go: Sender<()>,
 }
 
@@ -20,22 +20,22 @@ impl Computation {
     fn begin(map: &Numbers, value: u64) -> Computation {
         let (begun, wait): (Sender<()>, Receiver<()>) = channel();
         let (go, gone) = channel();
+        let (send, value_of_call) = channel();
         let map = map.clone();
-        let thread = thread::spawn(move || {
-            map.get_or_insert_with(&KEY, || {
-                begun.send(()).unwrap();
-                gone.recv().unwrap();
-                value
-            })
-        });
+        let make = move || {
+            begun.send(()).unwrap();
+            gone.recv().unwrap();
+            value
+        };
+        thread::spawn(move || send.send(map.get_or_insert_with(&KEY, make)));
         wait.recv_timeout(LONG).expect("the computation has not begun");
-        Computation { thread, go }
+        Computation { value: value_of_call, go }
     }
 
     /// What the call returns.
     fn end(self) -> u64 {
         self.go.send(()).unwrap();
-        self.thread.join().unwrap()
+        self.value.recv_timeout(LONG).expect("the computation does not end")
     }
 }
 

@@ -1,4 +1,5 @@
-//! Tests that need what the map doesn't show: its clock, shapes and tries, its passes, who waits for a value, and where its errors come from.
+//! Tests that need what the map doesn't show: its clock, shapes and tries, its passes and calls of the index, who waits for a value, and where its
+//! errors come from.
 mod detaching;
 mod disturbed;
 #[cfg(feature = "objects")]
@@ -7,14 +8,22 @@ mod errors;
 mod expiry;
 mod fills;
 mod flights;
+mod held;
+#[cfg(feature = "objects")]
+mod object_disturbed;
 #[cfg(feature = "objects")]
 mod object_flights;
 #[cfg(feature = "objects")]
+mod object_turns;
+#[cfg(feature = "objects")]
 mod objects;
+mod overtaken;
 mod places;
 mod prints;
 mod shapes;
 mod slots;
+mod timed;
+mod turns;
 mod waiting;
 mod waits;
 

@@ -202,6 +202,35 @@ fn each_object_leaves_for_its_reason() {
     assert!(matches!(heard.lock().unwrap()[..], [(_, Reason::Evicted)]));
 }
 
+// Each way in which an expired object may leave.
+#[test]
+fn what_has_expired_leaves_as_expired() {
+    type Leave = fn(&Names, u64);
+    let ways: [Leave; 11] = [
+        |map, _| done(map.insert(1, text("b"))),
+        |map, _| done(map.insert_if_absent(1, text("b"))),
+        |map, since| done(map.replace_if(1, since, text("b"), None)),
+        |map, _| done(map.update(1, |_| text("b"))),
+        |map, _| done(map.get_or_insert_with(&1, || text("b"))),
+        |map, _| done(map.remove(&1)),
+        |map, since| done(map.remove_if(&1, since)),
+        |map, since| done(map.remove_stamped(map.hash_of(&1), since)),
+        |map, _| done(map.remove_expired()),
+        |map, _| map.clear().unwrap(),
+        // It is evicted.
+        |map, _| (2..100).for_each(|key| done(map.insert(key, text("b")))),
+    ];
+    for (way, leave) in ways.into_iter().enumerate() {
+        let (builder, heard) = heard(ObjectMap::builder(8));
+        let map = builder.open_shaped(&Shape::for_items(8).unwrap(), 1, 100).unwrap();
+        let since = map.put(1, text("a"), Some(seconds(5))).unwrap().at;
+        turn(&map, seconds(6));
+        leave(&map, since);
+        let of_key = heard.lock().unwrap().iter().find(|(key, _)| *key == 1).copied();
+        assert_eq!(of_key, Some((1, Reason::Expired)), "way {way}");
+    }
+}
+
 #[test]
 fn what_has_expired_is_removed_and_nothing_else() {
     let (builder, heard) = heard(ObjectMap::builder(1_000).shards(4));

@@ -1,5 +1,7 @@
 //! What a shard is opened with.
 use crate::settings::Settings;
+use cefrodil::{Mix, Shape};
+use std::collections::hash_map::RandomState;
 
 #[test]
 fn many_shards_have_few_stripes_each() {
@@ -9,4 +11,53 @@ fn many_shards_have_few_stripes_each() {
         let (shape, count) = settings.shape().unwrap();
         assert_eq!((shape.stripes, count), (stripes, shards));
     }
+}
+
+// One for each 1,024 entries, a power of two, and 16 at most.
+#[test]
+fn there_are_so_many_shards_by_default() {
+    let expected = [
+        (1, 1),
+        (1_023, 1),
+        (1_024, 1),
+        (2_047, 1),
+        (2_048, 2),
+        (4_095, 2),
+        (4_096, 4),
+        (16_383, 8),
+        (16_384, 16),
+        (3_000_000, 16),
+    ];
+    for (capacity, shards) in expected {
+        assert_eq!(Settings::new(capacity).shape().unwrap().1, shards, "of {capacity}");
+    }
+}
+
+#[test]
+fn there_are_so_many_passes() {
+    let passes = |threads| {
+        let mut settings = Settings::new(100);
+        settings.threads = threads;
+        settings.passes()
+    };
+    assert_eq!((Settings::new(100).passes(), passes(0), passes(1), passes(usize::MAX)), (65, 1, 2, usize::MAX));
+}
+
+// Shards of fewer than 256 entries have four times the buckets that the index would choose.
+#[test]
+fn small_shards_have_more_buckets() {
+    for items in [1, 10, 100, 255, 256, 1_000] {
+        let (shape, shards) = Settings::new(items as usize).shape().unwrap();
+        let plain = Shape::for_items(items).unwrap();
+        assert_eq!((shards, shape.items), (1, items));
+        assert_eq!(shape.buckets, if items < 256 { 4 * plain.buckets } else { plain.buckets }, "of {items}");
+    }
+}
+
+// The index mixes the bits of a hasher of the user's alone.
+#[test]
+fn a_hasher_of_the_users_changes_the_mix_alone() {
+    let (plain, shards) = Settings::new(5_000).shape().unwrap();
+    let (mixed, same) = Settings::new(5_000).hasher(RandomState::new()).shape().unwrap();
+    assert_eq!((plain.mix, mixed, same), (Mix::None, Shape { mix: Mix::Full, ..plain }, shards));
 }

@@ -58,3 +58,32 @@ fn no_count_is_lost() {
         assert_eq!(slots.stats().hits, THREADS as u64 * MANY);
     }
 }
+
+// A thread may count its removal before the one that put the key counts that. There are never fewer entries than none.
+#[test]
+fn what_is_removed_before_it_is_counted_is_no_entry() {
+    let slots = Arc::new(Slots::new(vec![(); 2]));
+    slots.count(Kind::Removed);
+    assert_eq!(slots.stats().entries(), 0);
+    slots.count(Kind::Added);
+    slots.count(Kind::Added);
+    slots.count(Kind::Added);
+    assert_eq!(slots.stats().entries(), 2);
+    slots.count(Kind::Evicted);
+    assert_eq!(slots.stats().entries(), 1);
+}
+
+// Each kind has a number of its own, by a pass of a thread's own and by the shared one.
+#[test]
+fn each_kind_is_counted_by_itself() {
+    use Kind::{Added, Busy, Collided, Evicted, Expired, Hit, Miss, Refused, Removed, Renewed, Shared};
+    for owners in [0, 1] {
+        let slots = Arc::new(Slots::new(vec![(); owners + 1]));
+        for (times, kind) in (1..).zip([Hit, Miss, Busy, Expired, Collided, Added, Renewed, Evicted, Removed, Refused, Shared]) {
+            (0..times).for_each(|_| slots.count(kind));
+        }
+        let stats = slots.stats();
+        assert_eq!([stats.hits, stats.misses, stats.busy, stats.expired, stats.collided], [1, 2, 3, 4, 5]);
+        assert_eq!([stats.added, stats.renewed, stats.evicted, stats.removed, stats.refused, stats.shared], [6, 7, 8, 9, 10, 11]);
+    }
+}

@@ -1,5 +1,6 @@
 //! How often a call tries, and how it waits in between.
 use crate::wait::{in_turn, within, Pause};
+use crate::Map;
 use cefrodil::TurnError;
 use std::time::Duration;
 
@@ -44,4 +45,18 @@ fn a_call_that_gets_no_turn_says_so() {
     };
     assert_eq!(held(3, 4), (Err(TurnError::Held), 3));
     assert_eq!(held(3, 3), (Err(TurnError::Call("answer")), 3));
+}
+
+// A call tries 10,000 times, which takes over a second, and a lookup that may miss 1,000 times.
+#[test]
+fn the_calls_of_a_map_try_so_often() {
+    let map = Map::<u64, u64>::new(10).unwrap();
+    assert_eq!((map.inner.tries, map.inner.looks()), (10_000, 1_000));
+    let once = Map::<u64, u64>::builder(1).open_shaped(&cefrodil::Shape::for_items(10).unwrap(), 1, 1).unwrap();
+    assert_eq!((once.inner.tries, once.inner.looks()), (1, 1));
+    #[cfg(feature = "objects")]
+    {
+        let map = crate::ObjectMap::<u64, u64>::new(10).unwrap();
+        assert_eq!((map.inner.tries, map.inner.looks()), (10_000, 1_000));
+    }
 }

@@ -1,4 +1,5 @@
 //! Two keys with the same hash: the map holds one of them, and never takes it for the other.
+use crate::ends::ends;
 use crate::ledger::{done, Ledger, Owned};
 use cefrodil_map::{AbsentError, IfError, Inserted, Look, ObjectMap, Reason};
 use std::hash::{BuildHasher, Hasher};
@@ -111,6 +112,10 @@ fn a_put_on_a_condition_sees_its_own_key_alone() {
 
 #[test]
 fn keys_with_the_same_hash_are_computed_apart() {
+    ends(compute_apart);
+}
+
+fn compute_apart() {
     let (map, ledger) = (open(), Ledger::new(10_000));
     let value = map.get_or_insert_with(&2, || {
         assert_eq!(map.get_or_insert_with(&4, || ledger.make(4)).key, 4);

@@ -1,10 +1,11 @@
 //! `get_or_insert_with`: one thread computes and the others wait. A value that was computed before a write of its key is not put after it.
+use crate::ends::ends;
 use crate::ledger::done;
 use cefrodil_map::{GetError, Inserted, ObjectMap};
 use std::sync::atomic::{AtomicU64, Ordering::SeqCst};
 use std::sync::mpsc::{channel, Receiver, Sender};
 use std::sync::Barrier;
-use std::thread::{self, JoinHandle};
+use std::thread;
 use std::time::Duration;
 
 type Names = ObjectMap<String, String>;
@@ -18,7 +19,7 @@ fn text(text: &str) -> String {
 
 /// A thread that has begun to compute the value of `key`, and waits before it goes on.
 struct Computation {
-    thread: JoinHandle<String>,
+    value: Receiver<String>,
     go: Sender<()>,
 }
 
@@ -26,26 +27,31 @@ impl Computation {
     fn begin(map: &Names, value: &'static str) -> Computation {
         let (begun, wait): (Sender<()>, Receiver<()>) = channel();
         let (go, gone) = channel();
+        let (send, value_of_call) = channel();
         let map = map.clone();
         let make = move || {
             begun.send(()).unwrap();
             gone.recv().unwrap();
             text(value)
         };
-        let thread = thread::spawn(move || map.get_or_insert_with("key", make));
+        thread::spawn(move || send.send(map.get_or_insert_with("key", make)));
         wait.recv_timeout(LONG).expect("the computation has not begun");
-        Computation { thread, go }
+        Computation { value: value_of_call, go }
     }
 
     /// What the call returns.
     fn end(self) -> String {
         self.go.send(()).unwrap();
-        self.thread.join().unwrap()
+        self.value.recv_timeout(LONG).expect("the computation does not end")
     }
 }
 
 #[test]
 fn one_thread_computes_for_all() {
+    ends(compute_for_all);
+}
+
+fn compute_for_all() {
     const THREADS: usize = 4;
     let map = Names::new(1_000).unwrap();
     let (made, start) = (AtomicU64::new(0), Barrier::new(THREADS));
@@ -95,6 +101,10 @@ fn an_error_or_a_panic_puts_nothing() {
 
 #[test]
 fn a_computation_may_call_the_map() {
+    ends(compute_within_a_computation);
+}
+
+fn compute_within_a_computation() {
     let map = Names::new(100).unwrap();
     let value = map.get_or_insert_with("key", || {
         let inner = map.get_or_insert_with("key", || text("inner"));

@@ -1,5 +1,7 @@
 //! Maps of objects.
 mod collisions;
+#[path = "../ends/mod.rs"]
+mod ends;
 mod fills;
 mod frees;
 mod ledger;

@@ -6,6 +6,7 @@ use std::panic::{catch_unwind, AssertUnwindSafe};
 use std::sync::atomic::{AtomicU64, AtomicU8, Ordering::SeqCst};
 use std::sync::Arc;
 use std::thread;
+use std::time::Duration;
 
 fn panics<T>(call: impl FnOnce() -> T) {
     assert!(catch_unwind(AssertUnwindSafe(call)).is_err());
@@ -129,6 +130,60 @@ fn a_panic_in_clone_or_drop_ends_there() {
     (10..200).for_each(|key| done(map.insert(key, Hostile(key)).unwrap()));
     drop(map);
     assert_eq!(COUNT.load(SeqCst), VALUES + 1 + 190);
+}
+
+/// What a destructor panics with. Its own destructor panics, too.
+struct Payload;
+
+impl Drop for Payload {
+    fn drop(&mut self) {
+        panic!("as the test wants");
+    }
+}
+
+/// A value whose destructor panics with such a payload.
+struct Relentless;
+
+impl Drop for Relentless {
+    fn drop(&mut self) {
+        if !thread::panicking() {
+            std::panic::panic_any(Payload);
+        }
+    }
+}
+
+#[test]
+fn so_does_a_panic_in_what_a_drop_panicked_with() {
+    let map = ObjectMap::<u64, Relentless>::builder(100).threads(1).open().unwrap();
+    for key in 0..100 {
+        map.insert(key % 10, Relentless).unwrap();
+    }
+    assert!(map.remove(&1).unwrap());
+    map.clear().unwrap();
+    assert_eq!((map.free_unused(), map.len()), (0, 0));
+    map.insert(1, Relentless).unwrap();
+    drop(map);
+}
+
+// The removal has been made when the listener panics, so it is counted.
+#[test]
+fn a_removal_whose_listener_panics_is_counted() {
+    type Remove = fn(&ObjectMap<u64, u64>, u64);
+    let removals: [Remove; 6] = [
+        |map, _| done(map.remove(&1)),
+        |map, _| done(map.remove_with(&1, |_| ())),
+        |map, since| done(map.remove_if(&1, since)),
+        |map, since| done(map.remove_stamped(map.hash_of(&1), since)),
+        |map, _| done(map.remove_expired()),
+        |map, _| done(map.clear()),
+    ];
+    for remove in removals {
+        let hear = |_: &u64, _: &u64, reason: Reason| panic!("as the test wants: {reason:?}");
+        let map = ObjectMap::builder(100).listener(hear).open().unwrap();
+        let since = map.put(1, 10, Some(Duration::ZERO)).unwrap().at;
+        panics(|| remove(&map, since));
+        assert_eq!((map.len(), map.stats().removed), (0, 1));
+    }
 }
 
 #[test]

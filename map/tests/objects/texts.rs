@@ -26,16 +26,20 @@ fn each_error_has_a_text() {
     let refused = Refused { why: InsertError::NoPlace, key: Cell::new(1), value: Cell::new(2) };
     assert_eq!(refused.to_string(), "there is no place for the key");
     assert_eq!(format!("{refused:?}"), "Refused { why: NoPlace, .. }");
-    let all: [Box<dyn Error>; 5] = [
-        Box::new(AbsentError::Present { since: 1 }),
-        Box::new(AbsentError::Insert(InsertError::Held)),
-        Box::new(AbsentError::Contended),
-        Box::new(IfError::Changed { since: 1 }),
-        Box::new(IfError::NotThere { at: 1 }),
+    let all: [(Box<dyn Error>, &str); 9] = [
+        (Box::new(AbsentError::Present { since: 1 }), "the key has a value"),
+        (Box::new(AbsentError::Busy), "writes disturbed each lookup"),
+        (Box::new(AbsentError::Contended), "other threads changed the key each time"),
+        (Box::new(AbsentError::Insert(InsertError::NoPlace)), "there is no place for the key"),
+        (Box::new(IfError::NotThere { at: 1 }), "the key is absent"),
+        (Box::new(IfError::Changed { since: 1 }), "the key was put since"),
+        (Box::new(IfError::Busy), "writes disturbed each lookup"),
+        (Box::new(IfError::Held), "other threads held the shard's turn"),
+        (Box::new(IfError::Spent), "the shard has made all its changes"),
     ];
-    let texts: std::collections::HashSet<String> = all.iter().map(ToString::to_string).collect();
-    assert_eq!(texts.len(), 5);
-    assert_eq!(IfError::Held.to_string(), InsertError::Held.to_string());
+    for (error, text) in all {
+        assert_eq!(error.to_string(), text, "{error:?}");
+    }
 }
 
 #[test]

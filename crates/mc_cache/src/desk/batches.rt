@@ -29,7 +29,7 @@ impl<const V: usize> Desk<V> {
         let Some(mut turn) = self.take() else {
             return false;
         };
-        put_many_in_turn(cache, pass, &mut turn.writer, entries, answers);
+        put_many_in_turn(cache, pass, turn.writer(), entries, answers);
         self.give(turn);
         true
     }

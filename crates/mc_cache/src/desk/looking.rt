@@ -23,7 +23,7 @@ impl<const V: usize> Desk<V> {
         ensures plain { PeekMeans V (seen V pass.old) (seen V pass.new) key result }
     {
         let mut turn = self.take()?;
-        let reply = peek_in_turn(cache, pass, &mut turn.writer, key);
+        let reply = peek_in_turn(cache, pass, turn.writer(), key);
         self.give(turn);
         Some(reply)
     }
@@ -45,7 +45,7 @@ impl<const V: usize> Desk<V> {
         let Some(mut turn) = self.take() else {
             return Err(DeskError::Held);
         };
-        let listed = list_in_turn(alloc, cache, pass, &mut turn.writer);
+        let listed = list_in_turn(alloc, cache, pass, turn.writer());
         self.give(turn);
         listed
     }
@@ -66,7 +66,7 @@ impl<const V: usize> Desk<V> {
         let Some(mut turn) = self.take() else {
             return Err(DeskError::Held);
         };
-        let listed = list_stamped_in_turn(alloc, cache, pass, &mut turn.writer);
+        let listed = list_stamped_in_turn(alloc, cache, pass, turn.writer());
         self.give(turn);
         listed
     }
@@ -82,7 +82,7 @@ impl<const V: usize> Desk<V> {
         ensures plain { IfSome result (λ many. many ≡ key_count (seen V pass.new)) }
     {
         let mut turn = self.take()?;
-        let many = count_in_turn(cache, pass, &mut turn.writer);
+        let many = count_in_turn(cache, pass, turn.writer());
         self.give(turn);
         Some(many)
     }

@@ -5,7 +5,7 @@ use Rattle.mc_load.specs.declared.asked.Load.{Load}
 use Rattle.mc_load.specs.declared.turns_ready.Audit.{Audit}
 use Rattle.mc_load.specs.declared.turns_ready.Seated.{Seated}
 use Rattle.mc_load.specs.Inside.Tries.{CanAllTry}
-use Rattle.mc_load.specs.Inside.Workers.{AreReady}
+use Rattle.mc_load.specs.Inside.Workers.{AreReadersIn, AreReady}
 
 -- there is room for all changes that `writers` writers can make, and for the answers of one reader
 pub record CanAudit (V : ℕ) (load : Load) (writers : ℕ) (a : Audit V) : Type 0 where
@@ -19,4 +19,5 @@ pub record AreSeated (V : ℕ) (s : Sharded) (load : Load) (writers : ℕ) (w : 
   pub can : CanAllTry V s load w.turn_threads.items
   pub readers : vec_len w.reader_threads ≡ load.readers
   pub ready : AreReady V load w.reader_threads.items
+  pub places : AreReadersIn s w.reader_threads.items
   pub audit : CanAudit V load writers w.audit

@@ -11,7 +11,7 @@ use Rattle.mc_load.specs.ShardLoads.{answers_in, most_writers}
 use Rattle.mc_load.specs.Turns.{HasMadeTries, Tries}
 use Rattle.mc_load.specs.Inside.Seats.{CanAudit}
 use Rattle.mc_load.specs.Inside.Tries.{HaveTriedWhole, tries_of}
-use Rattle.mc_load.specs.Inside.Workers.{HaveAllNoted}
+use Rattle.mc_load.specs.Inside.Workers.{AreReadersIn, HaveAllGot, HaveAllNoted}
 use Rattle.mc_load.specs.declared.reader_thread.ReaderThread.{ReaderThread}
 use Rattle.mc_load.specs.declared.turns_ready.Seated.{Seated}
 use Rattle.mc_load.specs.declared.turn_thread.TurnThread.{TurnThread}
@@ -36,6 +36,8 @@ pub record HasRun {V : ℕ} (opened : Sharded) (load : Load) (shards writers : �
   pub readers : vec_len s.reader_threads ≡ load.readers
   pub few : load.readers ≤ most_readers
   pub noted : HaveAllNoted load s.reader_threads.items
+  pub places : AreReadersIn opened s.reader_threads.items
+  pub got : HaveAllGot opened s.reader_threads.items
   pub many : vec_len s.turn_threads ≡ writers
   pub most : writers ≤ most_writers
   pub tried : HaveTriedWhole load s.turn_threads.items

@@ -2,14 +2,16 @@
 use Rattle.std.specs.Prelude.{ℕ, ◌≡◌, ◌+◌, ◌*◌, ◌≤◌, ◌<◌, All, List, None, Some, IfNone, IfSome, length, map, slice_index_or, vec_capacity, vec_len}
 use Rattle.mc_theory.specs.Lists.{IsLawful}
 use Rattle.mc_words.specs.Readers.{most_readers}
-use Rattle.mc_shared.specs.Records.{Opening}
+use Rattle.mc_shared.specs.Records.{Opening, ReaderRecord}
+use Rattle.mc_shards.specs.Sharded.{Sharded}
 use Rattle.mc_check.specs.declared.record.Record.{Record}
 use Rattle.mc_load.specs.Draws.{drawn_key}
 use Rattle.mc_load.specs.Loads.{AreDrawn, HasMade, history_after}
 use Rattle.mc_load.specs.Drawn.{HasDrawn}
 use Rattle.mc_load.specs.ShardLoads.{HasAsked}
 use Rattle.mc_load.specs.Inside.Drawn.{AreNext}
-use Rattle.mc_load.specs.Inside.Handles.{AreAllTold, cache_of}
+use Rattle.mc_load.specs.Inside.Handles.{AreAllTold, cache_of, place_of, records_of}
+use Rattle.mc_load.specs.Lookups.{AreLookups, HasGot}
 use Rattle.mc_load.specs.declared.asked.Load.{Load}
 use Rattle.mc_load.specs.declared.reader_thread.ReaderThread.{ReaderThread}
 use Rattle.mc_load.specs.declared.writer_thread.WriterThread.{WriterThread}
@@ -51,6 +53,10 @@ pub record HasLookedUpDrawn (V : ℕ) (load : Load) (l : ReaderThread V) : Type 
   pub drawn : HasDrawn load (l.number + 1) (length l.records.items) l.draws
   pub keys : HasNotedDrawn V load l
 
+-- the answers that it has written down are those of its lookups in these shards, from these records of its pass on
+abbrev pub HasLookedFrom : (V : ℕ) → Sharded → List ReaderRecord → ReaderThread V → Type 0
+HasLookedFrom V s before l = AreLookups s before (records_of l.handle) l.records.items
+
 -- this key is drawn for its next lookup, these for its next ones
 abbrev pub IsNextOf : (V : ℕ) → Load → ReaderThread V → ℕ → Type 0
 IsNextOf V load l key = key ≡ drawn_key load (l.number + 1) (length l.records.items)
@@ -82,6 +88,8 @@ CanLook V load l = IsReady V load l.number l × (l.number < most_readers)
 pub record HasLooked (V : ℕ) (may : ℕ → ℕ → Type 0) (load : Load) (before after : ReaderThread V) : Type 0 where
   pub ended : HasEnded V load before.number after
   pub cache : cache_of after.handle ≡ cache_of before.handle
+  pub place : place_of after.handle ≡ place_of before.handle
+  pub looked : HasLookedFrom V (place_of before.handle) (records_of before.handle) after
   pub refused : IfSome after.refused (λ call. may (before.number + 1) call)
 
 -- the answers that the readers wrote down
@@ -97,6 +105,14 @@ HaveEnded V load ls = (n : ℕ) (d : ReaderThread V) → n < length ls → HasEn
 -- each looks up in this cache, which has no desk
 abbrev pub AreReadersOf : {V : ℕ} → Opening → List (ReaderThread V) → Type 0
 AreReadersOf {V} o ls = All (λ (l : ReaderThread V). cache_of l.handle ≡ Some o) ls
+
+-- each looks up in these shards
+abbrev pub AreReadersIn : {V : ℕ} → Sharded → List (ReaderThread V) → Type 0
+AreReadersIn {V} s ls = All (λ (l : ReaderThread V). place_of l.handle ≡ s) ls
+
+-- each has got its answers by lookups in these shards
+abbrev pub HaveAllGot : {V : ℕ} → Sharded → List (ReaderThread V) → Type 0
+HaveAllGot {V} s ls = All (λ (l : ReaderThread V). HasGot s l.records.items) ls
 
 -- the gate let every call through
 abbrev pub AreWhole : {V : ℕ} → List (ReaderThread V) → Type 0

@@ -38,6 +38,7 @@ returns-clause-right g c = λ none.
         moments = subst (λ (z : List (Dated V)). AreMoments z) c.as_slice.ensures.value (c.misplaced-misplaced.ensures.right misplaced).0;
         changes = written;
       };
+      whole = ap length written ∙ (length-map sorted (λ (d : Dated V). d.change) ∙ (ap length (sym c.as_slice.ensures.value) ∙ sym (c.misplaced-misplaced.ensures.right misplaced).1));
       told = λ r e low.
           let under : r < length ls = omega (arith, low, length-map ls (λ (l : ReaderThread V). l.records.items)) in
           let d = some_element ls r under in

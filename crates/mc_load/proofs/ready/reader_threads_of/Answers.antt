@@ -1,8 +1,8 @@
-use Rattle.std.proofs.Common.{rules, ℕ, ◌≡◌, ◌+◌, [], ◌∷◌, Some, ap, arith, length, subst, sym, ◌∙◌}
+use Rattle.std.proofs.Common.{rules, ℕ, List, All, ◌≡◌, ◌+◌, [], ◌∷◌, Some, ap, arith, length, subst, sym, ◌∙◌}
 use Rattle.std.proofs.lemmas.List.{length-append}
 use Rattle.mc_load.proofs.Each.{each_front, each_last, each_more}
-use Rattle.mc_load.specs.Inside.Handles.{cache_of}
-use Rattle.mc_load.specs.Inside.Workers.{AreReadersOf, AreReady, IsReady}
+use Rattle.mc_load.specs.Inside.Handles.{cache_of, place_of}
+use Rattle.mc_load.specs.Inside.Workers.{AreReadersIn, AreReadersOf, AreReady, IsReady}
 use Rattle.mc_load.specs.declared.handle.Handle.{Handle}
 use Rattle.mc_load.specs.declared.reader_thread.ReaderThread.{ReaderThread}
 use Rattle.mc_load.proofs.ready.reader_threads_of.Goals as goal
@@ -22,10 +22,16 @@ loop-handle-preserved g c =
     let place : c.len-number.result ≡ length ls = search rules in
     record {
       many = omega (arith, one, more, was.many);
+      many_keys = subst (λ (xs : List (ReaderThread V)). All (λ (x : ReaderThread V). x.many ≡ c.args.many) xs) (sym c.in_ok-push.ensures.items) (each_more (λ k (x : ReaderThread V). x.many ≡ c.args.many) ls l was.many_keys c.in_ok-reader_thread_of.ensures.many);
       ready = subst (AreReady V load) (sym c.in_ok-push.ensures.items) (each_more (IsReady V load) ls l was.ready (subst (λ (k : ℕ). IsReady V load k l) place c.in_ok-reader_thread_of.ensures.ready));
       rest = λ o all. each_front (λ k (x : Handle V). cache_of x ≡ Some o) xs rest h c.in-Some.ensures.items (was.rest o all);
       of = λ o all.
           subst (AreReadersOf o) (sym c.in_ok-push.ensures.items)
           (each_more (λ k (x : ReaderThread V). cache_of x.handle ≡ Some o) ls l (was.of o all)
           (ap (λ (x : Handle V). cache_of x) c.in_ok-reader_thread_of.ensures.handle ∙ each_last (λ k (x : Handle V). cache_of x ≡ Some o) xs rest h c.in-Some.ensures.items (was.rest o all)));
+      left = λ s all. each_front (λ k (x : Handle V). place_of x ≡ s) xs rest h c.in-Some.ensures.items (was.left s all);
+      place = λ s all.
+          subst (AreReadersIn s) (sym c.in_ok-push.ensures.items)
+          (each_more (λ k (x : ReaderThread V). place_of x.handle ≡ s) ls l (was.place s all)
+          (ap (λ (x : Handle V). place_of x) c.in_ok-reader_thread_of.ensures.handle ∙ each_last (λ k (x : Handle V). place_of x ≡ s) xs rest h c.in-Some.ensures.items (was.left s all)));
     }

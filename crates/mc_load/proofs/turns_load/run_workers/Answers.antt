@@ -6,6 +6,7 @@ use Rattle.mc_load.specs.Inside.Tries.{HaveAllTried}
 use Rattle.mc_load.specs.Inside.Workers.{AreWhole, HaveEnded}
 use Rattle.mc_load.specs.declared.reader_thread.ReaderThread.{ReaderThread}
 use Rattle.mc_load.specs.declared.turn_thread.TurnThread.{TurnThread}
+use Rattle.mc_load.proofs.Looked.{all_got, still_in}
 use Rattle.mc_load.proofs.Readers.{all_noted}
 use Rattle.mc_load.proofs.Refused.{all_made, all_tried, refused_lookup_told, refused_try_told}
 use Rattle.mc_load.proofs.Works.{all_can_look, all_can_try, all_ended, all_have_tried, all_refused, all_tries_refused}
@@ -109,6 +110,8 @@ run_of-requires g c =
             readers = readers;
             few = omega (arith, few);
             noted = all_noted load ls (all_ended may load c.in-Ok.seated.reader_threads.items ls seated.ready read) whole;
+            places = still_in may load s c.in-Ok.seated.reader_threads.items ls seated.places read;
+            got = all_got may load s c.in-Ok.seated.reader_threads.items ls seated.places read;
             many = refl;
             most = omega (arith, many, c.requires.asked.some.1);
             tried = all_tried s load ts tried through;

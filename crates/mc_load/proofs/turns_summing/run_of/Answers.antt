@@ -1,8 +1,11 @@
-use Rattle.std.proofs.Common.{rules, ℕ, List, ◌≡◌, ◌<◌, ◌*◌, ap, arith, length, vec_len, subst, sym, ◌∙◌}
-use Rattle.std.specs.Prelude.{sum_by}
+use Rattle.std.proofs.Common.{rules, ℕ, List, ◌≡◌, ◌<◌, ◌*◌, ap, arith, get_or, length, vec_len, subst, sym, ◌∙◌}
+use Rattle.std.specs.Prelude.{All, sum_by}
+use Rattle.mc_check.specs.declared.record.Record.{Record}
 use Rattle.std.proofs.lemmas.List.{get_or-map, length-map}
 use Rattle.mc_load.specs.Loads.{is_absent, is_busy, is_found, total_of}
+use Rattle.mc_load.proofs.Looked.{got_answers}
 use Rattle.mc_load.proofs.Readers.{some_element}
+use Rattle.mc_load.specs.Lookups.{HasGot}
 use Rattle.mc_load.specs.ShardLoads.{HasAsked, IsRightIn}
 use Rattle.mc_load.specs.Turns.{HasMadeTries, Tries}
 use Rattle.mc_load.specs.Inside.Sums.{all_tries}
@@ -46,17 +49,29 @@ returns g c =
             let under : r < length ls = omega (arith, low, read) in
             let d = some_element ls r under in
             subst (HasAsked load r) (sym (get_or-map (λ (l : ReaderThread V). l.records.items) ls r d e under)) (c.last_moments-lasts.ensures.noted r d under);
+        got = subst (λ (z : List (List (Record V))). All (λ (records : List (Record V)). HasGot s records) z) (sym c.last_moments-lasts.ensures.answers) (got_answers s c.args.seated.reader_threads.items run.got);
         found = c.answers_of-answers.ensures.found ∙ ap (λ (z : List (ReaderThread V)). total_of is_found (answers_of z)) readers;
         absent = c.answers_of-answers.ensures.absent ∙ ap (λ (z : List (ReaderThread V)). total_of is_absent (answers_of z)) readers;
         busy = c.answers_of-answers.ensures.busy ∙ ap (λ (z : List (ReaderThread V)). total_of is_busy (answers_of z)) readers;
         right = λ none n low.
-            subst (λ (z : List (TurnThread V)). IsRightIn load.shape.mix c.args.shards (all_tries z) (answers_of ls) n) writers
-            (subst (λ (z : List (ReaderThread V)). IsRightIn load.shape.mix c.args.shards (all_tries c.as_slice-turn_threads.result.now) (answers_of z) n) readers (c.check_all-wrong.ensures.right none n low));
+            let lasts = c.last_moments-lasts.result in
+            let all = c.last_moments-lasts.ensures.lasts s run.shape run.tables run.places in
+            let most = run.allowed.1 in (
+              get_or lasts n 0,
+              all.each n (omega (arith, low, most)),
+              subst (λ (z : List (TurnThread V)). IsRightIn load.shape.mix c.args.shards (all_tries z) (answers_of ls) (get_or lasts n 0) n) writers
+                  (subst (λ (z : List (ReaderThread V)). IsRightIn load.shape.mix c.args.shards (all_tries c.as_slice-turn_threads.result.now) (answers_of z) (get_or lasts n 0) n) readers (c.check_all-wrong.ensures.right none n low)),
+            );
         lookups = c.answers_of-answers.ensures.lookups ∙ ap (λ (k : ℕ). k * load.lookups) many_readers;
         sum = c.answers_of-answers.ensures.sum;
         calls = c.tries_of-changes.ensures.sum ∙ ap (λ (k : ℕ). k * load.writes) many_writers;
         turns = search rules;
         few = c.tries_of-changes.ensures.few;
       };
-      each = λ n d low. c.turns_of.ensures n d (omega (arith, low, many_writers));
+      each = λ n d low. c.turns_of.ensures.sums n d (omega (arith, low, many_writers));
+      those = λ n d e low.
+          let under : n < length ts = omega (arith, low, c.as_slice-turn_threads.ensures.len, ap length writers) in
+          let t = some_element ts n under in
+          c.turns_of.ensures.each n d t (omega (arith, low, many_writers))
+          ∙ (ap (λ (z : List (TurnThread V)). (get_or z n t).turns) writers ∙ ap (λ (z : Tries V). z.turns) (sym (get_or-map (λ (x : TurnThread V). tries_of x) ts n t e under)));
     }

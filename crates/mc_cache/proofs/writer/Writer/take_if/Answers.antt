@@ -31,3 +31,12 @@ returns-in-Ok-Taken-clause-plain g c =
         | in_default w ↦ absurd (is_there V c.args.cache.now c.cache.inside.cells c.args.self.now c.self.inside.seat c.cache.view_is c.self.view_is c.requires.of c.args.key c.in-Ok-Taken.old w.in_default.ensures.none taken.1)
       ],
     )
+
+pub returns-in-Err-clause-plain : goal.returns-in-Err-clause-plain
+returns-in-Err-clause-plain g c = (
+  λ stays holds. elim c.match-look.branch [
+    | in-Some+else-held-since w ↦ stamp_is g.row.V c.args.cache.now c.cache.inside.cells c.args.self.now c.self.inside.seat c.cache.view_is c.self.view_is c.requires.of c.args.key w.in-Some.held.since w.in-Some.held.value stays w.in-Some.ensures.found holds ∙ w.if-held-since.false
+    | in_default w ↦ absurd (is_there g.row.V c.args.cache.now c.cache.inside.cells c.args.self.now c.self.inside.seat c.cache.view_is c.self.view_is c.requires.of c.args.key stays w.in_default.ensures.none holds)
+  ],
+  c.in-Err.ensures.plain ∙ ap (history g.row.V) (c.look.ensures.seat ∙ c.self.view_is),
+)
