@@ -192,6 +192,20 @@ fn bytes_are_counted() {
 }
 
 #[test]
+fn commands_that_are_cut_anywhere() {
+    let script = b"set k 0 0 5\r\nvalue\r\nmn\r\nget k none\r\ndelete k\r\n";
+    let answers = b"STORED\r\nMN\r\nVALUE k 0 5\r\nvalue\r\nEND\r\nDELETED\r\n";
+    let mut both = Both::new();
+    for cut in 1..script.len() {
+        for part in [&script[..cut], &script[cut..]] {
+            assert_eq!(both.send(part), Next::Event);
+        }
+        assert_eq!(both.read_all(answers.len()), answers, "{cut}");
+        assert!(both.connection.is_idle());
+    }
+}
+
+#[test]
 fn bytes_that_wait_are_counted_once() {
     let mut both = Both::new();
     let waiting = both.fill();
