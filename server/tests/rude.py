@@ -192,13 +192,14 @@ def complaints_that_nobody_reads(program):
 
 
 def complaints(program):
-    """The operator is told of a client that can't be accepted."""
+    """The operator is told of clients that can't be accepted, and only once, though the server tries again twenty times a second."""
     with running(program, '-t', '1', stderr=subprocess.PIPE) as (server, port), contextlib.ExitStack() as stack:
         resource.prlimit(server.pid, resource.RLIMIT_NOFILE, (24, 24))
         for _ in range(40):
             stack.enter_context(connect(port))
         assert select.select([server.stderr], [], [], TIMEOUT)[0], 'nothing is said'
-        assert server.stderr.readline().startswith("cefrodild: a client can't be accepted: ")
+        assert server.stderr.readline().startswith("cefrodild: clients can't be accepted: ")
+        assert not select.select([server.stderr], [], [], 0.3)[0], server.stderr.readline()
 
 
 def client_that_is_always_halfway(program):
