@@ -5,7 +5,7 @@ use Rattle.std.proofs.lemmas.List.{get_or-set_other, get_or-set_same, length-set
 use Rattle.mc_words.specs.Keys.{shard_of}
 use Rattle.mc_words.specs.declared.mix.Mix.{Mix}
 use Rattle.mc_shards.specs.Sharded.{Sharded, shard_in}
-use Rattle.mc_load.specs.Lookups.{IsLastOf, IsLookedUp}
+use Rattle.mc_load.specs.LastMoments.{IsLastOf, IsLookedUp}
 use Rattle.mc_load.specs.Inside.Lasts.{AreLasts}
 
 -- the shard of a key

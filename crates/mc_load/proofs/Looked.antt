@@ -8,10 +8,10 @@ use Rattle.mc_reader.specs.Records.{HaveLooked}
 use Rattle.mc_check.specs.declared.record.Record.{Record}
 use Rattle.mc_cache.specs.Turns.{HasLookedOrMet}
 use Rattle.mc_shards.specs.Sharded.{ArePassOf, Sharded}
-use Rattle.mc_load.specs.Inside.Handles.{one_shard, records_of}
+use Rattle.mc_load.specs.Inside.Handles.{records_of}
 use Rattle.mc_load.specs.Inside.Workers.{AreReadersIn, HasLooked, HasLookedFrom, HaveAllGot, answers_of}
 use Rattle.mc_load.specs.Inside.Works.{HaveRun}
-use Rattle.mc_load.specs.Lookups.{AreLookups, HasGot, HasLookedIn, HaveLookedIn}
+use Rattle.mc_load.specs.Lookups.{AreLookups, HasGot, HasLookedIn, HaveLookedIn, one_shard}
 use Rattle.mc_load.specs.declared.asked.Load.{Load}
 use Rattle.mc_load.specs.declared.reader_thread.ReaderThread.{ReaderThread}
 use Rattle.mc_load.proofs.OneShard.{belongs, one_changes}

@@ -2,6 +2,7 @@ pub mod Dates
 pub mod Drawn
 pub mod Draws
 pub mod Inside
+pub mod LastMoments
 pub mod LoadPrograms
 pub mod Loads
 pub mod Lookups

@@ -14,6 +14,7 @@ use Rattle.mc_check.specs.declared.record.Record.{Record}
 use Rattle.mc_cache.specs.Openings.{RefusesOpening}
 use Rattle.mc_words.specs.Readers.{HasReaders}
 use Rattle.mc_load.specs.Draws.{drawn_call, drawn_key}
+use Rattle.mc_load.specs.Lookups.{HasGot, one_shard}
 use Rattle.mc_load.specs.declared.error.LoadError.{LoadError}
 use Rattle.mc_load.specs.declared.error.LoadError.TheVariants as error
 use Rattle.mc_load.specs.declared.report.Report.{Report}
@@ -68,7 +69,7 @@ is_busy reply.Busy = true
 abbrev pub total_of : {V : ℕ} → (Reply V → Bool) → List (List (Record V)) → ℕ
 total_of {V} kind answers = sum_by (λ (records : List (Record V)). count_by (λ (r : Record V). kind r.reply) records) answers
 
--- the writer and the readers have made all their calls, no answer was wrong, and the totals add up
+-- the writer and the readers have made all their calls, each answer is that of a lookup, none was wrong, and the totals add up
 pub record Reports (V : ℕ) (load : Load) (told : Report) : Type 0 where
   pub writer : WriterRecord
   pub shape : writer.of.layout.shape ≡ load.shape
@@ -80,6 +81,7 @@ pub record Reports (V : ℕ) (load : Load) (told : Report) : Type 0 where
   pub answers : List (List (Record V))
   pub readers : length answers ≡ load.readers
   pub looked : (r : ℕ) (d : List (Record V)) → r < length answers → HasLookedUp load (history_after V load.shape writer.acts) r (slice_index_or answers r d)
+  pub got : All (λ (records : List (Record V)). HasGot (one_shard writer.of) records) answers
   pub found : told.found ≡ total_of is_found answers
   pub absent : told.absent ≡ total_of is_absent answers
   pub busy : told.busy ≡ total_of is_busy answers

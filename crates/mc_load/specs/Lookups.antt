@@ -1,11 +1,14 @@
--- What a reader looks up by a pass of shards, one key after the other. A cache is one shard.
-use Rattle.std.specs.Prelude.{ℕ, ◌≡◌, ◌⊎◌, List, [], ◌∷◌, map, unwrap_or}
+-- What a reader looks up by a pass of shards, one key after the other.
+use Rattle.std.specs.Prelude.{ℕ, ◌≡◌, List, [], ◌∷◌, map}
 use Rattle.mc_words.specs.declared.history.Reply.{Reply}
-use Rattle.mc_shared.specs.Records.{ReaderRecord}
+use Rattle.mc_shared.specs.Records.{Opening, ReaderRecord}
 use Rattle.mc_check.specs.declared.record.Record.{Record}
 use Rattle.mc_cache.specs.Turns.{HasLookedOrMet}
 use Rattle.mc_shards.specs.Sharded.{ArePassOf, ChangesAt, Sharded, shard_in}
-use Rattle.mc_load.specs.Loads.{at_of}
+
+-- a cache as one shard
+abbrev pub one_shard : Opening → Sharded
+one_shard o = record { shape = o.layout.shape; tables = o ∷ [] }
 
 -- the key was looked up in its shard, with this reply; a lookup that was busy may have had the shard's turn
 abbrev pub HasLookedIn : (V : ℕ) → Sharded → ℕ → List ReaderRecord → List ReaderRecord → Reply V → Type 0
@@ -34,17 +37,3 @@ pub record HasGot {V : ℕ} (s : Sharded) (records : List (Record V)) : Type 0 w
   pub after : List ReaderRecord
   pub of : ArePassOf s after
   pub looked : AreLookups s before after records
-
--- a key of shard n was looked up, and this is the moment of the reply, or 0 if it was busy
-pub record IsLookedUp (V : ℕ) (s : Sharded) (n last : ℕ) : Type 0 where
-  pub key : ℕ
-  pub here : shard_in s key ≡ n
-  pub before : List ReaderRecord
-  pub after : List ReaderRecord
-  pub reply : Reply V
-  pub looked : HasLookedIn V s key before after reply
-  pub told : last ≡ unwrap_or (at_of reply) 0
-
--- so it was, or there is no moment
-abbrev pub IsLastOf : (V : ℕ) → Sharded → ℕ → ℕ → Type 0
-IsLastOf V s n last = (last ≡ 0) ⊎ IsLookedUp V s n last

@@ -11,7 +11,8 @@ use Rattle.mc_cache.specs.declared.opening.OpenError.{OpenError}
 use Rattle.mc_cache.specs.declared.opening.OpenError.TheVariants as opening
 use Rattle.mc_shards.specs.Sharded.{Sharded}
 use Rattle.mc_load.specs.Loads.{AreDrawn, AreTrue, HasKeys, is_absent, is_busy, is_found, total_of}
-use Rattle.mc_load.specs.Lookups.{HasGot, IsLastOf}
+use Rattle.mc_load.specs.LastMoments.{IsLastOf}
+use Rattle.mc_load.specs.Lookups.{HasGot}
 use Rattle.mc_load.specs.declared.asked.Load.{Load}
 use Rattle.mc_load.specs.declared.error.LoadError.{LoadError}
 use Rattle.mc_load.specs.declared.error.LoadError.TheVariants as error

@@ -1,7 +1,8 @@
 //! What workers hold, made of what was opened.
 ghost use Rattle.std.specs.Prelude.{◌≡◌, All, IfOk, Some, vec_len};
 ghost use Rattle.mc_shards.specs.Sharded.{ArePassOf};
-ghost use Rattle.mc_load.specs.Inside.Handles.{cache_of, one_shard, place_of};
+ghost use Rattle.mc_load.specs.Inside.Handles.{cache_of, place_of};
+ghost use Rattle.mc_load.specs.Lookups.{one_shard};
 
 use crate::handle::{CacheReader, DeskPass, Handle, ShardPass};
 use mc_cache::{Cache, Desk, Reader};

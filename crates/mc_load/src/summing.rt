@@ -4,8 +4,9 @@ ghost use Rattle.mc_words.specs.Places.{IsWidth};
 ghost use Rattle.mc_words.specs.Readers.{most_readers};
 ghost use Rattle.mc_words.specs.Shapes.{IsShape};
 ghost use Rattle.mc_load.specs.Loads.{AreTrue, Reports, history_after, is_absent, is_busy, is_found, total_of};
+ghost use Rattle.mc_load.specs.Lookups.{one_shard};
 ghost use Rattle.mc_load.specs.Inside.Handles.{AreAllTold, cache_of};
-ghost use Rattle.mc_load.specs.Inside.Workers.{AreReadersOf, AreWhole, HasWritten, HaveAllNoted, HaveEnded, IsWriting, answers_of};
+ghost use Rattle.mc_load.specs.Inside.Workers.{AreReadersOf, AreWhole, HasWritten, HaveAllGot, HaveAllNoted, HaveEnded, IsWriting, answers_of};
 
 use crate::asked::Load;
 use crate::handle::Handle;
@@ -100,6 +101,7 @@ pub(crate) fn report_of<const V: usize>(
     requires of { AreReadersOf writer_thread.cache.now reader_threads.items }
     requires ended { HaveEnded V load reader_threads.items }
     requires noted { HaveAllNoted load reader_threads.items }
+    requires got { HaveAllGot (one_shard writer_thread.cache.now) reader_threads.items }
     ensures { Reports V load result }
 {
     let WriterThread {

@@ -6,12 +6,9 @@ use Rattle.mc_shared.specs.Records.{Opening, ReaderRecord}
 use Rattle.mc_shards.specs.Sharded.{Sharded}
 use Rattle.mc_check.specs.declared.record.Record.{Record}
 use Rattle.mc_load.specs.Loads.{history_after}
+use Rattle.mc_load.specs.Lookups.{one_shard}
 use Rattle.mc_load.specs.declared.handle.Handle.{Handle}
 use Rattle.mc_load.specs.declared.handle.Handle.TheVariants as handle
-
--- a cache as one shard
-abbrev pub one_shard : Opening → Sharded
-one_shard o = record { shape = o.layout.shape; tables = o ∷ [] }
 
 -- the shards that it belongs to
 abbrev pub place_of : {V : ℕ} → Handle V → Sharded

@@ -3,7 +3,7 @@ use Rattle.std.specs.Prelude.{ℕ, ◌≡◌, ◌<◌, List, length, slice_index
 use Rattle.mc_words.specs.declared.mix.Mix.{Mix}
 use Rattle.mc_check.specs.Changes.{key_in}
 use Rattle.mc_shards.specs.Sharded.{Sharded, shard_in}
-use Rattle.mc_load.specs.Lookups.{IsLastOf, IsLookedUp}
+use Rattle.mc_load.specs.LastMoments.{IsLastOf, IsLookedUp}
 use Rattle.mc_load.specs.declared.dated.Dated.{Dated}
 
 -- the shards are as many as this, and keys are mixed so; and each of these is a shard's last moment

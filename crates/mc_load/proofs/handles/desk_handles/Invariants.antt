@@ -1,7 +1,8 @@
 use Rattle.std.proofs.Common.{◌≡◌, ◌+◌, length}
 use Rattle.std.specs.Prelude.{All}
 use Rattle.mc_shared.specs.Records.{ReaderRecord}
-use Rattle.mc_load.specs.Inside.Handles.{one_shard, place_of}
+use Rattle.mc_load.specs.Inside.Handles.{place_of}
+use Rattle.mc_load.specs.Lookups.{one_shard}
 use Rattle.mc_load.specs.declared.handle.Handle.{Handle}
 use Rattle.mc_load.proofs.handles.desk_handles.Given as goal
 

@@ -3,11 +3,12 @@ use Rattle.std.proofs.lemmas.List.{get_or-set_same}
 use Rattle.std.specs.Prelude.{unwrap_or}
 use Rattle.mc_words.specs.Keys.{shard_of}
 use Rattle.mc_check.specs.Changes.{key_in}
-use Rattle.mc_shards.specs.Sharded.{shard_in}
-use Rattle.mc_load.specs.Lookups.{IsLookedUp}
+use Rattle.mc_shards.specs.Sharded.{ArePassOf, Sharded, shard_in}
+use Rattle.mc_load.specs.LastMoments.{IsLookedUp}
 use Rattle.mc_load.specs.Inside.Handles.{place_of, records_of}
 use Rattle.mc_load.specs.Inside.Lasts.{AreLasts}
 use Rattle.mc_load.proofs.LastMoments.{its_shard, known_here, known_written, lasts_written}
+use Rattle.mc_load.proofs.OneShard.{belongs}
 use Rattle.mc_load.proofs.lasts.note_last.Given.{Over}
 use Rattle.mc_load.proofs.lasts.note_last.Goals as goal
 
@@ -21,6 +22,7 @@ looked_up g c all =
       here = its_shard V s c.args.mix c.args.shards c.args.lasts.now c.key_of-key.result c.shard-shard.result all c.shard-shard.ensures.shard;
       before = records_of c.args.handle.now;
       after = records_of c.get-reply.new.self;
+      of = subst (λ (p : Sharded). ArePassOf p (records_of c.get-reply.new.self)) c.get-reply.ensures.place (belongs c.get-reply.new.self);
       reply = c.get-reply.result;
       looked = c.get-reply.ensures.looked;
       told = c.unwrap_or.ensures ∙ ap (λ (o : Option ℕ). unwrap_or o 0) c.moment_of.ensures;

@@ -5,8 +5,10 @@ use Rattle.mc_theory.specs.Lists.{IsLawful}
 use Rattle.mc_theory.proofs.Lists.Fronts.{state_holds}
 use Rattle.mc_shared.specs.Records.{Opening, WriterRecord}
 use Rattle.mc_load.specs.Loads.{AreTrue, HasLookedUp, HasMade, history_after, is_absent, is_busy, is_found, total_of}
-use Rattle.mc_load.specs.Inside.Workers.{AreReadersOf, answers_of}
+use Rattle.mc_load.specs.Inside.Workers.{AreReadersOf, HaveAllGot, answers_of}
 use Rattle.mc_load.specs.declared.reader_thread.ReaderThread.{ReaderThread}
+use Rattle.mc_load.specs.Lookups.{one_shard}
+use Rattle.mc_load.proofs.Looked.{got_answers}
 use Rattle.mc_load.proofs.Readers.{some_element}
 use Rattle.mc_load.proofs.summing.report_of.Goals as goal
 
@@ -52,6 +54,7 @@ returns g c =
             drawn = (c.requires.noted r d under).drawn;
             told = subst (λ (s : Shape). AreTrue (history_after V s w.acts) (get_or ls r d).records.items) shape (c.check_readers.ensures.told r d under);
           });
+      got = got_answers (one_shard w.of) ls (subst (λ (o : Opening). HaveAllGot (one_shard o) ls) (sym c.requires.writing.of) c.requires.got);
       found = c.answers_of-report.ensures.found ∙ ap (λ (z : List (ReaderThread V)). total_of is_found (answers_of z)) read;
       absent = c.answers_of-report.ensures.absent ∙ ap (λ (z : List (ReaderThread V)). total_of is_absent (answers_of z)) read;
       busy = c.answers_of-report.ensures.busy ∙ ap (λ (z : List (ReaderThread V)). total_of is_busy (answers_of z)) read;

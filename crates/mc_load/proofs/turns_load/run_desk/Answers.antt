@@ -3,7 +3,7 @@ use Rattle.mc_words.proofs.Powers.{is_power-pow}
 use Rattle.mc_words.specs.Shapes.{HasShards}
 use Rattle.mc_shared.specs.declared.layout.Layout.{Layout}
 use Rattle.mc_load.specs.ShardLoads.{CanTakeTurns}
-use Rattle.mc_load.specs.Inside.Handles.{one_shard}
+use Rattle.mc_load.specs.Lookups.{one_shard}
 use Rattle.mc_load.proofs.Refused.{refused_by_no_gate, seats_refused}
 use Rattle.mc_load.proofs.Works.{new_length}
 use Rattle.mc_load.proofs.turns_load.run_desk.Goals as goal

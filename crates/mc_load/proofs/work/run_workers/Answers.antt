@@ -1,8 +1,11 @@
 use Rattle.std.proofs.Common.{ℕ, List, Option, ◌≡◌, ◌<◌, ◌≤◌, ap, arith, inl, length, refl, subst, sym, vec_len, ◌∙◌}
 use Rattle.std.specs.Prelude.{IfNone, IfSome}
 use Rattle.mc_shared.specs.Records.{Opening}
-use Rattle.mc_load.specs.Inside.Workers.{AreReadersOf, AreWhole, HasWritten}
+use Rattle.mc_load.specs.Inside.Workers.{AreReadersOf, AreWhole, HasWritten, HaveAllGot}
 use Rattle.mc_load.specs.declared.reader_thread.ReaderThread.{ReaderThread}
+use Rattle.mc_load.specs.Lookups.{one_shard}
+use Rattle.mc_load.proofs.Looked.{all_got}
+use Rattle.mc_load.proofs.OneShard.{cache_places}
 use Rattle.mc_load.proofs.Readers.{all_noted}
 use Rattle.mc_load.proofs.Works.{all_ended, still_readers, writer_ended}
 use denote.Param.Send.{sendable}
@@ -45,6 +48,8 @@ report_of-requires g c =
     let most = c.requires.asked.1.1 in
     let ended = all_ended may load looked.items ls c.in-Ok-reader_threads_of.ensures.ready read in
     let whole : AreWhole ls = subst (λ (z : List (ReaderThread V)). AreWhole z) c.as_slice.ensures.value c.in-None.ensures.none in
+    let places = c.in-Ok-reader_threads_of.ensures.place (one_shard c.args.cache.now) (cache_places c.args.handles.items c.args.cache.now c.requires.of) in
+    let got = subst (λ (o : Opening). HaveAllGot (one_shard o) ls) (sym cache) (all_got may load (one_shard c.args.cache.now) looked.items ls places read) in
     let of = still_readers may load c.args.cache.now looked.items ls (c.in-Ok-reader_threads_of.ensures.of c.args.cache.now c.requires.of) read in (
       omega arith,
       (
@@ -61,7 +66,7 @@ report_of-requires g c =
                   end.few,
                   (
                     len,
-                    (omega (arith, len, most), (subst (λ (o : Opening). AreReadersOf o ls) (sym cache) of, (ended, all_noted load ls ended whole))),
+                    (omega (arith, len, most), (subst (λ (o : Opening). AreReadersOf o ls) (sym cache) of, (ended, (all_noted load ls ended whole, got)))),
                   ),
                 ),
               ),
