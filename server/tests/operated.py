@@ -11,7 +11,7 @@ import socket
 import subprocess
 import sys
 
-from running import TIMEOUT, ask, connect, rest, running
+from running import TIMEOUT, ask, connect, memory_of, rest, running
 
 END = b'END\r\n'
 
@@ -90,6 +90,18 @@ def open_files(program):
     assert (ran.returncode, ran.stdout) == (1, '') and '300 are allowed: choose a smaller -c' in ran.stderr, ran
 
 
+def idle_clients(program):
+    """A client that waits costs little, whatever it has sent and was sent before."""
+    value, count = b'v' * 200_000, 600
+    with running(program, '-c', '700', '-t', '2') as (server, port), contextlib.ExitStack() as stack:
+        clients = [stack.enter_context(connect(port)) for _ in range(count)]
+        before = memory_of(server)
+        for client in clients:
+            assert ask(client, b'set k 0 0 %d\r\n%s\r\n' % (len(value), value)) == b'STORED\r\n'
+            assert ask(client, b'get k\r\n', END).startswith(b'VALUE k 0 200000\r\n')
+        assert memory_of(server) - before < 4 * len(value) + count * 4096, memory_of(server) - before
+
+
 def clients_too_many(program):
     """The operator is told once, and not for each."""
     read, write = os.pipe()
@@ -108,7 +120,7 @@ def main():
     with running(program) as (_, port):
         web_pages(port)
         binary_clients(port)
-    for test in [signals, full_output, open_files, clients_too_many]:
+    for test in [signals, full_output, open_files, idle_clients, clients_too_many]:
         test(program)
 
 

@@ -16,15 +16,10 @@ import sys
 import tempfile
 import time
 
-from running import TIMEOUT, ask, connect, rest, running
+from running import TIMEOUT, ask, connect, memory_of, rest, running
 
 MEGABYTE = 1 << 20
 END = b'END\r\n'
-
-
-def memory_of(server):
-    with open(f'/proc/{server.pid}/statm', encoding='ascii') as file:
-        return int(file.read().split()[1]) * os.sysconf('SC_PAGESIZE')
 
 
 def too_many_clients(program):

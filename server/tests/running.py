@@ -1,5 +1,6 @@
 """A running cefrodild, for the tests in Python."""
 import contextlib
+import os
 import socket
 import subprocess
 
@@ -29,6 +30,12 @@ def running(program, *options, stderr=None, before=None):
         yield server, port
     finally:
         stop(server)
+
+
+def memory_of(server):
+    """How many bytes the process takes."""
+    with open(f'/proc/{server.pid}/statm', encoding='ascii') as file:
+        return int(file.read().split()[1]) * os.sysconf('SC_PAGESIZE')
 
 
 def connect(port):
