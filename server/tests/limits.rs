@@ -94,7 +94,7 @@ fn the_longest_line() {
     let line = |bytes: usize| format!("{}\r\n", "x".repeat(bytes - 2));
     assert_eq!(client().ask_bytes(line(LINE).as_bytes()), (b"ERROR\r\n".to_vec(), false));
     assert_eq!(client().ask_bytes(line(LINE + 1).as_bytes()), (b"CLIENT_ERROR line too long\r\n".to_vec(), true));
-    // It is told as soon as the line can't end in time, and not before.
+    // The error comes as soon as the line can't end in time, and not before.
     assert_eq!(client().ask_bytes("x".repeat(LINE - 1).as_bytes()), (b"".to_vec(), false));
     assert_eq!(client().ask_bytes("x".repeat(LINE).as_bytes()), (b"CLIENT_ERROR line too long\r\n".to_vec(), true));
 }

@@ -84,7 +84,7 @@ impl Timed for Map<u64, u64> {
     }
 }
 
-// It has no forms that try once but one. A renewal in place stands in for some of them.
+// Only one of its calls has a form that tries once. Where the other map has such a form, a renewal in place is made here.
 #[cfg(feature = "objects")]
 impl Timed for ObjectMap<u64, u64> {
     fn get(&self, key: u64) -> Option<u64> {
