@@ -5,18 +5,20 @@ use crate::seat::Seat;
 use crate::store::Store;
 use mio::event::Event;
 use mio::net::TcpStream;
-use std::cell::RefCell;
+use std::cell::Cell;
 use std::io::{self, ErrorKind, Read, Write};
+use std::mem;
 
 /// How many bytes are read at a time, at least.
 const CHUNK: usize = 1 << 14;
 
-/// A buffer that is larger than this is given up when it is empty: so a client that waits keeps little.
-const LARGE: usize = 1 << 10;
+/// A buffer that is larger than this is given up when it is empty.
+const LARGE: usize = 1 << 17;
 
 thread_local! {
-    /// What this thread reads into, before it is the client's.
-    static READ: RefCell<Box<[u8]>> = RefCell::new(vec![0; CHUNK].into_boxed_slice());
+    /// Buffers for what is read and for answers. A client has buffers of its own only while bytes wait in them.
+    static READ: Cell<Vec<u8>> = const { Cell::new(Vec::new()) };
+    static ANSWERS: Cell<Vec<u8>> = const { Cell::new(Vec::new()) };
 }
 
 /// How often a turn reads or carries commands out.
@@ -89,6 +91,31 @@ impl Connection {
 
     /// Reads, carries commands out and sends answers, as far as that is possible at once and not too much.
     pub fn turn(&mut self, store: &Store) -> io::Result<Next> {
+        self.borrow_buffers();
+        let next = self.rounds(store);
+        self.return_buffers();
+        next
+    }
+
+    fn borrow_buffers(&mut self) {
+        if self.input.bytes.is_empty() {
+            self.input.bytes = READ.take();
+        }
+        if self.output.capacity() == 0 {
+            self.output = ANSWERS.take();
+        }
+    }
+
+    fn return_buffers(&mut self) {
+        if self.input.len() == 0 {
+            READ.set(mem::take(&mut self.input.bytes));
+        }
+        if self.output.is_empty() {
+            ANSWERS.set(mem::take(&mut self.output));
+        }
+    }
+
+    fn rounds(&mut self, store: &Store) -> io::Result<Next> {
         for _ in 0..ROUNDS {
             self.send(store)?;
             if self.is_ending {
@@ -121,11 +148,12 @@ impl Connection {
         if self.is_dry && !self.is_half_closed {
             return Ok(false);
         }
-        let (read, room) = self.input.read(self.needs, |room| retry(|| self.stream.read(room)))?;
-        match read {
+        let room = self.input.room(self.needs);
+        match retry(|| self.stream.read(room))? {
             Some(0) => self.is_ending = true,
             Some(count) => {
-                self.is_dry = count < room;
+                self.is_dry = count < room.len();
+                self.input.end += count;
                 store.counts.add_many(Count::BytesRead, count as u64);
             }
             None => return Ok(false),
@@ -185,50 +213,16 @@ impl Input {
         }
     }
 
-    /// Reads once, if so many bytes must be there. Returns how many came, and for how many there was room.
-    fn read(
-        &mut self,
-        needs: usize,
-        read: impl FnMut(&mut [u8]) -> io::Result<Option<usize>>,
-    ) -> io::Result<(Option<usize>, usize)> {
+    /// Room to read into, if so many bytes must be there. A client can make the buffer twice as large as what it has sent, and no larger.
+    fn room(&mut self, needs: usize) -> &mut [u8] {
         if self.start > 0 {
             self.bytes.copy_within(self.start..self.end, 0);
             (self.start, self.end) = (0, self.len());
         }
-        if needs > self.end + CHUNK {
-            return self.read_much(needs, read);
-        }
-        self.read_little(read)
-    }
-
-    /// Reads what little is missing, by the buffer of this thread.
-    fn read_little(
-        &mut self,
-        mut read: impl FnMut(&mut [u8]) -> io::Result<Option<usize>>,
-    ) -> io::Result<(Option<usize>, usize)> {
-        READ.with_borrow_mut(|buffer| {
-            let read = read(buffer)?;
-            self.bytes.truncate(self.end);
-            self.bytes.extend_from_slice(&buffer[..read.unwrap_or(0)]);
-            self.end = self.bytes.len();
-            Ok((read, buffer.len()))
-        })
-    }
-
-    /// Reads a part of a long block in place. A client can make the buffer twice as large as what it has sent, and no larger.
-    fn read_much(
-        &mut self,
-        needs: usize,
-        mut read: impl FnMut(&mut [u8]) -> io::Result<Option<usize>>,
-    ) -> io::Result<(Option<usize>, usize)> {
         let wanted = (self.end + CHUNK).max(needs.min(2 * self.end));
         if self.bytes.len() < wanted {
             self.bytes.resize(wanted, 0);
         }
-        let room = &mut self.bytes[self.end..];
-        let size = room.len();
-        let read = read(room)?;
-        self.end += read.unwrap_or(0);
-        Ok((read, size))
+        &mut self.bytes[self.end..]
     }
 }
