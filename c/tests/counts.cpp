@@ -189,6 +189,13 @@ static void refused_batches() {
     }
     MUST(cefrodil_close(writer.raw()) == CEFRODIL_OK && writer.put_many(keys, 2, values, answers) == Status::closed);
     MUST(are(readers[0].meter().counts(), {0, 0, 0, 0, 0, 0}));
+    // So it is of lookups.
+    std::array<uint64_t, 1> found[2];
+    cefrodil_answer looked[2]{};
+    looked[0].status = looked[1].status = CEFRODIL_ABSENT;
+    const Meter meter = readers[0].meter();
+    MUST(cefrodil_close(readers[0].raw()) == CEFRODIL_OK && readers[0].get_many(keys, 2, found, looked) == Status::closed);
+    MUST(are(meter.counts(), {0, 0, 0, 0, 0, 0}));
 }
 
 static void add(Counts &to, const Counts &more) {

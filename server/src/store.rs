@@ -165,6 +165,11 @@ impl Store {
 
     /// Makes all items invalid that are stored by then: now, or after so many seconds.
     pub fn flush(&self, delay: i64) {
+        self.flush_with(delay, || {});
+    }
+
+    /// The same. If it flushes now, it calls `between` when it has asked for the time and no command knows of it yet, for tests.
+    pub fn flush_with(&self, delay: i64, between: impl FnOnce()) {
         let at_once = || {
             let now = self.clock.now();
             (now, now)
@@ -175,7 +180,7 @@ impl Store {
                 (self.clock.deadline(delay).max(now), now)
             });
         }
-        self.flushes.flush(at_once);
+        self.flushes.flush_with(at_once, between);
         // A command that did not see that flush looked at the time before it was there, so before this time.
         self.flushes.flush(at_once);
     }

@@ -290,6 +290,12 @@ fn arithmetic_keeps_the_flags() {
 }
 
 #[test]
+fn flags_have_32_bits() {
+    let answers = "STORED\nVALUE k 4294967295 1\nx\nEND\nHD f4294967295\n";
+    assert_eq!(Client::new(MEGABYTE).ask("set k 4294967295 0 1\nx\nget k\nmg k f\n"), answers);
+}
+
+#[test]
 fn the_version_is_that_of_a_memcached() {
     // Clients choose commands by it, and some read no other form.
     assert_eq!(Client::new(MEGABYTE).ask("version\n"), "VERSION 1.6.18\n");

@@ -95,3 +95,11 @@ fn nothing_old_outlives_a_flush() {
         }
     });
 }
+
+#[test]
+fn what_is_changed_while_a_flush_begins_is_flushed() {
+    let store = store();
+    assert!(matches!(store.store(&set(How::Set), b"1"), Ok(Answer::Done(_))));
+    store.flush_with(0, || assert!(matches!(store.store(&set(How::Append), b"2"), Ok(Answer::Done(_)))));
+    assert_eq!(deadline(&store), None);
+}

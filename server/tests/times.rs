@@ -120,6 +120,14 @@ fn a_flush_does_not_undo_one_that_has_come() {
 }
 
 #[test]
+fn a_flush_does_not_undo_one_that_comes_now() {
+    let (item, flushes) = (item(5, NEVER), Flushes::default());
+    flushes.flush(|| (10, 6));
+    flushes.flush(|| (20, 10));
+    assert!(!item.is_live(12, &flushes));
+}
+
+#[test]
 fn a_flush_waits_for_another_one() {
     let (item, flushes) = (item(5, NEVER), Flushes::default());
     thread::scope(|threads| {
