@@ -62,8 +62,8 @@ fn known() -> Option<PathBuf> {
 fn released(top: &Path) -> Option<PathBuf> {
     let name = concat!("cefrodil-", env!("CARGO_PKG_VERSION"), "-x86_64-linux.tar.xz");
     let packed = top.join("../release").join(name);
-    let is_for_target = variable("CARGO_CFG_TARGET_ARCH")? == "x86_64" && variable("CARGO_CFG_TARGET_OS")? == "linux";
-    if !is_for_target || !packed.is_file() {
+    let is = |name: &str, wanted: &str| env::var(name).is_ok_and(|found| found == wanted);
+    if !is("CARGO_CFG_TARGET_ARCH", "x86_64") || !is("CARGO_CFG_TARGET_OS", "linux") || !packed.is_file() {
         return None;
     }
     watch(&packed);
@@ -74,10 +74,6 @@ fn released(top: &Path) -> Option<PathBuf> {
         fail(&format!("cannot unpack {}: tar and xz are needed", packed.display()));
     }
     Some(folder.join("lib"))
-}
-
-fn variable(name: &str) -> Option<String> {
-    env::var(name).ok()
 }
 
 /// What pkg-config answers, if it is there and knows the library.

@@ -112,19 +112,13 @@ fn a_flush_replaces_one_that_is_to_come() {
 
 #[test]
 fn a_flush_does_not_undo_one_that_has_come() {
-    let (item, flushes) = (item(5, NEVER), Flushes::default());
-    flushes.flush(|| (10, 6));
-    // It came at 10.
-    flushes.flush(|| (20, 11));
-    assert!(!item.is_live(12, &flushes));
-}
-
-#[test]
-fn a_flush_does_not_undo_one_that_comes_now() {
-    let (item, flushes) = (item(5, NEVER), Flushes::default());
-    flushes.flush(|| (10, 6));
-    flushes.flush(|| (20, 10));
-    assert!(!item.is_live(12, &flushes));
+    // It comes at 10.
+    for now in [10, 11] {
+        let (item, flushes) = (item(5, NEVER), Flushes::default());
+        flushes.flush(|| (10, 6));
+        flushes.flush(|| (20, now));
+        assert!(!item.is_live(12, &flushes), "{now}");
+    }
 }
 
 #[test]

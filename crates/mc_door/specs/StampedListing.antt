@@ -36,4 +36,4 @@ abbrev pub RefusesStampedList : (V : ℕ) → Role → Role → ℕ → ListErro
 RefusesStampedList V role role' words why.Kind = (¬ ChangesOneTable role) × (role' ≡ role)
 RefusesStampedList V role role' words why.Held = IsPass role × (role' ≡ role)
 RefusesStampedList V role role' words (why.Count count) = SeesMore V role role' × HasMoreStamped V role' words count
-RefusesStampedList V role role' words why.NoMemory = SeesMore V role role' × ((none : NoMemory) × HasStoppedList V (desk.Call none) role role')
+RefusesStampedList V role role' words why.NoMemory = SeesMore V role role' × ChangesOneTable role × ((none : NoMemory) × HasStoppedList V (desk.Call none) role role')

@@ -36,7 +36,6 @@ pub enum Room {
 }
 
 impl Room {
-    ghost use Rattle.mc_search.specs.Orders.{IsFirstHoleOf, IsFirstMove, IsFirstMoveOf};
     ghost use Rattle.mc_search.specs.Paths.{IsCut, path_of_room};
 
     /// The room that is left once the victim is taken out: if the key that was to move is the victim, its place is a hole. A kept path is

@@ -28,4 +28,4 @@ abbrev pub RefusesStampedOutright : (V : ℕ) → Role → Role → ListError �
 RefusesStampedOutright V role role' why.Kind = (¬ ChangesOneTable role) × (role' ≡ role)
 RefusesStampedOutright V role role' why.Held = IsPass role × (role' ≡ role)
 RefusesStampedOutright V role role' (why.Count count) = ⊥
-RefusesStampedOutright V role role' why.NoMemory = SeesMore V role role' × ((none : NoMemory) × HasStoppedList V (desk.Call none) role role')
+RefusesStampedOutright V role role' why.NoMemory = SeesMore V role role' × ChangesOneTable role × ((none : NoMemory) × HasStoppedList V (desk.Call none) role role')
