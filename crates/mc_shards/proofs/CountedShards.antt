@@ -1,6 +1,6 @@
 -- The keys of shards are counted one shard after the other, from the last one back.
 use Rattle.std.specs.Prelude.{IfSome}
-use Rattle.std.proofs.Common.{ℕ, ◌≡◌, ◌+◌, ◌*◌, ◌≤◌, ◌∙◌, List, [], ◌∷◌, length, drop, Some, ap, arith, subst, sym}
+use Rattle.std.proofs.Common.{ℕ, ◌≡◌, ◌+◌, ◌*◌, ◌<◌, ◌≤◌, ◌∙◌, get_or, List, [], ◌∷◌, length, drop, min, Some, ap, arith, subst, sym}
 use Rattle.std.proofs.lemmas.List.{length-map}
 use Rattle.std.proofs.Math.Nat.{mul-suc}
 use Rattle.std.proofs.lemmas.List.Sums.{sum_by-cons}
@@ -9,13 +9,14 @@ use Rattle.std.proofs.Math.Numerals.{add-one}
 use Rattle.mc_words.proofs.Count.{keys_fit}
 use Rattle.mc_words.specs.History.{key_count}
 use Rattle.mc_words.specs.declared.history.Change.{Change}
-use Rattle.mc_shared.specs.Records.{ReaderRecord}
+use Rattle.mc_shared.specs.Records.{ReaderRecord, WriterRecord}
 use Rattle.mc_theory.specs.Lists.{state_of}
-use Rattle.mc_cache.specs.Plain.{Begins, seen}
+use Rattle.mc_cache.specs.Plain.{Begins, history, seen}
+use Rattle.mc_cache.specs.Resting.{IsAtRest}
 use Rattle.mc_cache.specs.Turns.{HasMetAtDesk}
 use Rattle.mc_shards.proofs.Dealt.{as_many}
-use Rattle.mc_shards.proofs.ListedShards.{drop_all, from_change}
-use Rattle.mc_shards.specs.Counted.{keys_in_all}
+use Rattle.mc_shards.proofs.ListedShards.{drop_all, from_change, from_place}
+use Rattle.mc_shards.specs.Counted.{changes_in_all, keys_in_all}
 use Rattle.mc_shards.specs.Plain.{seens}
 use Rattle.mc_shards.specs.Sharded.{ArePassOf, ChangesAt, Sharded}
 
@@ -28,6 +29,12 @@ few_keys V old new met =
     let fit : key_count state.history ≤ writer.of.layout.shape.items = keys_fit V writer.of.layout.shape state.words state.history (λ k. met.stood.rests.agrees.keys k (none-some k)) in
     let same : (key_count (seen V new) ≡ key_count (state_of V old.of.layout.shape writer.acts).history) = ap (λ (r : ReaderRecord). key_count (seen V r)) met.caught in
     subst (λ (n : ℕ). n ≤ old.of.layout.shape.items) (sym same) (subst (λ o. key_count (state_of V o.layout.shape writer.acts).history ≤ o.layout.shape.items) met.of fit)
+
+pub few_at_rest : (V : ℕ) (w : WriterRecord) → IsAtRest V w → key_count (history V w) ≤ w.of.layout.shape.items
+unfolding history
+few_at_rest V w rests =
+    let state = state_of V w.of.layout.shape w.acts in
+    keys_fit V w.of.layout.shape state.words state.history (λ k. rests.agrees.keys k (none-some k))
 
 -- ---- before the first, after one more
 pub counted_none : (V : ℕ) (s : Sharded) (rs : List ReaderRecord) (n : ℕ) → ArePassOf s rs → n ≡ length s.tables → 0 ≡ keys_in_all (drop n (seens V rs))
@@ -47,3 +54,15 @@ pub room_left : (items left now most many more : ℕ) → left ≡ now + 1 → m
 room_left items left now most many more next few room =
     let each : items * left ≡ items * now + items = ap (λ (n : ℕ). items * n) (next ∙ add-one now) ∙ mul-suc items now in
     omega (arith, each, few, room)
+
+-- ---- the same of a holder, whose histories stay
+pub keys_more : (V m n : ℕ) (hs : List (List (Change V))) (many more : ℕ) → m ≡ n + 1 → n < length hs → many ≡ keys_in_all (drop m hs) → more ≡ key_count (get_or hs n []) → many + more ≡ keys_in_all (drop n hs)
+keys_more V m n hs many more next within was now =
+    let after = ap (λ (z : List (List (Change V))). keys_in_all z) (from_place hs n m [] next within) ∙ sum_by-cons key_count (get_or hs n []) (drop m hs) in
+    omega (arith, after, was, now)
+
+pub changes_more : (V m n : ℕ) (hs : List (List (Change V))) (many more told : ℕ) → m ≡ n + 1 → n < length hs → many ≡ min (changes_in_all (drop m hs)) 18446744073709551615 → more ≡ length (get_or hs n []) → told ≡ min (many + more) 18446744073709551615
+    → told ≡ min (changes_in_all (drop n hs)) 18446744073709551615
+changes_more V m n hs many more told next within was now is =
+    let after = ap (λ (z : List (List (Change V))). changes_in_all z) (from_place hs n m [] next within) ∙ sum_by-cons length (get_or hs n []) (drop m hs) in
+    omega (arith, after, was, now, is)

@@ -7,7 +7,9 @@ use Rattle.std.proofs.lemmas.List.Elements.{All-cons, All-head, All-nil, All-pus
 use Rattle.std.proofs.lemmas.Option.{get_or_from_slice_get, none-some, same_Some, slice_get-map, slice_get_read}
 use Rattle.std.proofs.Math.Seq.{map-set_same}
 use lib.Seq.{set-get_or}
+use Rattle.mc_words.specs.Keys.{shard_of}
 use Rattle.mc_words.specs.declared.history.Change.{Change}
+use Rattle.mc_words.specs.declared.mix.Mix.{Mix}
 use Rattle.mc_words.specs.declared.shape.Shape.{Shape}
 use Rattle.mc_shared.specs.Records.{IsNewReader, Opening, ReaderRecord, new_readers, reader_record}
 use Rattle.mc_shared.specs.Views.{layout_of}
@@ -109,3 +111,8 @@ changes_here n m self items r r' Goes is here at goes =
 pub seens_here : (V n m : ℕ) (self items : List ReaderRecord) (r r' : ReaderRecord) (Goes : List (Change V) → List (Change V) → Type 0) → items ≡ self → n ≡ m → slice_get items n ≡ Some r → Goes (seen V r) (seen V r') → ChangesAt m (seens V self) (seens V (slice_set items n r')) Goes
 seens_here V n m self items r r' Goes is here at goes =
     subst (λ (p : ℕ × List ReaderRecord). ChangesAt p.0 (seens V p.1) (seens V (slice_set items n r')) Goes) (λ i. (here i, is i)) (seens_change V n items r r' Goes at goes)
+
+-- the only shard has every key
+pub only_shard : (mix : Mix) (k n : ℕ) → n ≡ 1 → shard_of mix n k ≡ 0
+unfolding shard_of
+only_shard mix k n one = omega (arith, one)

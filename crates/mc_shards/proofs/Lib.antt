@@ -8,3 +8,5 @@ pub mod LoadedShards
 pub mod Spread
 pub mod Sent
 pub mod LentWriters
+pub mod HeldTurns
+pub mod HeldCalls

@@ -1,6 +1,6 @@
 -- Shards are listed one after the other, from the last one back.
 use Rattle.std.specs.Prelude.{Err, slice_get, slice_set}
-use Rattle.std.proofs.Common.{ℕ, zero, suc, ◌≡◌, ◌+◌, ◌<◌, ◌≤◌, ◌∙◌, List, [], ◌∷◌, length, drop, set, Some, ap, arith, inl, inr, refl, subst, sym}
+use Rattle.std.proofs.Common.{ℕ, zero, suc, ◌≡◌, ◌+◌, ◌<◌, ◌≤◌, ◌∙◌, get_or, List, [], ◌∷◌, length, drop, set, Some, ap, arith, inl, inr, refl, subst, sym}
 use Rattle.std.proofs.Math.Nat.{eq-or-lt_of_le}
 use Rattle.std.proofs.lemmas.List.{length-map}
 use Rattle.std.proofs.lemmas.Option.{none-some, same_Some, slice_get_within}
@@ -42,6 +42,14 @@ from_change {A} m n xs ys Goes next c =
     let same : suc n ≡ m = omega (arith, next) in
     ap (λ (z : List A). drop n z) c.is ∙ (drop_set xs n c.after within ∙ ap (λ (k : ℕ). c.after ∷ drop k xs) same)
 
+-- and from any place on
+pub from_place : {A : Type 0} (xs : List A) (n m : ℕ) (d : A) → m ≡ n + 1 → n < length xs → drop n xs ≡ get_or xs n d ∷ drop m xs
+from_place [] n m d next within = absurd (omega (arith, within))
+from_place (x ∷ xs) zero m d next within = ap (λ (k : ℕ). x ∷ drop k (x ∷ xs)) (sym next)
+from_place (x ∷ xs) (suc n) m d next within =
+    let later : suc (n + 1) ≡ m = omega (arith, next) in
+    from_place xs n (n + 1) d refl (omega (arith, within)) ∙ ap (λ (k : ℕ). get_or xs n d ∷ drop k (x ∷ xs)) later
+
 -- ---- before the first, after one more, after all
 pub listed_none : (V : ℕ) (s : Sharded) (rs : List ReaderRecord) (n : ℕ) → ArePassOf s rs → n ≡ length s.tables → AreListed V s.shape.mix (length s.tables) n (drop n (seens V rs)) []
 listed_none V s rs n are is =
@@ -79,7 +87,7 @@ not_listed T V (desk.Call refused) r r' t = t
 pub changes_as : {A : Type 0} (n : ℕ) (xs ys : List A) (Goes Went : A → A → Type 0) → ((x y : A) → Goes x y → Went x y) → ChangesAt n xs ys Goes → ChangesAt n xs ys Went
 changes_as n xs ys Goes Went then c = record { before = c.before; after = c.after; was = c.was; is = c.is; goes = then c.before c.after c.goes }
 
-get_set_same : {A : Type 0} (xs : List A) (n : ℕ) (x y : A) → slice_get xs n ≡ Some x → slice_get (slice_set xs n y) n ≡ Some y
+pub get_set_same : {A : Type 0} (xs : List A) (n : ℕ) (x y : A) → slice_get xs n ≡ Some x → slice_get (slice_set xs n y) n ≡ Some y
 get_set_same [] n x y was = absurd (none-some x was)
 get_set_same (x ∷ xs) zero x' y was = refl
 get_set_same (x ∷ xs) (suc n) x' y was = get_set_same xs n x' y was
@@ -90,7 +98,7 @@ get_set_below (x ∷ xs) zero m y l = absurd (omega (arith, l))
 get_set_below (x ∷ xs) (suc n) zero y l = refl
 get_set_below (x ∷ xs) (suc n) (suc m) y l = get_set_below xs n m y (omega (arith, l))
 
-get_set_above : {A : Type 0} (xs : List A) (n m : ℕ) (y : A) → n < m → slice_get (slice_set xs n y) m ≡ slice_get xs m
+pub get_set_above : {A : Type 0} (xs : List A) (n m : ℕ) (y : A) → n < m → slice_get (slice_set xs n y) m ≡ slice_get xs m
 get_set_above [] n m y l = refl
 get_set_above (x ∷ xs) zero zero y l = absurd (omega (arith, l))
 get_set_above (x ∷ xs) zero (suc m) y l = refl
@@ -132,3 +140,18 @@ stopped V n m first rs rs' why next same met c = record {
   asked = met_behind V n m first rs rs' _ next met c;
   left = λ i less. still_below n m i first rs rs' _ next same c less;
 }
+
+-- ---- the same of a holder, whose histories stay
+pub held_more : (V : ℕ) (mix : Mix) (many m n : ℕ) (hs : List (List (Change V))) (es es' : List (ℕ × List ℕ)) → m ≡ n + 1 → n < length hs → AreListed V mix many m (drop m hs) es
+    → AddsShard V mix many n (get_or hs n []) es es' → AreListed V mix many n (drop n hs) es'
+held_more V mix many m n hs es es' next within l adds =
+    let rest : AreListed V mix many (n + 1) (drop m hs) es = subst (λ (k : ℕ). AreListed V mix many k (drop m hs) es) next l in
+    subst (λ (z : List (List (Change V))). AreListed V mix many n z es') (sym (from_place hs n m [] next within)) (es, rest, adds)
+
+pub held_all : (V : ℕ) (mix : Mix) (many n : ℕ) (hs : List (List (Change V))) (es : List (ℕ × List ℕ)) → HasShards many → length hs ≡ many → n ≡ 0 → AreListed V mix many n (drop n hs) es → AreEntriesOfAll V mix hs es
+held_all V mix many n hs es shards long none l =
+    let whole : AreListed V mix many 0 hs es = subst (λ (k : ℕ). AreListed V mix many k (drop k hs) es) none l in
+    entries_of_all V mix hs es (λ k. shard_below mix (length hs) k (omega (arith, long, shards.0))) (subst (λ (m : ℕ). AreListed V mix m 0 hs es) (sym long) whole)
+
+pub held_none : (V : ℕ) (mix : Mix) (many n : ℕ) (hs : List (List (Change V))) (es : List (ℕ × List ℕ)) → n ≡ length hs → es ≡ [] → AreListed V mix many n (drop n hs) es
+held_none V mix many n hs es is none = subst (λ (z : List (List (Change V))). AreListed V mix many n z es) (sym (drop_all hs n is)) none

@@ -1,3 +1,4 @@
 pub mod Dealt
 pub mod Listed
 pub mod Taken
+pub mod Held

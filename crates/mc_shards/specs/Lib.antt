@@ -10,3 +10,4 @@ pub mod Counted
 pub mod Unlisted
 pub mod Lending
 pub mod Inside
+pub mod Holding

@@ -3,11 +3,13 @@ use Rattle.std.specs.Prelude.{ℕ, ◌≡◌, List, Some, length, map, slice_get
 use Rattle.mc_words.specs.Keys.{shard_of}
 use Rattle.mc_words.specs.declared.shape.Shape.{Shape}
 use Rattle.mc_shared.specs.Records.{Opening, ReaderRecord}
+use Rattle.mc_shards.specs.Lending.{Lock}
 
--- which tables they are, and the shape that each of them has
+-- which tables they are, the shape that each of them has, and the locks around their writers
 pub record Sharded : Type 0 where
   pub shape : Shape
   pub tables : List Opening
+  pub locks : List Lock
 
 -- the shard of a key
 abbrev pub shard_in : Sharded → ℕ → ℕ

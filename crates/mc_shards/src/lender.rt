@@ -11,20 +11,19 @@ use std::alloc::{AllocError, Global};
 use std::marker::Model;
 use std::snapshot::Snapshot;
 
-/// A try-lock around the writer of a shard. A turn borrows the writer in place, so nothing is moved. In contracts it is the table that was
-/// opened.
+/// A try-lock around the writer of a shard. A turn borrows the writer in place, so nothing is moved.
 #[derive(Drop)]
 pub(crate) struct Lender<const V: usize> {
-    table: Table<Writer<V>, Snapshot<Writer<V>>, Snapshot<Writer<V>>, LiesThere, Global>,
+    pub(crate) table: Table<Writer<V>, Snapshot<Writer<V>>, Snapshot<Writer<V>>, LiesThere, Global>,
 }
 
 impl<const V: usize> Model for Lender<V> {
     ghost use Rattle.std.specs.Prelude.{◌≡◌};
-    ghost use Rattle.mc_shared.specs.Records.{Opening};
+    ghost use Rattle.mc_shards.specs.Lending.{Lock};
 
-    ghost Value = { Opening };
+    ghost Value = { Lock };
 
-    ghost view = { λ d. d.table.shared.key.value.of };
+    ghost view = { λ d. record { key = d.table.shared.key; id = d.table.shared.table_id } };
 
     ghost invariant = { λ d. (d.table.shared.table_id.words ≡ 16) × (d.table.shared.table_id.slots ≡ 1) };
 }
@@ -34,10 +33,11 @@ impl<const V: usize> Lender<V> {
     ghost use Rattle.mc_cache.specs.Plain.{AreEntriesOf, Begins, HasAnswered, PeekMeans, TurnMeans, seen};
     ghost use Rattle.mc_cache.specs.Turns.{HasLookedInTurn, HasLookedOrMet, HasMetAtDesk, HasTriedTo, HasTriedToList, HasTriedToPeek};
     ghost use Rattle.mc_words.specs.History.{key_count};
+    ghost use Rattle.mc_shards.specs.Lending.{table_of};
 
     /// A place for the writer.
     pub fn new(alloc: Global, writer: Writer<V>) -> Result<Lender<V>, AllocError>
-        ensures of { IfOk result (λ lender. lender ≡ writer.entry.of) }
+        ensures of { IfOk result (λ lender. table_of lender ≡ writer.entry.of) }
     {
         writer.known();
         let key = Snapshot::of(&writer);
@@ -58,7 +58,7 @@ impl<const V: usize> Lender<V> {
         pass: &mut Reader<V>,
         call: C,
     ) -> Result<T, DeskError<E>>
-        requires of { (self.now ≡ cache.now) × (pass.old.of ≡ cache.now) }
+        requires of { (table_of self.now ≡ cache.now) × (pass.old.of ≡ cache.now) }
         ensures of { pass.new.of ≡ pass.old.of }
         ensures turn { HasTriedTo V cache.now.layout.shape ((C.contract call).called cache.now.layout.shape) pass.old pass.new result }
         ensures plain { TurnMeans ((C.contract call).means) (seen V pass.old) (seen V pass.new) result }
@@ -81,7 +81,7 @@ impl<const V: usize> Lender<V> {
         cache: &Cache<V>,
         pass: &mut Reader<V>,
     ) -> Result<Vec<(u64, [u64; V])>, DeskError<NoMemory>>
-        requires of { (self.now ≡ cache.now) × (pass.old.of ≡ cache.now) }
+        requires of { (table_of self.now ≡ cache.now) × (pass.old.of ≡ cache.now) }
         ensures of { pass.new.of ≡ pass.old.of }
         ensures met { HasTriedToList V pass.old pass.new result }
         ensures begins { Begins (seen V pass.old) (seen V pass.new) }
@@ -99,7 +99,7 @@ impl<const V: usize> Lender<V> {
     /// Tries once for the turn, and with it counts the keys that the cache holds: at most its items. `None` if the try did not win. The
     /// pass has then seen all changes that led to this number. Condition: the pass belongs to this cache, and the cache is the writer's.
     pub fn try_len(&self, cache: &Cache<V>, pass: &mut Reader<V>) -> Option<usize>
-        requires of { (self.now ≡ cache.now) × (pass.old.of ≡ cache.now) }
+        requires of { (table_of self.now ≡ cache.now) × (pass.old.of ≡ cache.now) }
         ensures of { pass.new.of ≡ pass.old.of }
         ensures held { IfNone result (pass.new ≡ pass.old) }
         ensures met { IfSome result (λ _. HasMetAtDesk V pass.old pass.new) }
@@ -117,7 +117,7 @@ impl<const V: usize> Lender<V> {
     /// Tries once for the turn, and with it calls `Writer::peek`. `None` if the try did not win. The pass has then seen all changes that
     /// led to this answer. Condition: the pass belongs to this cache, and the cache is the writer's.
     pub fn try_peek(&self, cache: &Cache<V>, pass: &mut Reader<V>, key: u64) -> Option<Reply<V>>
-        requires of { (self.now ≡ cache.now) × (pass.old.of ≡ cache.now) }
+        requires of { (table_of self.now ≡ cache.now) × (pass.old.of ≡ cache.now) }
         ensures of { pass.new.of ≡ pass.old.of }
         ensures turn { HasTriedToPeek V pass.old pass.new result }
         ensures plain { PeekMeans V (seen V pass.old) (seen V pass.new) key result }
@@ -133,7 +133,7 @@ impl<const V: usize> Lender<V> {
     /// `Busy` if the try does not win either. Condition: the reader belongs to this cache, and the cache is the writer's.
     #[inline(always)]
     pub fn get_or_lend(&self, cache: &Cache<V>, pass: &mut Reader<V>, key: u64) -> Reply<V>
-        requires of { (self.now ≡ cache.now) × (pass.old.of ≡ cache.now) }
+        requires of { (table_of self.now ≡ cache.now) × (pass.old.of ≡ cache.now) }
         ensures of { pass.new.of ≡ pass.old.of }
         ensures looked { HasLookedOrMet V cache.now.layout.shape key pass.old pass.new result }
         ensures plain { HasAnswered V (seen V pass.old) (seen V pass.new) key result }
@@ -152,7 +152,7 @@ impl<const V: usize> Lender<V> {
     // pay at entry for what a turn keeps on the stack.
     #[inline(never)]
     fn get_beside(&self, cache: &Cache<V>, pass: &mut Reader<V>, key: u64) -> Option<Reply<V>>
-        requires of { (self.now ≡ cache.now) × (pass.old.of ≡ cache.now) }
+        requires of { (table_of self.now ≡ cache.now) × (pass.old.of ≡ cache.now) }
         ensures none { IfNone result (pass.new ≡ pass.old) }
         ensures met { IfSome result (λ reply. HasLookedInTurn V cache.now pass.old pass.new key reply) }
     {

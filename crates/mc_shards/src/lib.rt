@@ -19,6 +19,9 @@
 
 mod closing;
 mod counting;
+mod held_calls;
+mod held_lists;
+mod holding;
 pub mod laws;
 mod lender;
 mod lending;
@@ -31,6 +34,7 @@ mod sizing;
 mod taking;
 
 pub use closing::StillOpen;
+pub use holding::Holder;
 pub use loading::{OpenedShards, open_shards_with};
 pub use mc_cache::{
     AbsentError, DeskError, Entry, IfError, Mix, NoMemory, OpenError, Put, PutError, Remove,

@@ -22,7 +22,7 @@ struct Stopped {
 }
 
 // Adds those of the entries that belong to the shard.
-fn list_own<const V: usize>(
+pub(crate) fn list_own<const V: usize>(
     mix: Mix,
     many: u32,
     shard: u32,

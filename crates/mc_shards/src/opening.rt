@@ -10,6 +10,7 @@ ghost use Rattle.mc_cache.specs.Plain.{IsLegal, history};
 ghost use Rattle.mc_cache.specs.declared.opening.OpenError.TheVariants.{NoMemory};
 ghost use Rattle.mc_shards.specs.declared.opening.OpenShardsError.TheVariants.{Open};
 ghost use Rattle.mc_shards.specs.Openings.{HasSeenNothing, RefusesShards};
+ghost use Rattle.mc_shards.specs.Lending.{table_of};
 ghost use Rattle.mc_shards.specs.Loadings.{new_writers};
 ghost use Rattle.mc_shards.specs.Inside.Dealt.{AreDealt};
 ghost use Rattle.mc_shards.specs.Sharded.{ArePassOf};
@@ -63,9 +64,7 @@ fn blank_passes<const V: usize>(alloc: Global, many: u32) -> Result<Vec<Pass<V>>
     let mut given = Vec::with_capacity(alloc, many as usize)?;
     for n in 0..many {
         let _n = n;
-        given.push(Pass {
-            readers: Vec::new(alloc),
-        })?;
+        given.push(Pass::blank(alloc)?)?;
     }
     Ok(given)
 }
@@ -173,7 +172,7 @@ pub(crate) fn lenders_of<const V: usize>(
     alloc: Global,
     writers: Vec<Writer<V>>,
 ) -> Result<Vec<Lender<V>>, OpenError>
-    ensures lenders { MatchResult result (λ lenders. lenders.items ≡ map (λ w. w.of) writers.entry.items) (λ e. e ≡ NoMemory) }
+    ensures lenders { MatchResult result (λ lenders. map table_of lenders.items ≡ map (λ w. w.of) writers.entry.items) (λ e. e ≡ NoMemory) }
     ensures legal { IfOk result (λ lenders. All (λ w. IsLegal w.of.layout.shape.items (history V w)) writers.entry.items) }
 {
     let mut lenders = Vec::new(alloc);

@@ -1,5 +1,5 @@
 //! A pass: a reader of each shard, for one thread at a time.
-ghost use Rattle.std.specs.Prelude.{◌≡◌, length};
+ghost use Rattle.std.specs.Prelude.{◌≡◌, ◌≤◌, [], IfOk, length, vec_capacity};
 ghost use Rattle.mc_reader.specs.Records.{HasLooked};
 ghost use Rattle.mc_cache.specs.CallContracts.{put_contract, put_if_absent_contract, put_if_contract, remove_contract};
 ghost use Rattle.mc_cache.specs.Turns.{HasLookedOrMet, HasTriedTo, HasTriedToPeek};
@@ -8,25 +8,61 @@ ghost use Rattle.mc_cache.specs.Plain.{seen};
 ghost use Rattle.mc_shards.specs.Plain.{AllAnswered, AllBegin, HasAnswered, PeekMeans, TurnMeans, seens};
 ghost use Rattle.mc_shards.specs.Sharded.{ArePassOf, ChangesAt, shard_in};
 
+use crate::lending::Turn;
 use crate::shards::Shards;
 use mc_cache::calls::{Putting, PuttingIf, PuttingIfAbsent, Removing};
 use mc_cache::turn::TurnCall;
 use mc_cache::{AbsentError, DeskError, IfError, Put, PutError, Reader, Remove, Reply, Spent};
+use std::alloc::{AllocError, Global};
 use std::marker::Model;
 
+// The most shards that there are.
+const MOST_SHARDS: usize = 256;
+
 /// A thread's handle: a reader of each shard, with which it looks up and tries for turns. In contracts it is the records of the readers.
-#[derive(Drop)]
 pub struct Pass<const V: usize> {
     pub(crate) readers: Vec<Reader<V>>,
+    // Room for the turn of every shard, so that `hold` takes no memory.
+    pub(crate) room: Vec<Turn<V>>,
 }
 
 impl<const V: usize> Model for Pass<V> {
-    ghost use Rattle.std.specs.Prelude.{List};
+    ghost use Rattle.std.specs.Prelude.{◌≡◌, ◌≤◌, [], List, vec_capacity};
     ghost use Rattle.mc_shared.specs.Records.{ReaderRecord};
 
     ghost Value = { List ReaderRecord };
 
     ghost view = { λ p. p.readers.items };
+
+    ghost invariant = { λ p. (p.room.items ≡ []) × (256 ≤ vec_capacity p.room) };
+}
+
+impl<const V: usize> Drop for Pass<V> {
+    fn drop(self) {
+        let Pass { readers: _, room } = self;
+        room.destroy_empty();
+    }
+}
+
+impl<const V: usize> Pass<V> {
+    // A pass without a reader.
+    pub(crate) fn blank(alloc: Global) -> Result<Pass<V>, AllocError>
+        ensures { IfOk result (λ pass. pass ≡ []) }
+    {
+        Ok(Pass {
+            readers: Vec::new(alloc),
+            room: Vec::with_capacity(alloc, MOST_SHARDS)?,
+        })
+    }
+
+    // Its readers, and the room for its turns.
+    pub(crate) fn into_parts(self) -> (Vec<Reader<V>>, Vec<Turn<V>>)
+        ensures readers { result.0.items ≡ self.entry }
+        ensures room { (result.1.items ≡ []) × (256 ≤ vec_capacity result.1) }
+    {
+        let Pass { readers, room } = self;
+        (readers, room)
+    }
 }
 
 impl<const V: usize> Pass<V> {

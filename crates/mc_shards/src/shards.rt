@@ -1,5 +1,6 @@
 //! The caches of the shards, and where their writers are.
-ghost use Rattle.std.specs.Prelude.{◌≡◌, ◌<◌, ◌*◌, Some, length, slice_get};
+ghost use Rattle.std.specs.Prelude.{◌≡◌, ◌<◌, ◌*◌, Some, length, map, slice_get};
+ghost use Rattle.mc_shards.specs.Lending.{table_of};
 ghost use Rattle.mc_shards.specs.Sharded.{shard_in};
 
 use crate::lender::Lender;
@@ -22,7 +23,7 @@ impl<const V: usize> Model for Shards<V> {
 
     ghost Value = { Sharded };
 
-    ghost view = { λ s. sharded s.shape s.caches.items };
+    ghost view = { λ s. sharded s.shape s.caches.items s.lenders.items };
 
     ghost invariant = { λ s. AreShards V s.shape s.caches.items s.lenders.items };
 }
@@ -39,6 +40,14 @@ impl<const V: usize> Shards<V> {
         self.caches.len() as u32
     }
 
+    // What always holds of shards, for proofs: each lock is that of its table's writer. Does nothing at run time.
+    #[inline(always)]
+    pub(crate) fn known(&self)
+        ensures { map table_of self.now.locks ≡ self.now.tables }
+    {
+        let _shape = self.shape;
+    }
+
     /// How many keys the shards hold at most, all together: the items of the shape, times the shards.
     pub fn capacity(&self) -> usize
         ensures { result ≡ self.now.shape.items * length self.now.tables }
@@ -52,6 +61,10 @@ impl<const V: usize> Shards<V> {
         ensures shard { result ≡ shard_in self.now key }
         ensures range { result < length self.now.tables }
     {
+        // One shard has every key, so nothing is mixed for it.
+        if self.count() == 1 {
+            return 0;
+        }
         self.shape.mix.shard(key, self.count()) as usize
     }
 
@@ -69,7 +82,8 @@ impl<const V: usize> Shards<V> {
     #[inline(always)]
     pub(crate) fn lender(&self, n: usize) -> &Lender<V>
         requires { n < length self.now.tables }
-        ensures table { slice_get self.now.tables n ≡ Some result.now }
+        ensures table { slice_get self.now.tables n ≡ Some (table_of result.now) }
+        ensures lock { slice_get self.now.locks n ≡ Some result.now }
     {
         &self.lenders[n]
     }

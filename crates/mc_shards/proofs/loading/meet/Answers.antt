@@ -19,6 +19,7 @@ loop-n-preserved g c =
     record {
       writers = same_writers ws n w c.catch_up-moment.new.writer c.index_mut-writer.ensures.value c.catch_up-moment.ensures.writer ∙ was.writers;
       pass = still_readers c.args.caches.now.items rs n r c.catch_up-moment.new.self was.pass c.index_mut-reader.ensures.value (ap (λ (x : ReaderRecord). x.of) caught);
+      room = was.room;
       met = met_more rs start n c.catch_up-moment.new.self w (omega (arith, c.loop-n-test.true, long, c.len-n-end.ensures)) (omega (arith, c.loop-n-test.true, as_long, c.len-n-end.ensures))
           (c.index_mut-writer.ensures.value ∙ ap (λ xs. get_or xs n w) was.writers) (ap (λ (x : ReaderRecord). x.front) caught) was.met;
     }
@@ -26,3 +27,6 @@ loop-n-preserved g c =
 pub returns-clause-met : goal.returns-clause-met
 returns-clause-met g c =
     met_all c.args.caches.now.items c.loop-n.pass-inside.readers.items c.args.writers.now.items c.loop-n.n c.loop-n.invariant.pass c.requires.writers (omega (arith, c.loop-n-test.false, c.len-n-end.ensures)) c.loop-n.invariant.met
+
+pub invariant_of-pass : goal.invariant_of-pass
+invariant_of-pass g c = c.loop-n.invariant.room
