@@ -10,7 +10,7 @@ use Rattle.mc_shared.specs.Records.{Opening, ReaderRecord}
 use Rattle.mc_shards.specs.Loadings.{puts_of}
 use Rattle.mc_shards.specs.Sharded.{Sharded}
 use Rattle.mc_door.specs.Loading.{HaveSeenLoads, IsLoadedWriter, entries_in}
-use Rattle.mc_door.specs.Roles.{Role, Writes, Reads, Passes, Shares, Idle}
+use Rattle.mc_door.specs.Roles.{Role, Writes, Reads, Passes, Shares, Holds, Idle}
 use mathlib.Core.Bool.{cond, false}
 use mathlib.Core.Option.{some}
 use lib.Dec.{eqb}
@@ -64,6 +64,7 @@ named_within V count o words left (Writes w) loaded =
 named_within V count o words left (Reads r) loaded = absurd loaded
 named_within V count o words left (Passes r) loaded = absurd loaded
 named_within V count o words left (Shares s rs) loaded = absurd loaded
+named_within V count o words left (Holds s h) loaded = absurd loaded
 named_within V count o words left Idle loaded = absurd loaded
 
 pub named_of_shards : (V count : ℕ) (s : Sharded) (words : List ℕ) (left : List (ℕ × Why)) (passes : List (List ReaderRecord)) → HaveSeenLoads V s (entries_in V count words) left passes

@@ -20,7 +20,7 @@ use Rattle.mc_plan.specs.declared.answer.Why.{Why}
 use Rattle.mc_door.specs.AnySides.{role_in, width_of}
 use Rattle.mc_door.specs.Loading.{HaveSeenLoads, entries_in}
 use Rattle.mc_door.specs.NewPasses.{HaveSeenNothing, IsLastPass, IsNewPass, IsPassOf, passes_on, shards_on, width_on}
-use Rattle.mc_door.specs.Roles.{Role, Writes, Reads, Passes, Shares, Idle}
+use Rattle.mc_door.specs.Roles.{Role, Writes, Reads, Passes, Shares, Holds, Idle}
 use Rattle.mc_door.specs.declared.any_side.AnySide.{AnySide}
 use Rattle.mc_door.specs.declared.shard_rest.ShardRest.{ShardRest}
 use Rattle.cefrodil.specs.Inside.Filling.{AreAmong, HasPassesTo}
@@ -62,6 +62,7 @@ taken s first passes others (Shares s' rs) among given = (
 taken s first passes others (Writes w) among given = absurd given
 taken s first passes others (Reads r) among given = absurd given
 taken s first passes others (Passes r) among given = absurd given
+taken s first passes others (Holds s' h) among given = absurd given
 taken s first passes others Idle among given = absurd given
 
 -- one more handle has its pass
@@ -93,6 +94,7 @@ new_pass V s passes (Shares s' rs) fresh of =
 new_pass V s passes (Writes w) fresh of = absurd of
 new_pass V s passes (Reads r) fresh of = absurd of
 new_pass V s passes (Passes r) fresh of = absurd of
+new_pass V s passes (Holds s' h) fresh of = absurd of
 new_pass V s passes Idle fresh of = absurd of
 
 pub are_shard_passes : (raw : RawShape) (shards words : ℕ) (passes : List RawHandle) (sh : Shape) (first : ShardRest) → IsShapeOf raw sh

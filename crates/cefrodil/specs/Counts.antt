@@ -17,7 +17,7 @@ pub record HasCounted (Knows : Role → Type 0) (Is : ℕ → Role → ℕ → T
   pub told : MatchOption known ((status ≡ KIND) × (new ≡ old)) (λ n. (status ≡ OK) × (new ≡ n))
 
 abbrev pub CountGives : (Role → Type 0) → (ℕ → Role → ℕ → Type 0) → Option AnySide → Option AnySide → ℕ → ℕ → ℕ → Type 0
-CountGives Knows Is b b' old new status = Gives b b' ((status ≡ CLOSED) × (new ≡ old)) (λ h h'. (h' ≡ h) × HasCounted Knows Is h old new status)
+CountGives Knows Is b b' old new status = Gives b b' ((status ≡ CLOSED) × (new ≡ old)) (λ h h'. (width_of h' ≡ width_of h) × (role_in h' ≡ role_in h) × HasCounted Knows Is h old new status)
 
 -- the status; and the number, if it was counted
 abbrev pub TellsCount : Result ℕ CountError → ℕ → ℕ → ℕ → Type 0

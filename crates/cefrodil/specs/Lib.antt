@@ -12,3 +12,4 @@ pub mod Openings
 pub mod RawShapes
 pub mod ShardOpenings
 pub mod Inside
+pub mod Holding

@@ -53,7 +53,7 @@ fn put_all<const V: usize>(side: &mut Side<V>, keys: &[u64], values: &[u64], ans
 {
     match side {
         Side::Pass(pass) => pass.put_many(keys, values, answers),
-        Side::Writer(_) | Side::Reader(_) | Side::Shard(_) | Side::Nothing => {
+        Side::Writer(_) | Side::Reader(_) | Side::Shard(_) | Side::Holder(_) | Side::Nothing => {
             put_singly(side, keys, values, answers);
         }
     }

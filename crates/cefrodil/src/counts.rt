@@ -1,6 +1,6 @@
 //! Numbers that a handle knows at once, as C asks for them; and the number of keys, by a handle.
 ghost use Rattle.std.specs.Prelude.{◌≡◌, MatchOption};
-ghost use Rattle.mc_door.specs.Means.{CanWrite, CapacityIs, HasCache, MomentIs};
+ghost use Rattle.mc_door.specs.Means.{CapacityIs, HasCache, KnowsMoment, MomentIs};
 ghost use Rattle.cefrodil.specs.Counts.{CountGives, LenGives, TellsCount};
 ghost use Rattle.cefrodil.specs.Open.{kept};
 
@@ -21,17 +21,17 @@ fn tell(known: Option<u64>, number: &mut u64) -> u32
     }
 }
 
-/// The number of changes made to the table, by the writer's handle.
+/// The number of changes made to the table, by the writer's handle; or to all shards, by a handle that holds their turns.
 #[tactic(auto, using(crate::proofs::Gives::gives_open, crate::proofs::Gives::gives_closed))]
 #[unsafe(no_mangle)]
-pub extern "C" fn cefrodil_moment(writer: &mut RawHandle, moment: &mut u64) -> u32
-    ensures open { writer.new.live ≡ writer.old.live }
-    ensures told { CountGives CanWrite MomentIs (kept writer.old) (kept writer.new) moment.old moment.new result }
+pub extern "C" fn cefrodil_moment(handle: &mut RawHandle, moment: &mut u64) -> u32
+    ensures open { handle.new.live ≡ handle.old.live }
+    ensures told { CountGives KnowsMoment MomentIs (kept handle.old) (kept handle.new) moment.old moment.new result }
 {
-    if !writer.live {
+    if !handle.live {
         return CLOSED;
     }
-    let held = writer.handle.held();
+    let held = handle.handle.held();
     tell(held.moment(), moment)
 }
 
@@ -63,8 +63,8 @@ fn tell_count(counted: Result<u64, CountError>, number: &mut u64) -> u32
     }
 }
 
-/// How many keys the cache holds, by the writer's handle, or by a pass in a turn: one of shards in a turn at each, so it adds numbers of
-/// several moments.
+/// How many keys the cache holds, by the handle of the writer or of a holder, or by a pass in a turn: one of shards in a turn at each, so it
+/// adds numbers of several moments.
 #[tactic(auto, using(crate::proofs::Gives::gives_open, crate::proofs::Gives::gives_closed))]
 #[unsafe(no_mangle)]
 pub extern "C" fn cefrodil_len(handle: &mut RawHandle, len: &mut u64) -> u32

@@ -8,6 +8,7 @@ mod counts;
 mod desk_gets_by_width;
 mod gets_by_width;
 pub mod handle;
+mod holding;
 mod leaving;
 mod listing;
 mod loading;

@@ -20,3 +20,4 @@ pub mod Loading
 pub mod Listing
 pub mod StampedListing
 pub mod Inside
+pub mod Held

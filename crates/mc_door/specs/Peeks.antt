@@ -1,12 +1,14 @@
--- What a lookup means that marks nothing: by the writer, or by a pass in a turn.
+-- What a lookup means that marks nothing: by the writer or a holder, or by a pass in a turn.
 use Rattle.std.specs.Prelude.{ℕ, ◌≡◌, List, MatchOption, Option, Some, None, length}
 use Rattle.mc_cache.specs.Plain.{PeekMeans, TellsNow, history, seen}
 use Rattle.mc_cache.specs.Turns.{HasTriedToPeek}
 use Rattle.mc_words.specs.declared.history.Reply.{Reply}
+use Rattle.mc_shards.specs.Holding.{histories}
+use Rattle.mc_shards.specs.Plain.{history_of}
 use Rattle.mc_door.specs.AtShards.{IsAtShard}
 use Rattle.mc_door.specs.Looks.{reply_of, LeavesUnlessFound}
 use Rattle.mc_door.specs.Means.{CanChange}
-use Rattle.mc_door.specs.Roles.{Role, Writes, Passes, Shares}
+use Rattle.mc_door.specs.Roles.{Role, Writes, Passes, Shares, Holds}
 use Rattle.mc_door.specs.Tellings.{lookup_told, plain}
 use Rattle.mc_door.specs.Tells.{HasTold, Tells}
 use Rattle.mc_door.specs.declared.looked.Looked.{Looked}
@@ -18,6 +20,7 @@ abbrev pub Peeks : (V : ℕ) → Role → Role → ℕ → Option (Reply V) → 
 Peeks V (Writes w) (Writes w') key answer = (w' ≡ w) × MatchOption answer ⊥ (λ reply. TellsNow (history V w) key reply)
 Peeks V (Passes r) (Passes r') key answer = (r'.of ≡ r.of) × HasTriedToPeek V r r' answer × PeekMeans V (seen V r) (seen V r') key answer
 Peeks V (Shares s rs) (Shares s' rs') key answer = (s' ≡ s) × IsAtShard V s key rs rs' (λ r r'. HasTriedToPeek V r r' answer) (λ h h'. PeekMeans V h h' key answer)
+Peeks V (Holds s h) (Holds s' h') key answer = (s' ≡ s) × (h' ≡ h) × MatchOption answer ⊥ (λ reply. TellsNow (history_of s.shape.mix (histories V h) key) key reply)
 Peeks V _ _ key answer = ⊥
 
 -- the answer that was returned so; the value, if there is one, is in these words

@@ -15,6 +15,7 @@ spares_of (side.Writer s) = length s.spares.items
 spares_of (side.Reader s) = 0
 spares_of (side.Pass s) = 0
 spares_of (side.Shard s) = 0
+spares_of (side.Holder s) = 0
 spares_of side.Nothing = 0
 
 abbrev pub spares_in : AnySide → ℕ

@@ -9,8 +9,8 @@ use Rattle.mc_cache.specs.Turns.{HasTriedTo}
 use Rattle.mc_cache.specs.declared.desk.DeskError.{DeskError}
 use Rattle.mc_cache.specs.declared.desk.DeskError.TheVariants as desk
 use Rattle.mc_shards.specs.Sharded.{ChangesAt, Sharded, shard_in}
-use Rattle.mc_door.specs.AtShards.{IsAtShard}
-use Rattle.mc_door.specs.Roles.{Role, Writes, Passes, Shares}
+use Rattle.mc_door.specs.AtShards.{HasMadeHolding, IsAtShard}
+use Rattle.mc_door.specs.Roles.{Role, Writes, Passes, Shares, Holds}
 
 -- the pass's record changes so, what it has seen changes so, and the call may fail so
 abbrev pub HasTriedAtDesk : {V : ℕ} {T E : Type 0} → Contract V T E → Shape → ReaderRecord → ReaderRecord → Result T (DeskError E) → Type 0
@@ -29,9 +29,10 @@ HasMadeAtOnce c w w' (Ok done) = HasMade c w.of (Ok done) w w'
 HasMadeAtOnce c w w' (Err desk.Held) = ⊥
 HasMadeAtOnce c w w' (Err (desk.Call why)) = HasMade c w.of (Err why) w w'
 
--- a call of this key by the writer, or by a pass, which tries for the turn. No other side makes calls
+-- a call of this key by the writer or a holder, or by a pass, which tries for the turn. No other side makes calls
 abbrev pub HasCalledBy : {V : ℕ} {T E : Type 0} → Role → Role → ℕ → Contract V T E → Result T (DeskError E) → Type 0
 HasCalledBy (Writes w) (Writes w') key c tried = HasMadeAtOnce c w w' tried
 HasCalledBy (Passes r) (Passes r') key c tried = (r'.of ≡ r.of) × HasTriedAtDesk c r.of.layout.shape r r' tried
 HasCalledBy (Shares s rs) (Shares s' rs') key c tried = (s' ≡ s) × HasTriedAtShard c s key rs rs' tried
+HasCalledBy (Holds s h) (Holds s' h') key c tried = (s' ≡ s) × HasMadeHolding c s key h h' tried
 HasCalledBy _ _ key c tried = ⊥

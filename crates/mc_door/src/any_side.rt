@@ -3,7 +3,7 @@ ghost use Rattle.std.specs.Prelude.{◌≡◌, ◌↔◌, IsTrue, true, IfErr, I
 ghost use Rattle.mc_door.specs.AnySides.{role_in, width_of};
 ghost use Rattle.mc_door.specs.Leaving.{BecomesReader, IsPass, IsWriterBack, RefusesToLeave};
 ghost use Rattle.mc_door.specs.Listing.{HasListed, RefusesList, SeesMore};
-ghost use Rattle.mc_door.specs.Means.{CanWrite, CapacityIs, GetOrDeskTells, GetTells, HasCache, MomentIs};
+ghost use Rattle.mc_door.specs.Means.{CanWrite, CapacityIs, GetOrDeskTells, GetTells, HasCache, KnowsMoment, MomentIs};
 ghost use Rattle.mc_door.specs.NewSides.{count_in, has_desk_in, opening_in, width_in};
 ghost use Rattle.mc_door.specs.OntoDesk.{HasPasses, RefusesDesk, WritesTo};
 ghost use Rattle.mc_door.specs.Roles.{Idle};
@@ -135,9 +135,11 @@ impl AnySide {
 }
 
 impl AnySide {
-    /// The number of changes made to the map, if it is a writer.
-    pub fn moment(&self) -> Option<u64>
-        ensures { MatchOption result (¬ CanWrite (role_in self.now)) (MomentIs (width_of self.now) (role_in self.now)) }
+    /// The number of changes made to the map, if it is a writer or a holder.
+    pub fn moment(&mut self) -> Option<u64>
+        ensures width { width_of self.new ≡ width_of self.old }
+        ensures same { role_in self.new ≡ role_in self.old }
+        ensures known { MatchOption result (¬ KnowsMoment (role_in self.old)) (MomentIs (width_of self.old) (role_in self.old)) }
     {
         with_side!(self, side => side.moment())
     }

@@ -1,4 +1,4 @@
-//! The keys are counted, by the writer, or by a pass in a turn: one of shards in a turn at each.
+//! The keys are counted, by the writer or a holder, or by a pass in a turn: one of shards in a turn at each.
 ghost use Rattle.std.specs.Prelude.{◌≡◌, MatchResult};
 ghost use Rattle.mc_door.specs.Counting.{Counts, RefusesCount};
 ghost use Rattle.mc_door.specs.AnySides.{role_in, width_of};
@@ -25,6 +25,7 @@ impl<const V: usize> Side<V> {
             Side::Writer(side) => Some(side.writer.len()),
             Side::Pass(side) => side.desk.desk().try_len(&side.cache, &mut side.pass),
             Side::Shard(side) => side.pass.try_len(&side.shards),
+            Side::Holder(side) => Some(side.holder.len(&side.shards)),
             Side::Reader(_) | Side::Nothing => return Err(CountError::Kind),
         };
         match counted {

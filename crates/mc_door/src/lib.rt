@@ -9,6 +9,8 @@ mod at_desk;
 mod caller;
 mod counting;
 mod entries;
+mod holder_side;
+mod holding;
 mod leaving;
 mod listed;
 mod looked;
@@ -37,6 +39,7 @@ mod writes;
 
 pub use any_side::AnySide;
 pub use counting::CountError;
+pub use holding::HoldError;
 pub use leaving::LeaveError;
 pub use listed::ListError;
 pub use looked::Looked;

@@ -89,6 +89,10 @@ impl<const V: usize> Side<V> {
                     .try_entries(alloc, &side.cache, &mut side.pass),
             ),
             Side::Shard(side) => of_turn(side.pass.entries(alloc, &side.shards)),
+            Side::Holder(side) => match side.holder.entries(alloc, &side.shards) {
+                Ok(entries) => Ok(entries),
+                Err(NoMemory) => Err(ListError::NoMemory),
+            },
             Side::Reader(_) | Side::Nothing => Err(ListError::Kind),
         }
     }

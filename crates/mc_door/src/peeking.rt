@@ -1,4 +1,4 @@
-//! Lookups that mark nothing: by the writer, or by a pass in a turn.
+//! Lookups that mark nothing: by the writer or a holder, or by a pass in a turn.
 ghost use Rattle.std.specs.Prelude.{◌≡◌, length};
 ghost use Rattle.mc_words.specs.Places.{IsWidth};
 ghost use Rattle.mc_door.specs.AnySides.{role_in, width_of};
@@ -48,6 +48,7 @@ impl<const V: usize> Side<V> {
             Side::Writer(side) => Some(side.writer.peek(&side.cache, key)),
             Side::Pass(side) => side.desk.desk().try_peek(&side.cache, &mut side.pass, key),
             Side::Shard(side) => side.pass.try_peek(&side.shards, key),
+            Side::Holder(side) => Some(side.holder.peek(&side.shards, key)),
         };
         let looked = looked(answer, value);
         tell(looked, reply)

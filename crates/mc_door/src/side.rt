@@ -1,11 +1,12 @@
 //! A side of a cache, for values of this many words.
 ghost use Rattle.std.specs.Prelude.{◌≡◌, MatchOption, length};
 ghost use Rattle.mc_words.specs.Places.{IsWidth};
-ghost use Rattle.mc_door.specs.Means.{CanWrite, CapacityIs, GetOrDeskTells, GetTells, HasCache, MomentIs};
+ghost use Rattle.mc_door.specs.Means.{CapacityIs, GetOrDeskTells, GetTells, HasCache, KnowsMoment, MomentIs};
 ghost use Rattle.mc_door.specs.Roles.{role_of};
 ghost use Rattle.mc_door.specs.Swaps.{SwapTells};
 ghost use Rattle.mc_door.specs.Writes.{WriteTells};
 
+use crate::holder_side::HolderSide;
 use crate::outcome::RawReply;
 use crate::pass_side::PassSide;
 use crate::reader_side::ReaderSide;
@@ -23,6 +24,7 @@ pub enum Side<const V: usize> {
     Reader(ReaderSide<V>),
     Pass(PassSide<V>),
     Shard(ShardSide<V>),
+    Holder(HolderSide<V>),
     /// No side. It fills the place of one that a call has taken out, or has not put in yet.
     Nothing,
 }
@@ -61,11 +63,12 @@ impl<const V: usize> Side<V> {
             Side::Pass(side) => side.get(key, value, reply),
             Side::Shard(side) => side.get(key, value, reply),
             Side::Writer(side) => side.get(key, value, reply),
+            Side::Holder(side) => side.get(key, value, reply),
             Side::Nothing => refused(BUSY, reply),
         }
     }
 
-    /// What the cache holds of the key: `Reader::get_or_desk` or `Pass::get_or_desk`, by a pass.
+    /// What the cache holds of the key: `Reader::get_or_desk` or `Pass::get_or_desk`, by a pass; `Holder::get` by a holder.
     #[inline(always)]
     pub fn get_or_desk(&mut self, key: u64, value: &mut [u64], reply: &mut RawReply) -> u32
         requires { IsWidth V }
@@ -76,6 +79,7 @@ impl<const V: usize> Side<V> {
             _ if value.len() != V => refused(WIDTH, reply),
             Side::Pass(side) => side.get_or_desk(key, value, reply),
             Side::Shard(side) => side.get_or_desk(key, value, reply),
+            Side::Holder(side) => side.get(key, value, reply),
         }
     }
 
@@ -117,6 +121,7 @@ impl<const V: usize> Side<V> {
             Side::Writer(side) => writes::write(side, key, call, value, reply),
             Side::Pass(side) => writes::write(side, key, call, value, reply),
             Side::Shard(side) => writes::write(side, key, call, value, reply),
+            Side::Holder(side) => writes::write(side, key, call, value, reply),
         }
     }
 
@@ -139,6 +144,7 @@ impl<const V: usize> Side<V> {
             Side::Writer(side) => swaps::swap(side, key, call, value, old, reply),
             Side::Pass(side) => swaps::swap(side, key, call, value, old, reply),
             Side::Shard(side) => swaps::swap(side, key, call, value, old, reply),
+            Side::Holder(side) => swaps::swap(side, key, call, value, old, reply),
         }
     }
 }
@@ -175,18 +181,20 @@ impl<const V: usize> Side<V> {
             Side::Reader(side) => side.cache.touch_ahead(keys),
             Side::Pass(side) => side.cache.touch_ahead(keys),
             Side::Writer(side) => side.cache.touch_ahead(keys),
-            Side::Shard(_) | Side::Nothing => {}
+            Side::Shard(_) | Side::Holder(_) | Side::Nothing => {}
         }
     }
 
-    /// The number of changes made to the map: `Writer::moment`. `None` by another side.
-    pub fn moment(&self) -> Option<u64>
-        ensures { MatchOption result (¬ CanWrite (role_of self.now)) (MomentIs V (role_of self.now)) }
+    /// The number of changes made to the map: `Writer::moment` or `Holder::moment`. `None` by another side.
+    pub fn moment(&mut self) -> Option<u64>
+        ensures same { role_of self.new ≡ role_of self.old }
+        ensures known { MatchOption result (¬ KnowsMoment (role_of self.old)) (MomentIs V (role_of self.old)) }
     {
-        let Side::Writer(side) = self else {
-            return None;
-        };
-        Some(side.writer.moment())
+        match self {
+            Side::Writer(side) => Some(side.writer.moment()),
+            Side::Holder(side) => Some(side.holder.moment(&side.shards)),
+            _ => None,
+        }
     }
 
     /// How many keys the cache holds at most, shards all together: `Cache::capacity` or `Shards::capacity`. `None` by no side.
@@ -198,6 +206,7 @@ impl<const V: usize> Side<V> {
             Side::Reader(side) => Some(side.cache.capacity() as u64),
             Side::Pass(side) => Some(side.cache.capacity() as u64),
             Side::Shard(side) => Some(side.shards.capacity() as u64),
+            Side::Holder(side) => Some(side.shards.capacity() as u64),
             Side::Nothing => None,
         }
     }

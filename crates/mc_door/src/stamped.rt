@@ -58,7 +58,9 @@ impl<const V: usize> Side<V> {
                     .desk()
                     .try_stamped_entries(alloc, &side.cache, &mut side.pass),
             ),
-            Side::Shard(_) | Side::Reader(_) | Side::Nothing => Err(ListError::Kind),
+            Side::Shard(_) | Side::Holder(_) | Side::Reader(_) | Side::Nothing => Err(
+                ListError::Kind,
+            ),
         }
     }
 
