@@ -4,12 +4,14 @@
 //! peek, a reply in another thread is true of the writer's history, replies come in the order of their moments, two threads take turns at
 //! one writer, two puts of one turn come one right after the other, two keys that one batch overwrites have their new values at one moment,
 //! of two that put an absent key one succeeds, no object behind the index is lost, a listed stamp is refused only if the key was changed
-//! since, a lookup in shards is no older than the put before it, and shards that are opened anew hold what the old ones held.
+//! since, a lookup in shards is no older than the put before it, shards that are opened anew hold what the old ones held, and a holder's list has
+//! what it has just put.
 #![tactic(auto)]
 
 mod absent;
 mod again;
 mod beside;
+mod held;
 mod listed;
 mod one_batch;
 mod one_turn;
@@ -24,6 +26,7 @@ mod twice;
 pub use absent::{Tried, put_once};
 pub use again::overwrite;
 pub use beside::{get_between_meetings, put_and_get};
+pub use held::put_and_list;
 pub use listed::overwrite_listed;
 pub use one_batch::overwrite_both;
 pub use one_turn::put_both;
