@@ -328,12 +328,23 @@ CEFRODIL_CHECKED CEFRODIL_NO_NULL cefrodil_status cefrodil_take_if(cefrodil_hand
  * NO_MEMORY. */
 CEFRODIL_CHECKED CEFRODIL_NO_NULL cefrodil_status cefrodil_leave_desk(cefrodil_handle *pass, cefrodil_handle *writer);
 
-/* The number of changes to the table, which is the `at` of a lookup made now. By the writer.
+/* Takes the turn of every shard, by a pass of shards, and holds them: nobody else writes until cefrodil_release or cefrodil_close. Meanwhile the
+ * calls of this handle are those of a writer: its writes are never HELD, its lookups never BUSY, and each list and number that it asks for is
+ * that of one moment, of all shards. Other passes look up as before, and their writes are HELD. It takes no memory.
+ * OK: it holds. HELD: one of the tries did not win; it holds none. CLOSED; KIND: it is no pass of shards, or holds already. */
+CEFRODIL_CHECKED CEFRODIL_NO_NULL cefrodil_status cefrodil_hold(cefrodil_handle *pass);
+
+/* Gives the turn of every shard back. The handle is a pass again, and has seen all that it wrote.
+ * OK. CLOSED; KIND: it held none. */
+CEFRODIL_NO_NULL cefrodil_status cefrodil_release(cefrodil_handle *holder);
+
+/* The number of changes to the table, which is the `at` of a lookup made now. By the writer. By a handle that holds the turns of all shards:
+ * the number of changes to all of them, or 2^64 - 1 if there were more.
  * OK: the number is set. CLOSED, KIND: it is unchanged. */
-CEFRODIL_CHECKED CEFRODIL_NO_NULL cefrodil_status cefrodil_moment(cefrodil_handle *writer, uint64_t *moment);
+CEFRODIL_CHECKED CEFRODIL_NO_NULL cefrodil_status cefrodil_moment(cefrodil_handle *handle, uint64_t *moment);
 
 /* The number of keys in the table, by the writer or a pass, which tries once for the turn. It does not look through the table. A pass of
- * shards tries once for the turn of each, and adds up numbers of several moments.
+ * shards tries once for the turn of each, and adds up numbers of several moments; one that holds all turns counts at one moment.
  * OK: `len` is set. HELD: a try did not win. CLOSED, KIND. Unless OK, `len` is unchanged. */
 CEFRODIL_CHECKED CEFRODIL_NO_NULL cefrodil_status cefrodil_len(cefrodil_handle *handle, uint64_t *len);
 
@@ -342,7 +353,7 @@ CEFRODIL_CHECKED CEFRODIL_NO_NULL cefrodil_status cefrodil_len(cefrodil_handle *
 CEFRODIL_CHECKED CEFRODIL_NO_NULL cefrodil_status cefrodil_capacity(cefrodil_handle *handle, uint64_t *capacity);
 
 /* Lists each key with its value, by the writer or a pass. A pass tries once for the turn, and a pass of shards once for that of each
- * shard, so it lists each shard at a moment of its own. An entry is its key, then the words of its value, as cefrodil_open_with
+ * shard, so it lists each shard at a moment of its own, unless it holds all turns (cefrodil_hold). An entry is its key, then the words of its value, as cefrodil_open_with
  * takes it. Readers may work meanwhile. This call takes memory for the whole list, and frees it. To ask for the number of entries, pass 0
  * as `entry_words`: that takes no memory.
  * OK: the first `count` entries of `entries` are written. BAD_COUNT: there are `count` entries, and `entry_words` is less than

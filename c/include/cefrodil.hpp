@@ -112,6 +112,8 @@ template <size_t Words> class Reader : public Lookups<Words> {
     Reader() noexcept {}
 };
 
+template <size_t Words> class Writing;
+
 // A thread's access to a desk or to shards: it looks up like a reader, and tries for the turn to write.
 template <size_t Words> class Pass : public Lookups<Words> {
   public:
@@ -174,6 +176,9 @@ template <size_t Words> class Pass : public Lookups<Words> {
         }
         return told;
     }
+    // Takes the turn of every shard, by a pass of shards, and holds them until `writing` ends. Meanwhile this pass is closed, and has to stay where
+    // it is. held: one of the tries did not win. kind: it is a pass of a desk. in_use: `writing` holds already. Unless ok, nothing was done.
+    [[nodiscard]] Status hold(Writing<Words> &writing) noexcept { return writing.begin(*this); }
     // Ends the pass's turns: it becomes `reader`. The last pass of a desk gets the writer back (ok); the others don't (not_last). With
     // another status nothing was done. in_use: `reader` or `writer` is open. kind: it is a pass of shards.
     [[nodiscard]] Status leave(Reader<Words> &reader, Writer<Words> &writer) noexcept {
@@ -199,6 +204,50 @@ template <size_t Words> class Pass : public Lookups<Words> {
     [[nodiscard]] Status try_stamped_entries(std::vector<uint64_t> &words) noexcept {
         return this->list(2 + Words, words, cefrodil_capacity, cefrodil_stamped_entries_or_none);
     }
+};
+
+// A pass of shards that holds every turn (Pass::hold). `->` has the calls of a Writer: its writes are never held, its lookups never busy, and each list
+// and number is that of one moment, of all shards. When it ends, the turns are given back, and the pass is open again.
+template <size_t Words> class Writing {
+  public:
+    Writing() noexcept {}
+    Writing(Writing &&other) noexcept : pass_(std::exchange(other.pass_, nullptr)), writer_(std::move(other.writer_)) {}
+    Writing &operator=(Writing &&other) noexcept {
+        if (this != &other) {
+            end();
+            pass_ = std::exchange(other.pass_, nullptr);
+            writer_ = std::move(other.writer_);
+        }
+        return *this;
+    }
+    ~Writing() { end(); }
+    bool holds() const noexcept { return pass_ != nullptr; }
+    Writer<Words> *operator->() noexcept { return &writer_; }
+    Writer<Words> &operator*() noexcept { return writer_; }
+    // Gives the turns back now.
+    void end() noexcept {
+        if (pass_ != nullptr) {
+            cefrodil_release(writer_.raw());
+            inside::Counting::move(writer_, *std::exchange(pass_, nullptr));
+        }
+    }
+
+  private:
+    friend class Pass<Words>;
+    Status begin(Pass<Words> &pass) noexcept {
+        if (holds()) {
+            return Status::in_use;
+        }
+        const Status status = inside::Counting::tried(pass, cefrodil_hold(pass.raw()));
+        if (status == Status::ok) {
+            inside::Counting::move(pass, writer_);
+            pass_ = &pass;
+        }
+        return status;
+    }
+
+    Pass<Words> *pass_ = nullptr;
+    Writer<Words> writer_{};
 };
 
 // The shape for `items` items, or none if that is out of range. There is none, either, if no cache can be opened: over an archive of

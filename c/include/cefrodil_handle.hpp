@@ -287,6 +287,8 @@ namespace inside {
 struct Counting {
     static const std::shared_ptr<Lines> &lines(const Handle &handle) noexcept { return handle.counter_.lines(); }
     static void in(Handle &handle, const std::shared_ptr<Lines> &lines) noexcept { handle.counter_ = Counter(lines); }
+    static void move(Handle &from, Handle &to) noexcept { from.move_to(to); }
+    static Status tried(Handle &handle, cefrodil_status status) noexcept { return handle.tried(status); }
     // Like Pass::get_or_desk, but a value that is found is written where it stays.
     template <size_t Words>
     static Status get_or_desk(Handle &handle, uint64_t key, std::array<uint64_t, Words> &value, cefrodil_reply &reply) noexcept {

@@ -111,6 +111,16 @@ pub enum ListError {
     OfShards,
 }
 
+/// Why a pass does not hold the turns of all shards.
+#[derive(Clone, Copy, Debug, PartialEq, Eq, Hash)]
+#[non_exhaustive]
+pub enum HoldError {
+    /// One of the tries for the turns did not win. Try again.
+    Held,
+    /// It is a pass of a desk, which has one turn. Waiting does not help.
+    AtDesk,
+}
+
 /// Why a desk did not end.
 #[derive(Clone, Copy, Debug, PartialEq, Eq, Hash)]
 #[non_exhaustive]
@@ -273,6 +283,15 @@ impl Display for ListError {
     }
 }
 
+impl Display for HoldError {
+    fn fmt(&self, text: &mut Formatter) -> fmt::Result {
+        text.write_str(match self {
+            HoldError::Held => "held",
+            HoldError::AtDesk => "a pass of a desk has no such call",
+        })
+    }
+}
+
 impl Display for EndError {
     fn fmt(&self, text: &mut Formatter) -> fmt::Result {
         text.write_str(match self {
@@ -312,6 +331,7 @@ impl Error for Why {}
 impl Error for PutIfError {}
 impl Error for PutIfAbsentError {}
 impl Error for Spent {}
+impl Error for HoldError {}
 impl Error for ListError {}
 impl Error for EndError {}
 impl<E: Error> Error for TurnError<E> {}

@@ -238,6 +238,18 @@ impl Handle {
         (status, (status == raw::OK).then(|| Handle { raw: writer, counter: self.counter.spare() }))
     }
 
+    pub fn hold(&mut self) -> u32 {
+        // SAFETY: as in `get`.
+        let status = unsafe { raw::cefrodil_hold(&mut self.raw) };
+        self.counter.tried(status);
+        status
+    }
+
+    pub fn release(&mut self) {
+        // SAFETY: as in `get`. If the handle holds nothing, the call returns a status.
+        unsafe { raw::cefrodil_release(&mut self.raw) };
+    }
+
     pub fn moment(&mut self) -> (u32, u64) {
         self.number(raw::cefrodil_moment)
     }

@@ -29,13 +29,14 @@ mod shape;
 mod shards;
 mod width;
 mod within;
+mod writing;
 
 pub use audit::AuditLog;
 pub use cache::{Cache, Opened, Writer};
 pub use counts::{prometheus, Counts, Meter};
 pub use desk::Desk;
 pub use error::{
-    EndError, ListError, NoDesk, NotEnded, OpenError, PutError, PutIfAbsentError, PutIfError, Spent, TurnError, Why,
+    EndError, HoldError, ListError, NoDesk, NotEnded, OpenError, PutError, PutIfAbsentError, PutIfError, Spent, TurnError, Why,
 };
 pub use filler::{FillError, Filler, Ticket, Tickets};
 pub use handle::version;
@@ -46,3 +47,4 @@ pub use reply::{Entry, Put, Removal, Replaced, Reply, Swapped, Take};
 pub use shape::{Mix, Shape};
 pub use shards::{OpenedShards, Shards};
 pub use width::Value;
+pub use writing::Writing;

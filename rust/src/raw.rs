@@ -208,7 +208,9 @@ unsafe extern "C" {
         reply: *mut RawReply,
     ) -> u32;
     pub fn cefrodil_leave_desk(pass: *mut RawHandle, writer: *mut RawHandle) -> u32;
-    pub fn cefrodil_moment(writer: *mut RawHandle, moment: *mut u64) -> u32;
+    pub fn cefrodil_hold(pass: *mut RawHandle) -> u32;
+    pub fn cefrodil_release(holder: *mut RawHandle) -> u32;
+    pub fn cefrodil_moment(handle: *mut RawHandle, moment: *mut u64) -> u32;
     pub fn cefrodil_len(handle: *mut RawHandle, len: *mut u64) -> u32;
     pub fn cefrodil_capacity(handle: *mut RawHandle, capacity: *mut u64) -> u32;
     pub fn cefrodil_entries(handle: *mut RawHandle, entries: *mut u64, entry_words: usize, count: *mut u64) -> u32;

@@ -122,7 +122,7 @@ type Told = (u32, RawReply);
 
 // Other statuses mean a closed handle, a handle of another kind, or another width. The types of this crate exclude them, except that a
 // pass of shards is of another kind for some calls (`no_list`).
-fn not_told(status: u32) -> ! {
+pub(crate) fn not_told(status: u32) -> ! {
     unreachable!("this call gives no status {status}")
 }
 
