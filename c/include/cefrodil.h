@@ -16,8 +16,8 @@
  *      cefrodil_open_shards_with, cefrodil_get_many, cefrodil_put_many, cefrodil_entries or cefrodil_stamped_entries whose
  *      count is 0.
  *      `value` has `words` words; an array has as many elements as its count says.
- *   4. No call comes from a signal handler. A handle is used in the process that opened it: no call comes from a forked
- *      child, which ends by _exit or exec, since exit would run the destructors of C++ objects, and so close handles.
+ *   4. No call comes from a signal handler. A handle is used in the process that opened it. A forked child may close it,
+ *      which frees nothing, and may open caches of its own. So it may end by exit, which runs the destructors of C++ objects.
  *      Every call returns: no longjmp, exception or asynchronous cancellation leaves it.
  *   5. malloc, realloc and free belong to one allocator, whose blocks are aligned to 16 bytes.
  *   6. The program is linked with the archive that belongs to this header. The names below mean its functions only.
@@ -369,7 +369,8 @@ CEFRODIL_CHECKED CEFRODIL_NO_NULL cefrodil_status cefrodil_stamped_entries(cefro
                                                                            uint64_t *count);
 
 /* Closes a handle, in any thread. Closing the last handle frees the cache.
- * OK, or CLOSED if it was not open, or null. The handle is closed afterwards. */
+ * OK, or CLOSED if it was not open, or null. In a forked child, CLOSED if the parent opened it: then nothing is freed. The handle is closed
+ * afterwards. */
 CEFRODIL_NO_NULL cefrodil_status cefrodil_close(cefrodil_handle *handle);
 
 /* cefrodil_get, cefrodil_put and cefrodil_get_or_desk for values of 1 to 8 words. An optimizing compiler calls these where `words` is a

@@ -4,6 +4,7 @@
 #define CEFRODIL_COUNTS_HPP
 
 #include "cefrodil.h"
+#include "cefrodil_forks.hpp"
 #include <array>
 #include <atomic>
 #include <cstddef>
@@ -69,11 +70,19 @@ class Lines {
         free_count_--;
         return std::exchange(free_, free_->next);
     }
+    // In a forked child the lock may be held for ever.
     void give(Line *line) noexcept {
+        if (!maker_.is_this_process()) {
+            return;
+        }
         const std::lock_guard<std::mutex> guard(lock_);
         push(line);
     }
+    // In a forked child nothing is known of the parent's handles.
     Counts sum() noexcept {
+        if (!maker_.is_this_process()) {
+            return {};
+        }
         const std::lock_guard<std::mutex> guard(lock_);
         std::array<uint64_t, all_counted> all{};
         for (const Line &line : lines_) {
@@ -93,6 +102,7 @@ class Lines {
     std::deque<Line> lines_{};
     Line *free_ = nullptr;
     size_t free_count_ = 0;
+    const Maker maker_{};
 };
 
 // A handle's line. A handle that was opened by a call of C has none.

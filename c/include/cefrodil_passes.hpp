@@ -4,6 +4,7 @@
 #define CEFRODIL_PASSES_HPP
 
 #include "cefrodil.hpp"
+#include "cefrodil_forks.hpp"
 #include "cefrodil_threads.hpp"
 #include <algorithm>
 #include <atomic>
@@ -39,7 +40,11 @@ template <class Parts> class FreePassesOf {
         count_.store(left - 1, std::memory_order_relaxed);
         return free_[left - 1];
     }
+    // In a forked child the lock may be held for ever.
     void give(size_t pass) noexcept {
+        if (!maker_.is_this_process()) {
+            return;
+        }
         const std::lock_guard<typename Parts::Mutex> guard(lock_);
         const size_t left = count();
         free_[left] = pass;
@@ -56,6 +61,7 @@ template <class Parts> class FreePassesOf {
     std::vector<size_t> free_;
     typename Parts::template Atomic<size_t> count_;
     typename Parts::template Atomic<bool> ended_{false};
+    const Maker maker_{};
 };
 
 using FreePasses = FreePassesOf<Threads>;

@@ -8,6 +8,7 @@ use cefrodil::Put;
 use std::cell::{Cell, RefCell, RefMut};
 use std::iter::once;
 use std::panic::RefUnwindSafe;
+use std::process;
 use std::sync::atomic::{AtomicU64, AtomicUsize, Ordering::Relaxed};
 use std::sync::{Arc, Mutex, MutexGuard, PoisonError, Weak};
 
@@ -21,6 +22,8 @@ pub(crate) struct Slots<P> {
     free_count: AtomicUsize,
     shared: Mutex<P>,
     shared_counts: Counts,
+    // The process that opened the map. In its forked child another thread may hold a lock for ever.
+    process: u32,
 }
 
 /// What one thread uses. The alignment keeps slots of different threads in different cache lines.
@@ -60,6 +63,7 @@ impl<P: 'static> Slots<P> {
             slots,
             shared: Mutex::new(shared),
             shared_counts: Counts::default(),
+            process: process::id(),
         }
     }
 
@@ -159,6 +163,9 @@ trait Home {
 
 impl<P> Home for Slots<P> {
     fn give_back(&self, index: usize) {
+        if self.process != process::id() {
+            return;
+        }
         let mut free = lock(&self.free);
         free.push(index);
         self.free_count.store(free.len(), Relaxed);
