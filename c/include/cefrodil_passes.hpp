@@ -220,6 +220,9 @@ template <size_t Words> class Passes {
     std::mutex sharing_{};
 };
 
+// From this repetition on, a call sleeps before it is repeated.
+inline constexpr uint32_t sleeps_from = 200;
+
 // Waits before a call is repeated for this time. At first it spins, each time twice as long. Then it yields, and at last it sleeps: the thread that
 // has the turn may have to wait for a processor.
 inline void wait_before(uint32_t repeat) noexcept {
@@ -227,7 +230,7 @@ inline void wait_before(uint32_t repeat) noexcept {
         for (uint32_t step = 0; step < uint32_t(1) << repeat; step++) {
             __builtin_ia32_pause();
         }
-    } else if (repeat < 200) {
+    } else if (repeat < sleeps_from) {
         std::this_thread::yield();
     } else {
         std::this_thread::sleep_for(std::chrono::microseconds(100));
@@ -273,9 +276,9 @@ template <size_t Words> class Turns {
     template <class Call> auto repeated(Call call) noexcept { return repeated(call, tries_); }
     template <class Call> auto repeated(Call call, uint32_t most) noexcept {
         auto answer = passes_.call(call);
-        for (uint32_t repeat = 0; repeat < most; repeat++) {
-            const Status status = status_of(answer);
-            if (status != Status::busy && status != Status::held) {
+        for (uint32_t repeat = 0; is_disturbed(status_of(answer)); repeat++) {
+            if (repeat >= most) {
+                give_up(most);
                 break;
             }
             wait_before(repeat);
@@ -308,6 +311,14 @@ template <size_t Words> class Turns {
     Meter meter() const noexcept { return passes_.shared().meter(); }
 
   private:
+    static bool is_disturbed(Status status) noexcept { return status == Status::busy || status == Status::held; }
+    // Counts a call that ends without an answer, if it slept.
+    [[gnu::cold]] [[gnu::noinline]] void give_up(uint32_t most) noexcept {
+        const std::shared_ptr<Lines> &lines = Counting::lines(passes_.shared());
+        if (lines && most > sleeps_from) {
+            lines->stalls().give_up();
+        }
+    }
     [[gnu::cold]] [[gnu::noinline]] Seen get_again(uint64_t key, uint32_t most, std::array<uint64_t, Words> &value) noexcept {
         for (uint32_t repeat = 0; repeat < most; repeat++) {
             wait_before(repeat);
@@ -317,6 +328,7 @@ template <size_t Words> class Turns {
                 return {found.status, found.since};
             }
         }
+        give_up(most);
         return {Status::busy, 0};
     }
 
