@@ -27,8 +27,9 @@
 // others, anew.
 //
 // What you promise: no other call runs during open, close, a move or the destructor. All other calls may come from any thread at any time. No call
-// comes from a signal handler. A function that you pass does not return in a forked child. A shared library that opened a map is not unloaded while a thread lives that called the map. malloc,
-// realloc and free belong to one allocator, whose blocks are aligned to 16 bytes. The program is linked with the archive that belongs to this header.
+// comes from a signal handler. A function that you pass does not return in a forked child. A shared library that opened a map is not unloaded while a
+// thread lives that called the map. malloc, realloc and free belong to one allocator, whose blocks are aligned to 16 bytes. The program is linked with
+// the archive that belongs to this header.
 //
 // No call throws, but what your hash and your functions throw. A call that other threads keep from its turn is repeated, up to `tries` times. At
 // first it spins, then it yields, then it sleeps. At last it returns `held` or `busy`. A call that fails has changed no key and no value; only

@@ -193,6 +193,11 @@ template <size_t Words> class Passes {
         return sum;
     }
     size_t free_count() const noexcept { return free_->count(); }
+    // The number of this thread's slot, or 0 if it uses the shared one.
+    size_t place() noexcept {
+        const Slot<Words> *const slot = own_slot();
+        return slot != nullptr ? static_cast<size_t>(slot - slots_.get()) : 0;
+    }
     const Pass<Words> &shared() const noexcept { return slots_[0].pass; }
 
   private:
@@ -303,6 +308,7 @@ template <size_t Words> class Turns {
         });
     }
 
+    size_t place() noexcept { return passes_.place(); }
     uint32_t tries() const noexcept { return tries_; }
     // How often a lookup is repeated that is a miss if it stays busy.
     uint32_t looks() const noexcept { return std::min<uint32_t>(tries_, 1000); }
