@@ -10,6 +10,8 @@
  * is freed with its last block. Any thread may allocate and free, and so may another copy of these functions in the same program, since
  * libraries that were built apart may pass a handle on.
  *
+ * A process may fork at any time: its child allocates and frees as it does. A small block knows in which process it was allocated.
+ *
  * What the toolchain asks of them (its crate `libc`, src/heap.rt): `align` divides 16 and `size` is below 2^63. A block that is returned has
  * `size` bytes, aligned to `align`, which nothing else uses until it is given back. A block that grows or shrinks keeps its first `kept`
  * bytes. Without memory `there` is false, the pointer is not null, and a block that was to be resized is as it was. */
@@ -21,6 +23,8 @@
 #include <stdlib.h>
 #include <string.h>
 #include <sys/mman.h>
+#include <sys/types.h>
+#include <unistd.h>
 
 struct block {
     bool there;
@@ -30,6 +34,7 @@ struct block {
 struct block rattle_alloc(size_t size, size_t align);
 struct block rattle_realloc(void *at, size_t kept, size_t size, size_t align);
 void rattle_dealloc(void *at);
+bool is_of_this_process(const void *at);
 
 enum { LINE = 64, APART = 2 * LINE, BEHIND = 56, PLACED = 4096, CUT = 128 << 10, HUGE_PAGE = 2 << 20, REGION = 32 << 20 };
 
@@ -47,6 +52,21 @@ struct region {
 static struct region *open_region;
 static pthread_mutex_t lock = PTHREAD_MUTEX_INITIALIZER;
 
+/* This process. A program that forks without calling the handlers, by a system call of its own, has a child that takes itself for its parent. */
+static pid_t process;
+
+static void before_fork(void) { pthread_mutex_lock(&lock); }
+static void after_fork(void) { pthread_mutex_unlock(&lock); }
+static void in_child(void) {
+    process = getpid();
+    pthread_mutex_unlock(&lock);
+}
+
+__attribute__((constructor)) static void handle_forks(void) {
+    process = getpid();
+    (void)pthread_atfork(before_fork, after_fork, in_child);
+}
+
 static char nothing;
 
 static struct block told(void *at) { return (struct block){at != NULL, at != NULL ? at : &nothing}; }
@@ -60,7 +80,8 @@ static char *aligned(char *block, size_t align) { return block + (align - (uintp
 
 static size_t whole(size_t size) { return size < 16 ? 16 : size; }
 
-/* A small block. It shares no cache line, and no pair of lines, since a processor loads both. So there are bytes of its own before and after it. */
+/* A small block. It shares no cache line, and no pair of lines, since a processor loads both. So there are bytes of its own before and after it.
+ * Two words before it is the process that it is of. */
 static void *alone(size_t size) {
     char *block = malloc(APART + sizeof(void *) + size + APART);
     if (block == NULL) {
@@ -68,8 +89,12 @@ static void *alone(size_t size) {
     }
     char *at = block + APART + sizeof(void *);
     ((void **)at)[-1] = block;
+    ((intptr_t *)at)[-2] = process;
     return at;
 }
+
+/* Whether this process allocated a small block, and not one from which it was forked. */
+bool is_of_this_process(const void *at) { return !is_placed(at) || ((const intptr_t *)at)[-2] == process; }
 
 /* If the system has no huge pages, the pages stay as they are. */
 static void ask_for_huge_pages(char *first, size_t size) { (void)madvise(first, size / HUGE_PAGE * HUGE_PAGE, MADV_HUGEPAGE); }

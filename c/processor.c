@@ -1,7 +1,8 @@
 /* What a program calls first: the openings, and the choice of a shape. The cache's code is for x86-64-v2, and on an older processor an illegal
  * instruction could end the program. So these calls ask the processor first. This file is for any x86-64, as memory.c and text.c are.
  *
- * c/build gives the cache's own calls other names: cefrodil_open is proved_cefrodil_open, and so on. */
+ * c/build gives the cache's own calls other names: cefrodil_open is proved_cefrodil_open, and so on. By the header these here have the series in
+ * their names for a linker. */
 #define CEFRODIL_NO_MACROS
 #include "cefrodil.h"
 #include <cpuid.h>

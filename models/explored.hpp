@@ -3,6 +3,7 @@
 #ifndef EXPLORED_HPP
 #define EXPLORED_HPP
 
+#include "cefrodil_epochs.hpp"
 #include "cefrodil_flights.hpp"
 #include "cefrodil_passes.hpp"
 #include <array>

@@ -1,6 +1,7 @@
 // Tries schedules of each model, for .ci/models: all with few interruptions, and then some with any. As it is, a model must be right in each. With one
 // step or order left out it must be wrong in one.
 // Arguments: how many schedules with any interruptions, and `tell` to print a line for each model and step.
+#include "cxx_epochs.hpp"
 #include "cxx_flights.hpp"
 #include "cxx_passes.hpp"
 #include "rust_epochs.hpp"
@@ -42,6 +43,7 @@ template <class Model> static void explore(const char *name, rl::iteration_t sch
 int main(int argc, char **argv) {
     const rl::iteration_t schedules = argc > 1 ? std::strtoull(argv[1], nullptr, 10) : 20000;
     tells = argc > 2 && argv[2] == std::string("tell");
+    explore<CxxEpochs>("C++ epochs", schedules);
     explore<CxxFlights>("C++ flights", schedules);
     explore<CxxPasses>("C++ passes", schedules);
     explore<RustFlights>("Rust flights", schedules);

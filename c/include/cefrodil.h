@@ -16,8 +16,8 @@
  *      cefrodil_open_shards_with, cefrodil_get_many, cefrodil_put_many, cefrodil_entries or cefrodil_stamped_entries whose
  *      count is 0.
  *      `value` has `words` words; an array has as many elements as its count says.
- *   4. No call comes from a signal handler. A handle is used in the process that opened it: no call comes from a forked
- *      child, which ends by _exit or exec, since exit would run the destructors of C++ objects, and so close handles.
+ *   4. No call comes from a signal handler. A handle is used in the process that opened it. A forked child may close it,
+ *      which frees nothing, and may open caches of its own. So it may end by exit, which runs the destructors of C++ objects.
  *      Every call returns: no longjmp, exception or asynchronous cancellation leaves it.
  *   5. malloc, realloc and free belong to one allocator, whose blocks are aligned to 16 bytes.
  *   6. The program is linked with the archive that belongs to this header. The names below mean its functions only.
@@ -55,6 +55,12 @@
 #else
 #define CEFRODIL_NO_NULL
 #endif
+
+/* The name by which a linker finds a call that a program makes first: cefrodil_open of 0.2 is cefrodil_open_0_2 there. So what was compiled with
+ * the header of another series (the version without the patch) does not link. */
+#define CEFRODIL_OF_SERIES(call) __asm__(#call "_" CEFRODIL_DIGITS(CEFRODIL_VERSION_MAJOR) "_" CEFRODIL_DIGITS(CEFRODIL_VERSION_MINOR))
+#define CEFRODIL_DIGITS(number) CEFRODIL_QUOTED(number)
+#define CEFRODIL_QUOTED(digits) #digits
 
 #ifdef __cplusplus
 #define CEFRODIL_SAME_SIZE(condition, text) static_assert(condition, text)
@@ -176,13 +182,14 @@ uint32_t cefrodil_version(void);
 
 /* Fills in a shape for this many items, 1 to 3,774,873.
  * OK, or BAD_ITEMS: the shape is unchanged. */
-CEFRODIL_CHECKED CEFRODIL_NO_NULL cefrodil_status cefrodil_shape_for_items(uint32_t items, cefrodil_shape *shape);
+CEFRODIL_CHECKED CEFRODIL_NO_NULL cefrodil_status cefrodil_shape_for_items(uint32_t items, cefrodil_shape *shape)
+    CEFRODIL_OF_SERIES(cefrodil_shape_for_items);
 
 /* Opens a cache for values of `words` words. Puts its writer into one handle, and a reader into each of `reader_count` others.
  * OK: all these handles are open. IN_USE: one of them was open before; nothing was done. Otherwise returns the first error
  * that applies, in this order: BAD_WORDS, BAD_MIX to BAD_LIMIT, BAD_READERS, NO_MEMORY. No handle is open, and nothing leaks. */
 CEFRODIL_CHECKED CEFRODIL_NO_NULL cefrodil_status cefrodil_open(const cefrodil_shape *shape, size_t words, cefrodil_handle *writer,
-                                                                cefrodil_handle *readers, size_t reader_count);
+                                                                cefrodil_handle *readers, size_t reader_count) CEFRODIL_OF_SERIES(cefrodil_open);
 
 /* Opens a cache like cefrodil_open and puts `status_count` entries, in order. No entry evicts another. A key that is listed
  * twice is put twice. An entry is its key, then the words of its value, so `entry_words` must be `status_count` times
@@ -194,13 +201,13 @@ CEFRODIL_CHECKED CEFRODIL_NO_NULL cefrodil_status cefrodil_open(const cefrodil_s
 CEFRODIL_CHECKED CEFRODIL_NO_NULL cefrodil_status cefrodil_open_with(const cefrodil_shape *shape, size_t words, const uint64_t *entries,
                                                                      size_t entry_words, uint32_t *statuses, size_t status_count,
                                                                      cefrodil_handle *writer, cefrodil_handle *readers,
-                                                                     size_t reader_count);
+                                                                     size_t reader_count) CEFRODIL_OF_SERIES(cefrodil_open_with);
 
 /* Opens a cache for threads that write by turns. Each of `pass_count` handles becomes a pass: it looks up like a reader, and
  * tries for the turn to write: for the lock around the cache's writer, for one call. A try never waits. Returns the statuses of
  * cefrodil_open. */
 CEFRODIL_CHECKED CEFRODIL_NO_NULL cefrodil_status cefrodil_open_desk(const cefrodil_shape *shape, size_t words, cefrodil_handle *passes,
-                                                                     size_t pass_count);
+                                                                     size_t pass_count) CEFRODIL_OF_SERIES(cefrodil_open_desk);
 
 /* Puts the writer of an open cache on a desk, so that threads can write by turns. It may be the writer of cefrodil_open or
  * cefrodil_open_with, or one that came back by cefrodil_leave_desk. Each of `pass_count` handles becomes a pass. Readers of the cache stay
@@ -213,7 +220,8 @@ CEFRODIL_CHECKED CEFRODIL_NO_NULL cefrodil_status cefrodil_make_desk(cefrodil_ha
 /* Fills in the shape of each of `shards` shards that hold `items` items together. A shard gets its mean share and five standard
  * deviations more, because the hash gives some shards more keys than others.
  * OK, BAD_SHARDS, or BAD_ITEMS: no items, or too many for a shard. Unless OK, the shape is unchanged. */
-CEFRODIL_CHECKED CEFRODIL_NO_NULL cefrodil_status cefrodil_shape_for_shards(uint32_t items, uint32_t shards, cefrodil_shape *shape);
+CEFRODIL_CHECKED CEFRODIL_NO_NULL cefrodil_status cefrodil_shape_for_shards(uint32_t items, uint32_t shards, cefrodil_shape *shape)
+    CEFRODIL_OF_SERIES(cefrodil_shape_for_shards);
 
 /* Opens a cache of `shards` shards, each a table of this shape with a turn of its own. The hash of a key says which shard holds
  * it, so threads that write different keys rarely want the same turn. Each of `pass_count` handles becomes a pass, which has the
@@ -221,7 +229,8 @@ CEFRODIL_CHECKED CEFRODIL_NO_NULL cefrodil_status cefrodil_shape_for_shards(uint
  * itself.
  * Returns the statuses of cefrodil_open, and BAD_SHARDS, right after BAD_MIX. */
 CEFRODIL_CHECKED CEFRODIL_NO_NULL cefrodil_status cefrodil_open_shards(const cefrodil_shape *shape, uint32_t shards, size_t words,
-                                                                       cefrodil_handle *passes, size_t pass_count);
+                                                                       cefrodil_handle *passes, size_t pass_count)
+    CEFRODIL_OF_SERIES(cefrodil_open_shards);
 
 /* Opens shards like cefrodil_open_shards and puts `status_count` entries, in order, each in its key's shard. Entries and `statuses` are as in
  * cefrodil_open_with: no entry evicts another, and each status says what became of its entry. Every pass finds the entries from its first
@@ -230,7 +239,8 @@ CEFRODIL_CHECKED CEFRODIL_NO_NULL cefrodil_status cefrodil_open_shards(const cef
 CEFRODIL_CHECKED CEFRODIL_NO_NULL cefrodil_status cefrodil_open_shards_with(const cefrodil_shape *shape, uint32_t shards, size_t words,
                                                                             const uint64_t *entries, size_t entry_words,
                                                                             uint32_t *statuses, size_t status_count,
-                                                                            cefrodil_handle *passes, size_t pass_count);
+                                                                            cefrodil_handle *passes, size_t pass_count)
+    CEFRODIL_OF_SERIES(cefrodil_open_shards_with);
 
 /* Looks a key up, by any handle. By the writer it is never busy.
  * OK: `value`, `at` and `since` are set. ABSENT: `at` is set. BUSY: ask again, or treat it as a miss. If the writer
@@ -370,7 +380,8 @@ CEFRODIL_CHECKED CEFRODIL_NO_NULL cefrodil_status cefrodil_stamped_entries(cefro
                                                                            uint64_t *count);
 
 /* Closes a handle, in any thread. Closing the last handle frees the cache.
- * OK, or CLOSED if it was not open, or null. The handle is closed afterwards. */
+ * OK, or CLOSED if it was not open, or null. In a forked child, CLOSED if the parent opened it: then nothing is freed. The handle is closed
+ * afterwards. */
 CEFRODIL_NO_NULL cefrodil_status cefrodil_close(cefrodil_handle *handle);
 
 /* cefrodil_get, cefrodil_put and cefrodil_get_or_desk for values of 1 to 8 words. An optimizing compiler calls these where `words` is a

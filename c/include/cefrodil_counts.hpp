@@ -4,8 +4,10 @@
 #define CEFRODIL_COUNTS_HPP
 
 #include "cefrodil.h"
+#include "cefrodil_forks.hpp"
 #include <array>
 #include <atomic>
+#include <chrono>
 #include <cstddef>
 #include <cstdint>
 #include <deque>
@@ -29,6 +31,8 @@ struct Counts {
     uint64_t held = 0;      // writes, lists and peeks by a pass whose try for the turn did not win
     uint64_t evictions = 0; // puts that evicted another key
     uint64_t refusals = 0;  // writes that were refused: no_path, all_recent or spent
+    uint64_t given_up = 0;  // calls of a map that were held or busy at each try, for over a tenth of a second
+    uint64_t stalled = 0;   // for how many seconds calls have given up so, if one did in the last ten: then a thread stopped within a write
 };
 
 namespace inside {
@@ -48,6 +52,34 @@ struct alignas(128) Line {
     }
 };
 static_assert(sizeof(Line) == 128, "a pair of cache lines");
+
+// When calls gave up. A pause of ten seconds ends a stall: calls wait for three at most.
+class Stalls {
+  public:
+    void give_up() noexcept {
+        const int64_t now = seconds();
+        if (now - last_.load(std::memory_order_relaxed) > pause) {
+            first_.store(now, std::memory_order_relaxed);
+        }
+        // Release: who sees this time sees the first one of its stall, too.
+        last_.store(now, std::memory_order_release);
+        number_.fetch_add(1, std::memory_order_relaxed);
+    }
+    uint64_t number() const noexcept { return number_.load(std::memory_order_relaxed); }
+    // For how many seconds. At the first call that gave up, 0.
+    uint64_t length() const noexcept {
+        const int64_t last = last_.load(std::memory_order_acquire), now = seconds();
+        return now - last > pause ? 0 : static_cast<uint64_t>(now - first_.load(std::memory_order_relaxed));
+    }
+
+  private:
+    static constexpr int64_t pause = 10, never = -1000;
+    static int64_t seconds() noexcept {
+        return std::chrono::duration_cast<std::chrono::seconds>(std::chrono::steady_clock::now().time_since_epoch()).count();
+    }
+    std::atomic<int64_t> first_{never}, last_{never};
+    std::atomic<uint64_t> number_{0};
+};
 
 // The lines of a cache's handles. The line of a handle that is closed keeps its numbers, and the next handle that takes it counts on from
 // them.
@@ -69,11 +101,19 @@ class Lines {
         free_count_--;
         return std::exchange(free_, free_->next);
     }
+    // In a forked child the lock may be held for ever.
     void give(Line *line) noexcept {
+        if (!maker_.is_this_process()) {
+            return;
+        }
         const std::lock_guard<std::mutex> guard(lock_);
         push(line);
     }
+    // In a forked child nothing is known of the parent's handles.
     Counts sum() noexcept {
+        if (!maker_.is_this_process()) {
+            return {};
+        }
         const std::lock_guard<std::mutex> guard(lock_);
         std::array<uint64_t, all_counted> all{};
         for (const Line &line : lines_) {
@@ -81,8 +121,9 @@ class Lines {
                 all[which] += line.numbers[which].load(std::memory_order_relaxed);
             }
         }
-        return {all[hits], all[misses], all[busy], all[held], all[evictions], all[refusals]};
+        return {all[hits], all[misses], all[busy], all[held], all[evictions], all[refusals], stalls_.number(), stalls_.length()};
     }
+    Stalls &stalls() noexcept { return stalls_; }
 
   private:
     void push(Line *line) noexcept {
@@ -93,6 +134,8 @@ class Lines {
     std::deque<Line> lines_{};
     Line *free_ = nullptr;
     size_t free_count_ = 0;
+    const Maker maker_{};
+    Stalls stalls_{};
 };
 
 // A handle's line. A handle that was opened by a call of C has none.
@@ -200,19 +243,21 @@ inline std::string label(const std::string &value) {
 // The counts of some caches, each by its name, in the text format of Prometheus.
 inline std::string prometheus(const std::vector<std::pair<std::string, Counts>> &caches) {
     struct Row {
-        const char *name, *help;
+        const char *name, *type, *help;
         uint64_t Counts::*number;
     };
-    const Row rows[] = {{"hits", "Lookups that found their key.", &Counts::hits},
-                        {"misses", "Lookups of an absent key.", &Counts::misses},
-                        {"busy", "Lookups that were busy.", &Counts::busy},
-                        {"held", "Calls whose try for the turn did not win.", &Counts::held},
-                        {"evictions", "Puts that evicted another key.", &Counts::evictions},
-                        {"refusals", "Writes that were refused.", &Counts::refusals}};
+    const Row rows[] = {{"hits_total", "counter", "Lookups that found their key.", &Counts::hits},
+                        {"misses_total", "counter", "Lookups of an absent key.", &Counts::misses},
+                        {"busy_total", "counter", "Lookups that were busy.", &Counts::busy},
+                        {"held_total", "counter", "Calls whose try for the turn did not win.", &Counts::held},
+                        {"evictions_total", "counter", "Puts that evicted another key.", &Counts::evictions},
+                        {"refusals_total", "counter", "Writes that were refused.", &Counts::refusals},
+                        {"given_up_total", "counter", "Calls of a map that were held or busy at each try.", &Counts::given_up},
+                        {"stalled_seconds", "gauge", "For how long calls of a map have given up.", &Counts::stalled}};
     std::string text;
     for (const Row &row : rows) {
-        const std::string name = std::string("cefrodil_") + row.name + "_total";
-        text += "# HELP " + name + ' ' + row.help + "\n# TYPE " + name + " counter\n";
+        const std::string name = std::string("cefrodil_") + row.name;
+        text += "# HELP " + name + ' ' + row.help + "\n# TYPE " + name + ' ' + row.type + '\n';
         for (const auto &[cache, counts] : caches) {
             text += name + "{cache=\"" + inside::label(cache) + "\"} " + std::to_string(counts.*row.number) + '\n';
         }

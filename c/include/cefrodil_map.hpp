@@ -23,9 +23,13 @@
 // is the key itself: two such keys are never confused. Any other key, such as a string of any length, has two hashes. Two of those are confused, as far
 // as is known, with a chance of 2^-128.
 //
+// A forked child finds the map closed: its lookups miss, its other calls return `closed`, and its destructor frees nothing. The child may open it, or
+// others, anew.
+//
 // What you promise: no other call runs during open, close, a move or the destructor. All other calls may come from any thread at any time. No call
-// comes from a signal handler or a forked child. A shared library that opened a map is not unloaded while a thread lives that called the map. malloc,
-// realloc and free belong to one allocator, whose blocks are aligned to 16 bytes. The program is linked with the archive that belongs to this header.
+// comes from a signal handler. A function that you pass does not return in a forked child. A shared library that opened a map is not unloaded while a
+// thread lives that called the map. malloc, realloc and free belong to one allocator, whose blocks are aligned to 16 bytes. The program is linked with
+// the archive that belongs to this header.
 //
 // No call throws, but what your hash and your functions throw. A call that other threads keep from its turn is repeated, up to `tries` times. At
 // first it spins, then it yields, then it sleeps. At last it returns `held` or `busy`. A call that fails has changed no key and no value; only
@@ -35,6 +39,7 @@
 
 #include "cefrodil.hpp"
 #include "cefrodil_flights.hpp"
+#include "cefrodil_forks.hpp"
 #include "cefrodil_hash.hpp"
 #include "cefrodil_table.hpp"
 #include <algorithm>
@@ -95,14 +100,11 @@ template <class K, class V, class Hash = SipHash<K>> class map {
             return Status::no_random;
         }
         const Status status = opened->table.open(options.entries, options.shards, options.passes, options.tries, mix);
-        if (status == Status::ok) {
-            inner_ = std::move(opened);
-        }
-        return status;
+        return status == Status::ok && !inner_.own(std::move(opened)) ? Status::no_memory : status;
     }
-    bool is_open() const noexcept { return inner_ != nullptr; }
+    bool is_open() const noexcept { return bool(inner_); }
     // Closes the map and frees its memory.
-    Status close() noexcept { return std::exchange(inner_, nullptr) ? Status::ok : Status::closed; }
+    Status close() noexcept { return inner_.reset() ? Status::ok : Status::closed; }
 
     // The key's value. None if the key is absent, the lookup was busy each time, or the map is not open.
     [[nodiscard]] std::optional<V> find(Key key) const noexcept(never_throws) {
@@ -237,7 +239,7 @@ template <class K, class V, class Hash = SipHash<K>> class map {
         });
     }
 
-    std::unique_ptr<Inner> inner_{};
+    inside::OwnedPointer<Inner> inner_{};
     // The index hashes what a hash of the user's may have spread badly.
     static constexpr uint32_t mix = std::is_same_v<Hash, SipHash<K>> ? CEFRODIL_MIX_NONE : CEFRODIL_MIX_FULL;
 

@@ -4,6 +4,7 @@
 #define CEFRODIL_PASSES_HPP
 
 #include "cefrodil.hpp"
+#include "cefrodil_forks.hpp"
 #include "cefrodil_threads.hpp"
 #include <algorithm>
 #include <atomic>
@@ -39,7 +40,11 @@ template <class Parts> class FreePassesOf {
         count_.store(left - 1, std::memory_order_relaxed);
         return free_[left - 1];
     }
+    // In a forked child the lock may be held for ever.
     void give(size_t pass) noexcept {
+        if (!maker_.is_this_process()) {
+            return;
+        }
         const std::lock_guard<typename Parts::Mutex> guard(lock_);
         const size_t left = count();
         free_[left] = pass;
@@ -56,6 +61,7 @@ template <class Parts> class FreePassesOf {
     std::vector<size_t> free_;
     typename Parts::template Atomic<size_t> count_;
     typename Parts::template Atomic<bool> ended_{false};
+    const Maker maker_{};
 };
 
 using FreePasses = FreePassesOf<Threads>;
@@ -187,6 +193,11 @@ template <size_t Words> class Passes {
         return sum;
     }
     size_t free_count() const noexcept { return free_->count(); }
+    // The number of this thread's slot, or 0 if it uses the shared one.
+    size_t place() noexcept {
+        const Slot<Words> *const slot = own_slot();
+        return slot != nullptr ? static_cast<size_t>(slot - slots_.get()) : 0;
+    }
     const Pass<Words> &shared() const noexcept { return slots_[0].pass; }
 
   private:
@@ -214,6 +225,9 @@ template <size_t Words> class Passes {
     std::mutex sharing_{};
 };
 
+// From this repetition on, a call sleeps before it is repeated.
+inline constexpr uint32_t sleeps_from = 200;
+
 // Waits before a call is repeated for this time. At first it spins, each time twice as long. Then it yields, and at last it sleeps: the thread that
 // has the turn may have to wait for a processor.
 inline void wait_before(uint32_t repeat) noexcept {
@@ -221,7 +235,7 @@ inline void wait_before(uint32_t repeat) noexcept {
         for (uint32_t step = 0; step < uint32_t(1) << repeat; step++) {
             __builtin_ia32_pause();
         }
-    } else if (repeat < 200) {
+    } else if (repeat < sleeps_from) {
         std::this_thread::yield();
     } else {
         std::this_thread::sleep_for(std::chrono::microseconds(100));
@@ -267,9 +281,9 @@ template <size_t Words> class Turns {
     template <class Call> auto repeated(Call call) noexcept { return repeated(call, tries_); }
     template <class Call> auto repeated(Call call, uint32_t most) noexcept {
         auto answer = passes_.call(call);
-        for (uint32_t repeat = 0; repeat < most; repeat++) {
-            const Status status = status_of(answer);
-            if (status != Status::busy && status != Status::held) {
+        for (uint32_t repeat = 0; is_disturbed(status_of(answer)); repeat++) {
+            if (repeat >= most) {
+                give_up(most);
                 break;
             }
             wait_before(repeat);
@@ -294,6 +308,7 @@ template <size_t Words> class Turns {
         });
     }
 
+    size_t place() noexcept { return passes_.place(); }
     uint32_t tries() const noexcept { return tries_; }
     // How often a lookup is repeated that is a miss if it stays busy.
     uint32_t looks() const noexcept { return std::min<uint32_t>(tries_, 1000); }
@@ -302,6 +317,14 @@ template <size_t Words> class Turns {
     Meter meter() const noexcept { return passes_.shared().meter(); }
 
   private:
+    static bool is_disturbed(Status status) noexcept { return status == Status::busy || status == Status::held; }
+    // Counts a call that ends without an answer, if it slept.
+    [[gnu::cold]] [[gnu::noinline]] void give_up(uint32_t most) noexcept {
+        const std::shared_ptr<Lines> &lines = Counting::lines(passes_.shared());
+        if (lines && most > sleeps_from) {
+            lines->stalls().give_up();
+        }
+    }
     [[gnu::cold]] [[gnu::noinline]] Seen get_again(uint64_t key, uint32_t most, std::array<uint64_t, Words> &value) noexcept {
         for (uint32_t repeat = 0; repeat < most; repeat++) {
             wait_before(repeat);
@@ -311,6 +334,7 @@ template <size_t Words> class Turns {
                 return {found.status, found.since};
             }
         }
+        give_up(most);
         return {Status::busy, 0};
     }
 

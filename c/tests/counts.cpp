@@ -288,10 +288,16 @@ static void printed() {
                                  "# HELP cefrodil_evictions_total Puts that evicted another key.\n# TYPE cefrodil_evictions_total counter\n"
                                  "cefrodil_evictions_total{cache=\"names\"} 5\ncefrodil_evictions_total{cache=\"a\\\"b\\\\c\\nd\"} 0\n"
                                  "# HELP cefrodil_refusals_total Writes that were refused.\n# TYPE cefrodil_refusals_total counter\n"
-                                 "cefrodil_refusals_total{cache=\"names\"} 6\ncefrodil_refusals_total{cache=\"a\\\"b\\\\c\\nd\"} 0\n";
+                                 "cefrodil_refusals_total{cache=\"names\"} 6\ncefrodil_refusals_total{cache=\"a\\\"b\\\\c\\nd\"} 0\n"
+                                 "# HELP cefrodil_given_up_total Calls of a map that were held or busy at each try.\n"
+                                 "# TYPE cefrodil_given_up_total counter\n"
+                                 "cefrodil_given_up_total{cache=\"names\"} 7\ncefrodil_given_up_total{cache=\"a\\\"b\\\\c\\nd\"} 0\n"
+                                 "# HELP cefrodil_stalled_seconds For how long calls of a map have given up.\n"
+                                 "# TYPE cefrodil_stalled_seconds gauge\n"
+                                 "cefrodil_stalled_seconds{cache=\"names\"} 8\ncefrodil_stalled_seconds{cache=\"a\\\"b\\\\c\\nd\"} 0\n";
     Counts most_hits;
     most_hits.hits = UINT64_MAX;
-    MUST(prometheus({{"names", {1, 2, 3, 4, 5, 6}}, {"a\"b\\c\nd", most_hits}}) == expected);
+    MUST(prometheus({{"names", {1, 2, 3, 4, 5, 6, 7, 8}}, {"a\"b\\c\nd", most_hits}}) == expected);
 }
 
 int main() {

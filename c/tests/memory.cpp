@@ -1,7 +1,7 @@
 // Each allocation of an opening and of a list is refused in turn, the library's and those of C++: then the call returns no_memory, does nothing
 // and keeps nothing. A list allocates in its turn, so other threads are held meanwhile. Linked with --wrap.
 #include "cefrodil_filler.hpp"
-#include "cefrodil_map.hpp"
+#include "cefrodil_object_map.hpp"
 #include "must.h"
 #include <chrono>
 #include <cstdlib>
@@ -328,6 +328,33 @@ static void computation_beside_clear() {
     std::vector<std::thread>().swap(others);
 }
 
+// A map of objects takes memory for each. Without it nothing is put, and the value is still the caller's. A removal takes none, and frees.
+static void by_object_maps() {
+    object_map<uint64_t, std::unique_ptr<int>> numbers;
+    MUST(at_last(6, [&] { return numbers.open({100, 4, 4}); }, [&] { return !numbers.is_open(); }));
+    MUST(numbers.insert(1, std::make_unique<int>(1)).status == Status::ok);
+    auto two = std::make_unique<int>(2);
+    bool is_called = false;
+    left = 0;
+    MUST(numbers.insert(2, std::move(two)).status == Status::no_memory && *two == 2 && numbers.size() == 1);
+    MUST(numbers.insert_or_assign(1, std::move(two)).status == Status::no_memory && *two == 2);
+    MUST(numbers.update(1, [&](const std::unique_ptr<int> &) { return is_called = true, nullptr; }) == Status::no_memory && !is_called);
+    MUST(numbers.look(1, [&](const std::unique_ptr<int> &one) { is_called = *one == 1; }) == Status::ok && is_called);
+    left = -1;
+    MUST(at_last(1, [&] { return numbers.clear(); }, [&] { return numbers.contains(1) && numbers.size() == 1; }) && numbers.size() == 0);
+    MUST(numbers.insert(1, std::make_unique<int>(1)).status == Status::ok);
+    left = 0;
+    MUST(numbers.erase(1) == Status::ok && numbers.free_unused() == 2);
+    left = -1;
+    object_map<int, int> counts;
+    MUST(counts.open({100}) == Status::ok);
+    left = 0;
+    const auto computed = counts.find_or_compute(1, [] { return 10; });
+    left = -1;
+    MUST(computed.status == Status::no_memory && computed.value == 10 && computed.computed && !counts.contains(1));
+    MUST(numbers.close() == Status::ok && counts.close() == Status::ok);
+}
+
 static void by_maps() {
     map<uint64_t, uint64_t> numbers;
     MUST(at_last(6, [&] { return numbers.open({100, 4, 4}); }, [&] { return !numbers.is_open(); }));
@@ -349,6 +376,7 @@ int main() {
     fillers();
     batch_beside_a_list();
     std::thread(by_maps).join(); // with what the thread keeps
+    std::thread(by_object_maps).join();
     MUST(kept == before);
     return outcome("memory");
 }

@@ -3,7 +3,9 @@
 #include "cefrodil.h"
 #include "must.h"
 #include <sched.h>
+#include <sys/syscall.h>
 #include <time.h>
+#include <unistd.h>
 
 // How many calls of the index are disturbed from now on, and how many calls were made.
 static uint32_t disturbed = 0, made = 0;
@@ -108,6 +110,15 @@ extern "C" int sched_yield() noexcept {
 extern "C" int nanosleep(const struct timespec *time, struct timespec *) {
     nanoseconds += uint64_t(time->tv_sec) * 1000000000 + uint64_t(time->tv_nsec);
     return 0;
+}
+
+// By so many seconds the clocks are ahead.
+static time_t ahead = 0;
+
+extern "C" int clock_gettime(clockid_t clock, struct timespec *time) noexcept {
+    const long status = syscall(SYS_clock_gettime, clock, time);
+    time->tv_sec += ahead;
+    return static_cast<int>(status);
 }
 
 // Whether the waits since the last call of this were so many yields, and so many sleeps of 100 microseconds.
@@ -326,8 +337,50 @@ static void many_keys() {
     MUST(map.find_many(keys, 50, values) == 33 && !values[0] && values[1] == 20 && made == 50 + 1032 && waited(193, 800));
 }
 
+static bool counts(const cefrodil::map<int, int> &map, uint64_t given_up, uint64_t stalled) {
+    const cefrodil::Counts all = map.meter().counts();
+    return all.given_up == given_up && all.stalled == stalled;
+}
+
+// A call that slept and gave up begins a stall. It lasts until no call gives up for ten seconds.
+static void stalls() {
+    cefrodil::map<int, int> map;
+    MUST(map.open({100}) == Status::ok && map.insert(1, 10).status == Status::ok && counts(map, 0, 0));
+    disturb(10001);
+    MUST(map.insert_or_assign(1, 11).status == Status::held && counts(map, 1, 0));
+    ahead += 9;
+    disturb(1001);
+    MUST(!map.find(1) && counts(map, 2, 9));
+    disturb(10000);
+    MUST(map.erase(1) == Status::ok && counts(map, 2, 9));
+    ahead += 9;
+    MUST(map.insert(1, 10).status == Status::ok && counts(map, 2, 18));
+    disturb(10001);
+    MUST(map.insert(1, 10).status == Status::busy && counts(map, 3, 18));
+    ahead += 12;
+    MUST(counts(map, 3, 0));
+    disturb(10001);
+    MUST(map.insert_or_assign(1, 11).status == Status::held && counts(map, 4, 0));
+    ahead += 3;
+    MUST(counts(map, 4, 3));
+    disturbed = 0;
+}
+
+// A call that tries too few times to sleep says little of the others.
+static void short_calls() {
+    cefrodil::map<int, int> map;
+    MUST(map.open({100, 16, 64, 200}) == Status::ok && map.insert(1, 10).status == Status::ok);
+    disturb(201);
+    MUST(map.insert_or_assign(1, 11).status == Status::held && counts(map, 0, 0));
+    disturb(201);
+    MUST(!map.find(1) && counts(map, 0, 0));
+    yields = 0, nanoseconds = 0;
+}
+
 int main() {
     waits();
+    stalls();
+    short_calls();
     calls({100}, 10000, 193, 9800);
     calls({100, 16, 64, 50}, 50, 43, 0);
     lookups();

@@ -3,7 +3,7 @@ use crate::error::ClearError;
 use crate::map::Map;
 use crate::pass::AnyPass;
 use crate::stats::Kind;
-use crate::wait::{in_turn, LISTS};
+use crate::wait::LISTS;
 use cefrodil::Removal;
 
 impl<K: ?Sized, V: Copy, S> Map<K, V, S> {
@@ -32,8 +32,8 @@ impl<K: ?Sized, V: Copy, S> Map<K, V, S> {
         let slots = &self.inner.slots;
         self.inner.flights.detach_all();
         let remove_all = || -> Result<(), ClearError> {
-            for key in in_turn(lists, || slots.call(AnyPass::keys)).map_err(ClearError::of_list)? {
-                let removed = in_turn(tries, || slots.call(|pass| pass.remove(key)));
+            for key in slots.in_turn(lists, || slots.call(AnyPass::keys)).map_err(ClearError::of_list)? {
+                let removed = slots.in_turn(tries, || slots.call(|pass| pass.remove(key)));
                 if let Removal::Removed { .. } = removed.map_err(ClearError::of_removal)? {
                     slots.count(Kind::Removed);
                 }

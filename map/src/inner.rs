@@ -7,7 +7,7 @@ use crate::pass::{AnyPass, MANY};
 use crate::print::{Print, Printer};
 use crate::slots::Slots;
 use crate::stats::Kind;
-use crate::wait::{in_turn, within, LOOKS};
+use crate::wait::LOOKS;
 use crate::words::{check, deadline, Entry, Layout, Seen, Words};
 use cefrodil::{PutIfError, Reply, TurnError};
 use std::hash::{BuildHasher, Hash};
@@ -71,7 +71,7 @@ impl<V: Copy, S: BuildHasher> Inner<V, S> {
 
     #[cold]
     fn look_again(&self, print: Print, tries: u32) -> Option<Found<V>> {
-        within(tries, || self.found(print, Seen::of(&mut self.slots.call(|pass| pass.get_or_desk(print.key)))))
+        self.slots.within(tries, || self.found(print, Seen::of(&mut self.slots.call(|pass| pass.get_or_desk(print.key)))))
     }
 
     fn found(&self, print: Print, seen: Seen) -> Option<Found<V>> {
@@ -179,7 +179,7 @@ impl<V: Copy, S: BuildHasher> Inner<V, S> {
         let print = self.print(key);
         let words = self.words(print, value, self.deadline(life));
         self.flights.detach(print);
-        match in_turn(tries, || self.slots.call(|pass| pass.put(print.key, &words))) {
+        match self.slots.in_turn(tries, || self.slots.call(|pass| pass.put(print.key, &words))) {
             Ok(put) => Ok(self.slots.count_put(put)),
             Err(why) => Err(self.refused(InsertError::of(why))),
         }
@@ -195,7 +195,7 @@ impl<V: Copy, S: BuildHasher> Inner<V, S> {
                 Some(Found::Absent | Found::Other(_)) => return Ok(None),
                 None => return Err(self.refused(RemoveError::Busy)),
             };
-            match in_turn(tries, || self.slots.call(|pass| pass.take_if(print.key, since))) {
+            match self.slots.in_turn(tries, || self.slots.call(|pass| pass.take_if(print.key, since))) {
                 Ok(_) => {
                     self.slots.count(Kind::Removed);
                     return Ok(value);

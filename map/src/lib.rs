@@ -16,6 +16,7 @@ mod print;
 mod settings;
 mod sip;
 mod slots;
+mod stalls;
 mod stats;
 mod update;
 mod wait;

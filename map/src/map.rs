@@ -35,7 +35,7 @@ use std::time::Duration;
 /// Once a write of a key has returned, no later lookup finds an older value of the key. That includes values that [`get_or_insert_with`]
 /// was computing when the write came.
 ///
-/// A process that was forked makes no call of a map that its parent opened, and drops none: it ends by `_exit` or `exec`.
+/// A forked child makes no call of a map that its parent opened. It may drop the map, which frees little, and open its own.
 ///
 /// [`get`]: Map::get
 /// [`contains_key`]: Map::contains_key

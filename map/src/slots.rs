@@ -3,11 +3,14 @@
 //! A thread claims a slot, and keeps its index until it ends. If all slots are claimed, a thread uses the shared pass, under a mutex, and
 //! tries to claim a slot again at its next call.
 use crate::map::Inserted;
+use crate::stalls::Stalls;
 use crate::stats::{Counts, Kind, Stats};
-use cefrodil::Put;
+use crate::wait::{self, SLEEPS_FROM};
+use cefrodil::{Put, TurnError};
 use std::cell::{Cell, RefCell, RefMut};
 use std::iter::once;
 use std::panic::RefUnwindSafe;
+use std::process;
 use std::sync::atomic::{AtomicU64, AtomicUsize, Ordering::Relaxed};
 use std::sync::{Arc, Mutex, MutexGuard, PoisonError, Weak};
 
@@ -21,6 +24,9 @@ pub(crate) struct Slots<P> {
     free_count: AtomicUsize,
     shared: Mutex<P>,
     shared_counts: Counts,
+    stalls: Stalls,
+    // The process that opened the map. In its forked child another thread may hold a lock for ever.
+    process: u32,
 }
 
 /// What one thread uses. The alignment keeps slots of different threads in different cache lines.
@@ -60,6 +66,8 @@ impl<P: 'static> Slots<P> {
             slots,
             shared: Mutex::new(shared),
             shared_counts: Counts::default(),
+            stalls: Stalls::new(),
+            process: process::id(),
         }
     }
 
@@ -110,7 +118,34 @@ impl<P: 'static> Slots<P> {
     }
 
     pub fn stats(&self) -> Stats {
-        Stats::sum(self.slots.iter().map(|slot| &slot.counts).chain(once(&self.shared_counts)))
+        let counts = self.slots.iter().map(|slot| &slot.counts).chain(once(&self.shared_counts));
+        Stats { given_up: self.stalls.number(), stalled: self.stalls.length(), ..Stats::sum(counts) }
+    }
+
+    /// Calls `attempt` until it returns something, at most so many times.
+    pub fn within<T>(&self, tries: u32, attempt: impl FnMut() -> Option<T>) -> Option<T> {
+        let done = wait::within(tries, attempt);
+        if done.is_none() {
+            self.give_up(tries);
+        }
+        done
+    }
+
+    /// Calls `attempt` until it gets the turn, at most so many times.
+    pub fn in_turn<T, E>(&self, tries: u32, attempt: impl FnMut() -> Result<T, TurnError<E>>) -> Result<T, TurnError<E>> {
+        let done = wait::in_turn(tries, attempt);
+        if let Err(TurnError::Held) = done {
+            self.give_up(tries);
+        }
+        done
+    }
+
+    // A call that has not slept says little of the others.
+    #[cold]
+    fn give_up(&self, tries: u32) {
+        if tries > SLEEPS_FROM {
+            self.stalls.give_up();
+        }
     }
 
     /// The slot that this thread has claimed, or claims now.
@@ -159,6 +194,9 @@ trait Home {
 
 impl<P> Home for Slots<P> {
     fn give_back(&self, index: usize) {
+        if self.process != process::id() {
+            return;
+        }
         let mut free = lock(&self.free);
         free.push(index);
         self.free_count.store(free.len(), Relaxed);

@@ -1,5 +1,6 @@
 //! What the calls of a map came to.
 use std::sync::atomic::{AtomicU64, Ordering::Relaxed};
+use std::time::Duration;
 
 /// How many calls came to what, since the map was opened. The sums of all threads, each read at a moment of its own.
 ///
@@ -28,6 +29,11 @@ pub struct Stats {
     pub removed: u64,
     /// Writes that failed.
     pub refused: u64,
+    /// Calls that gave up, since other threads kept them from each try, for over a tenth of a second. The forms with `try_` don't count.
+    pub given_up: u64,
+    /// For how long calls have given up so, if one did in the last ten seconds. Then a thread has stopped within a write, and lookups and writes
+    /// that need what it has give up until it goes on.
+    pub stalled: Duration,
     /// Calls of the index by the shared pass. If there are many, open the map for more threads.
     pub shared: u64,
 }
@@ -76,7 +82,8 @@ impl Stats {
             sums.iter_mut().zip(&counts.0).for_each(|(sum, count)| *sum += count.load(Relaxed));
         }
         let [hits, misses, busy, expired, collided, added, renewed, evicted, removed, refused, shared] = sums;
-        Stats { hits, misses, busy, expired, collided, added, renewed, evicted, removed, refused, shared }
+        let (given_up, stalled) = Default::default();
+        Stats { hits, misses, busy, expired, collided, added, renewed, evicted, removed, refused, given_up, stalled, shared }
     }
 
     /// How many entries these numbers leave.

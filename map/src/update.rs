@@ -4,7 +4,6 @@ use crate::inner::{Found, Inner};
 use crate::map::Map;
 use crate::print::Print;
 use crate::stats::Kind;
-use crate::wait::in_turn;
 use crate::words::Words;
 use cefrodil::{PutIfAbsentError, PutIfError, TurnError};
 use std::borrow::Borrow;
@@ -146,7 +145,7 @@ impl<V: Copy, S: BuildHasher> Inner<V, S> {
     // Puts the words if the key's last put was at the moment `since`, or if the key is absent. `false`: another thread was first.
     fn put_over(&self, print: Print, since: Option<u64>, words: &Words, tries: u32) -> Result<bool, InsertError> {
         let Some(since) = since else { return self.put_absent(print, words, tries) };
-        match in_turn(tries, || self.slots.call(|pass| pass.put_if(print.key, since, words))) {
+        match self.slots.in_turn(tries, || self.slots.call(|pass| pass.put_if(print.key, since, words))) {
             Ok(_) => {
                 self.slots.count(Kind::Renewed);
                 Ok(true)
@@ -158,7 +157,7 @@ impl<V: Copy, S: BuildHasher> Inner<V, S> {
     }
 
     fn put_absent(&self, print: Print, words: &Words, tries: u32) -> Result<bool, InsertError> {
-        match in_turn(tries, || self.slots.call(|pass| pass.put_if_absent(print.key, words))) {
+        match self.slots.in_turn(tries, || self.slots.call(|pass| pass.put_if_absent(print.key, words))) {
             Ok(put) => {
                 self.slots.count_put(put);
                 Ok(true)

@@ -24,7 +24,8 @@ pub(crate) enum Pause {
 }
 
 const SPINS: u32 = 7;
-const YIELDS: u32 = 200;
+/// A call that tries more often sleeps between its tries.
+pub(crate) const SLEEPS_FROM: u32 = 200;
 const SLEEP: Duration = Duration::from_micros(100);
 
 /// Calls `attempt` until it returns something, at most so many times.
@@ -67,7 +68,7 @@ impl Pause {
     pub fn of(number: u32) -> Pause {
         if number < SPINS {
             Pause::Spin(1 << number)
-        } else if number < YIELDS {
+        } else if number < SLEEPS_FROM {
             Pause::Yield
         } else {
             Pause::Sleep(SLEEP)

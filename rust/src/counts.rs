@@ -2,6 +2,7 @@
 use crate::memory::{room, NoMemory, Shared};
 use crate::raw::{self, RawAnswer, RawReply};
 use std::fmt::{self, Debug, Formatter, Write};
+use std::process;
 use std::sync::atomic::{AtomicU64, Ordering};
 use std::sync::{Mutex, MutexGuard, PoisonError};
 
@@ -59,7 +60,7 @@ impl Meter {
     #[must_use]
     pub fn counts(&self) -> Counts {
         let mut sums = [0; NUMBERS];
-        if let Some(lines) = &self.0 {
+        if let Some(lines) = self.0.as_ref().filter(|lines| lines.is_of_this_process()) {
             for line in &lines.kept().all {
                 sums.iter_mut().zip(&line.0).for_each(|(sum, number)| *sum += number.load(Ordering::Relaxed));
             }
@@ -114,8 +115,11 @@ impl Line {
 
 /// The lines of a cache's handles. The line of a handle that is dropped keeps its numbers, and the next handle that takes it counts on from
 /// them.
-#[derive(Default)]
-pub(crate) struct Lines(Mutex<Kept>);
+pub(crate) struct Lines {
+    kept: Mutex<Kept>,
+    // The process that made them. In its forked child another thread may hold the lock for ever.
+    process: u32,
+}
 
 #[derive(Default)]
 struct Kept {
@@ -125,8 +129,16 @@ struct Kept {
 }
 
 impl Lines {
+    fn new() -> Lines {
+        Lines { kept: Mutex::default(), process: process::id() }
+    }
+
+    fn is_of_this_process(&self) -> bool {
+        self.process == process::id()
+    }
+
     fn kept(&self) -> MutexGuard<'_, Kept> {
-        self.0.lock().unwrap_or_else(PoisonError::into_inner)
+        self.kept.lock().unwrap_or_else(PoisonError::into_inner)
     }
 }
 
@@ -136,7 +148,7 @@ pub(crate) struct Counter(Option<(Shared<Line>, Shared<Lines>)>);
 impl Counter {
     /// `count` counters of a new cache.
     pub fn many(count: usize) -> Result<Vec<Counter>, NoMemory> {
-        Counter::of(COUNTED.then(|| Shared::new(Lines::default())).transpose()?, count)
+        Counter::of(COUNTED.then(|| Shared::new(Lines::new())).transpose()?, count)
     }
 
     /// `count` more counters of this counter's cache.
@@ -224,7 +236,7 @@ impl Counter {
 
 impl Drop for Counter {
     fn drop(&mut self) {
-        if let Some((line, lines)) = self.0.take() {
+        if let Some((line, lines)) = self.0.take().filter(|(_, lines)| lines.is_of_this_process()) {
             lines.kept().free.push(line);
         }
     }

@@ -3,7 +3,7 @@
 //! A [`Writer`] and each [`Reader`] belong to one thread at a time. Move them between threads like any value, or lend them by a
 //! [`Pool`]. If several threads write now and then, they take turns at a [`Desk`]. If several write often, they use [`Shards`].
 //! A [`Filler`] is for a cache beside a store that changes, a [`Meter`] for metrics, an [`AuditLog`] for a check of what was answered.
-//! A forked child ends by `_exit` or `exec`: it drops no handle.
+//! A forked child may drop its parent's handles, which frees nothing, and open caches of its own. It makes no other call by the parent's.
 //! Without memory an opening and a list are errors. [`Filler::new`], [`Pool::new`] and [`prometheus`] end the process, as std's own types do.
 //! `docs/USING.md` has sizing, patterns and what to do about each answer.
 #![deny(missing_docs, missing_debug_implementations, unsafe_op_in_unsafe_fn)]

@@ -72,10 +72,20 @@ pub const PROCESSOR: u32 = 27;
 pub const PUT_EVICTED: u32 = 2;
 pub const PUT_RENEWED: u32 = 3;
 
+/// The name by which a linker finds a call that a program makes first: it has the series, as in the header.
+macro_rules! of_series {
+    ($call:literal) => {
+        concat!($call, "_", env!("CARGO_PKG_VERSION_MAJOR"), "_", env!("CARGO_PKG_VERSION_MINOR"))
+    };
+}
+
 unsafe extern "C" {
     pub fn cefrodil_version() -> u32;
+    #[link_name = of_series!("cefrodil_shape_for_items")]
     pub fn cefrodil_shape_for_items(items: u32, shape: *mut RawShape) -> u32;
+    #[link_name = of_series!("cefrodil_shape_for_shards")]
     pub fn cefrodil_shape_for_shards(items: u32, shards: u32, shape: *mut RawShape) -> u32;
+    #[link_name = of_series!("cefrodil_open")]
     pub fn cefrodil_open(
         shape: *const RawShape,
         words: usize,
@@ -83,6 +93,7 @@ unsafe extern "C" {
         readers: *mut RawHandle,
         reader_count: usize,
     ) -> u32;
+    #[link_name = of_series!("cefrodil_open_with")]
     pub fn cefrodil_open_with(
         shape: *const RawShape,
         words: usize,
@@ -94,8 +105,10 @@ unsafe extern "C" {
         readers: *mut RawHandle,
         reader_count: usize,
     ) -> u32;
+    #[link_name = of_series!("cefrodil_open_desk")]
     pub fn cefrodil_open_desk(shape: *const RawShape, words: usize, passes: *mut RawHandle, pass_count: usize) -> u32;
     pub fn cefrodil_make_desk(writer: *mut RawHandle, passes: *mut RawHandle, pass_count: usize) -> u32;
+    #[link_name = of_series!("cefrodil_open_shards")]
     pub fn cefrodil_open_shards(
         shape: *const RawShape,
         shards: u32,
@@ -103,6 +116,7 @@ unsafe extern "C" {
         passes: *mut RawHandle,
         pass_count: usize,
     ) -> u32;
+    #[link_name = of_series!("cefrodil_open_shards_with")]
     pub fn cefrodil_open_shards_with(
         shape: *const RawShape,
         shards: u32,

@@ -1,5 +1,6 @@
 //! What the server asks of an index of items.
 use crate::item::Item;
+use std::time::Duration;
 
 /// Which put of a key stored its item: memcached's `cas unique`. Never compare those of two keys.
 pub type Token = u64;
@@ -60,6 +61,9 @@ pub trait Index: Send + Sync {
 
     /// Removes the item of this put, if it is still there.
     fn remove_stamped(&self, stamp: Stamp) -> Result<Outcome, Refused>;
+
+    /// For how long calls have given up, since a thread stopped within a change of the index. Zero unless one did lately.
+    fn stalled(&self) -> Duration;
 
     /// Frees the memory of items that have left the index, as far as nobody reads them any more.
     fn sweep(&self);

@@ -8,6 +8,7 @@ use crate::room::{cost, Room};
 use cefrodil_map::{IfError, Inserted, Look, ObjectMap, OpenError, Put, Reason};
 use std::cell::Cell;
 use std::sync::Arc;
+use std::time::Duration;
 
 /// What an entry of the index takes, at most.
 pub const BYTES_OF_AN_ENTRY: usize = 56;
@@ -171,6 +172,10 @@ impl Index for Objects {
             }
             Err(why) => self.failed(|| stamp.hash, why),
         }
+    }
+
+    fn stalled(&self) -> Duration {
+        self.map.stats().stalled
     }
 
     fn sweep(&self) {

@@ -31,6 +31,7 @@ fn general(store: &Store, out: &mut Vec<u8>) {
     for (name, sum) in store.counts.sums() {
         text!(out, "STAT {name} {sum}\r\n");
     }
+    text!(out, "STAT stalled_seconds {}\r\n", store.index.stalled().as_secs());
     text!(out, "STAT evictions {}\r\n", store.room.evicted());
     text!(out, "STAT bytes {}\r\nSTAT curr_items {}\r\n", store.room.used(), store.room.items());
     text!(out, "STAT limit_maxbytes {}\r\n", store.options.memory);

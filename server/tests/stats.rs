@@ -48,6 +48,14 @@ fn what_the_index_did_not_do() {
 }
 
 #[test]
+fn for_how_long_calls_have_given_up() {
+    let mut client = Client::new(MEGABYTE);
+    assert_eq!(stats(&mut client, "", "stalled_seconds"), "0");
+    client.control.stalled.store(7, SeqCst);
+    assert_eq!(stats(&mut client, "", "stalled_seconds"), "7");
+}
+
+#[test]
 fn meta_commands() {
     let mut client = Client::new(MEGABYTE);
     client.ask("ms a 1\n1\nms a 1 q\n1\nmg a v\nmg b q\nma a q\nmd a q\n");
@@ -94,7 +102,7 @@ fn each_name_is_told_once() {
     let mut expected: Vec<_> = "pid uptime time version cefrodild pointer_size max_connections curr_connections threads evictions bytes curr_items \
         limit_maxbytes cmd_get cmd_set cmd_flush cmd_touch cmd_meta get_hits get_misses delete_misses delete_hits incr_misses incr_hits \
         decr_misses decr_hits cas_misses cas_hits cas_badval touch_hits touch_misses store_too_large store_no_memory total_items busy held \
-        refused bytes_read bytes_written total_connections rejected_connections"
+        refused bytes_read bytes_written total_connections rejected_connections stalled_seconds"
         .split_whitespace()
         .collect();
     expected.sort_unstable();

@@ -7,7 +7,7 @@ use crate::flight::Flights;
 use crate::print::Print;
 use crate::slots::Slots;
 use crate::stats::Kind;
-use crate::wait::{in_turn, LISTS, LOOKS};
+use crate::wait::{LISTS, LOOKS};
 use cefrodil::Pass;
 use std::hash::{BuildHasher, Hash};
 use std::marker::PhantomData;
@@ -116,7 +116,7 @@ impl<K, V, S> Drop for Left<'_, K, V, S> {
 impl<K, V, S> Drop for ObjectInner<K, V, S> {
     // No call runs any more. What is in the index is retired like what has left it, since nothing will look it up again.
     fn drop(&mut self) {
-        let listed = in_turn(LISTS, || self.slots.call(Pass::try_entries));
+        let listed = self.slots.in_turn(LISTS, || self.slots.call(Pass::try_entries));
         for (_, [word]) in listed.into_iter().flatten() {
             self.free(self.epochs.retire(word));
         }

@@ -5,7 +5,6 @@ use super::pinned::State;
 use crate::error::GetError;
 use crate::pass::MANY;
 use crate::stats::Kind;
-use crate::wait::in_turn;
 use cefrodil::{Reply, TurnError};
 use std::borrow::Borrow;
 use std::hash::{BuildHasher, Hash};
@@ -183,7 +182,7 @@ impl<K: Eq, V, S: BuildHasher> ObjectInner<K, V, S> {
         let pinned = self.pin();
         for _ in 0..self.tries {
             let Some(State::Live(seen)) = pinned.look(hash, key, self.looks()) else { return false };
-            let touched = in_turn(self.tries, || {
+            let touched = self.slots.in_turn(self.tries, || {
                 self.in_stripe(hash, |pass| match pass.get_or_desk(hash) {
                     Reply::Found { since, .. } if since == seen.since => {
                         seen.object.set_deadline(self.clock.deadline(life));

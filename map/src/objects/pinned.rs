@@ -3,7 +3,6 @@ use super::epochs::Guard;
 use super::inner::ObjectInner;
 use super::look::Look;
 use super::object::Object;
-use crate::wait::within;
 use cefrodil::Reply;
 use std::borrow::Borrow;
 
@@ -113,7 +112,7 @@ impl<K, V, S> Pinned<'_, K, V, S> {
     where
         K: Borrow<Q>,
     {
-        let reply = within(tries, || match self.inner.slots.call(|pass| pass.get_or_desk(hash)) {
+        let reply = self.inner.slots.within(tries, || match self.inner.slots.call(|pass| pass.get_or_desk(hash)) {
             Reply::Busy => None,
             reply => Some(reply),
         });

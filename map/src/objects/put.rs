@@ -7,7 +7,6 @@ use super::object::Object;
 use super::pinned::{Over, Pinned, Seen};
 use crate::error::InsertError;
 use crate::map::Inserted;
-use crate::wait::in_turn;
 use cefrodil::{Pass, PutError, PutIfError, Replaced, Reply, Swapped, TurnError};
 use std::hash::{BuildHasher, Hash};
 use std::sync::TryLockError;
@@ -177,7 +176,7 @@ impl<K, V, S> ObjectInner<K, V, S> {
         seen: Seen<K, V>,
     ) -> Offered<K, V> {
         self.offer(object, |word| {
-            let put = in_turn(self.tries, || {
+            let put = self.slots.in_turn(self.tries, || {
                 self.in_stripe(hash, |pass| {
                     pinned.object(word).set_deadline(seen.object.deadline());
                     pass.try_swap_if(hash, seen.since, &[word])
@@ -198,13 +197,13 @@ impl<K, V, S> ObjectInner<K, V, S> {
     }
 
     fn put_any(&self, hash: u64, word: u64, tries: u32) -> Result<Done, Fail> {
-        let put = in_turn(tries, || self.in_stripe(hash, |pass| pass.try_swap(hash, &[word]).map_err(failed)));
+        let put = self.slots.in_turn(tries, || self.in_stripe(hash, |pass| pass.try_swap(hash, &[word]).map_err(failed)));
         put.map(|swapped| self.swapped(swapped)).map_err(Fail::of)
     }
 
     // The lock keeps other threads from putting the key between the two calls.
     fn put_absent(&self, hash: u64, word: u64, tries: u32) -> Result<Done, Fail> {
-        let put = in_turn(tries, || {
+        let put = self.slots.in_turn(tries, || {
             self.in_stripe(hash, |pass| match pass.get_or_desk(hash) {
                 Reply::Found { .. } => Err(TurnError::Call(Fail::Present)),
                 Reply::Busy => Err(TurnError::Held),
@@ -215,7 +214,7 @@ impl<K, V, S> ObjectInner<K, V, S> {
     }
 
     fn put_at(&self, hash: u64, word: u64, since: u64, tries: u32) -> Result<Done, Fail> {
-        self.replaced(in_turn(tries, || self.slots.call(|pass| pass.try_swap_if(hash, since, &[word]))))
+        self.replaced(self.slots.in_turn(tries, || self.slots.call(|pass| pass.try_swap_if(hash, since, &[word]))))
     }
 
     fn replaced(&self, put: Result<Replaced<1>, TurnError<PutIfError>>) -> Result<Done, Fail> {

@@ -7,7 +7,6 @@ use super::map::ObjectMap;
 use super::pinned::State;
 use crate::error::RemoveError;
 use crate::stats::Kind;
-use crate::wait::in_turn;
 use cefrodil::{PutIfError, TurnError};
 use std::borrow::Borrow;
 use std::hash::{BuildHasher, Hash};
@@ -74,7 +73,7 @@ where
 impl<K, V, S> ObjectInner<K, V, S> {
     /// Takes out the object under this hash if it was put at the moment `since`, and retires it. Returns the moment of the removal.
     pub fn take_if(&self, hash: u64, since: u64, reason: Reason) -> Result<u64, TurnError<PutIfError>> {
-        let taken = in_turn(self.tries, || self.slots.call(|pass| pass.try_take_if(hash, since)))?;
+        let taken = self.slots.in_turn(self.tries, || self.slots.call(|pass| pass.try_take_if(hash, since)))?;
         self.slots.count(Kind::Removed);
         self.left(taken.old.value[0], reason);
         Ok(taken.at)

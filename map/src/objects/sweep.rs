@@ -3,7 +3,7 @@ use super::builder::Reason;
 use super::map::ObjectMap;
 use crate::error::ClearError;
 use crate::stats::Kind;
-use crate::wait::{in_turn, LISTS};
+use crate::wait::LISTS;
 use cefrodil::{Pass, PutIfError, Reply, Take, TurnError};
 
 impl<K, V, S> ObjectMap<K, V, S> {
@@ -36,7 +36,7 @@ impl<K, V, S> ObjectMap<K, V, S> {
         let inner = &self.inner;
         inner.flights.detach_all();
         for (hash, _) in self.list()? {
-            let taken = in_turn(inner.tries, || inner.slots.call(|pass| pass.try_take(hash)));
+            let taken = inner.slots.in_turn(inner.tries, || inner.slots.call(|pass| pass.try_take(hash)));
             if let Take::Taken { old, .. } = taken.map_err(ClearError::of_removal)? {
                 inner.slots.count(Kind::Removed);
                 inner.left(old.value[0], Reason::Removed);
@@ -69,6 +69,6 @@ impl<K, V, S> ObjectMap<K, V, S> {
     }
 
     fn list(&self) -> Result<Vec<(u64, [u64; 1])>, ClearError> {
-        in_turn(LISTS, || self.inner.slots.call(Pass::try_entries)).map_err(ClearError::of_list)
+        self.inner.slots.in_turn(LISTS, || self.inner.slots.call(Pass::try_entries)).map_err(ClearError::of_list)
     }
 }

@@ -22,6 +22,7 @@ mod places;
 mod prints;
 mod shapes;
 mod slots;
+mod stalled;
 mod timed;
 mod turns;
 mod waiting;

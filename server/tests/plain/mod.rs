@@ -7,8 +7,9 @@ use cefrodild::item::Item;
 use cefrodild::room::{cost, Room};
 use std::collections::HashMap;
 use std::hash::{BuildHasher, BuildHasherDefault, DefaultHasher};
-use std::sync::atomic::{AtomicBool, AtomicUsize, Ordering::SeqCst};
+use std::sync::atomic::{AtomicBool, AtomicU64, AtomicUsize, Ordering::SeqCst};
 use std::sync::{Arc, Mutex};
+use std::time::Duration;
 
 /// What a test asks of the index.
 #[derive(Default)]
@@ -20,6 +21,8 @@ pub struct Control {
     pub removals_to_refuse: AtomicUsize,
     /// What happens right before the next change that has a condition.
     pub meanwhile: Mutex<Option<Box<dyn FnOnce() + Send>>>,
+    /// For so many seconds calls have given up.
+    pub stalled: AtomicU64,
     /// How often what had left was to be freed.
     pub sweeps: AtomicUsize,
 }
@@ -135,6 +138,10 @@ impl Index for Plain {
                 Ok(Outcome::Done(*last))
             }
         }
+    }
+
+    fn stalled(&self) -> Duration {
+        Duration::from_secs(self.control.stalled.load(SeqCst))
     }
 
     fn sweep(&self) {

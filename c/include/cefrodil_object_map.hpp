@@ -1,0 +1,274 @@
+// A cache as a map of objects: keys and values of any type and size. The values are never copied or moved once they are in the map. A new key evicts
+// another one when its shard is full.
+//
+//     #include "cefrodil_object_map.hpp"
+//     int main() {
+//         cefrodil::object_map<std::string, std::unique_ptr<Page>> pages;
+//         if (pages.open({1000}) != cefrodil::Status::ok) { return 1; }
+//         const cefrodil::Stored stored = pages.insert("home", std::make_unique<Page>()); // stored.status: ok, or why not
+//         const cefrodil::Status seen = pages.look("home", [](const auto &page) { page->print(); });
+//         const cefrodil::Status erased = pages.erase("home"); // neither ok nor absent: call again
+//     }
+//
+// This header is plain C++ and is not proved. The index below it is. The map's own part is an argument by hand: map/SAFETY.md of Cefrodil's repository.
+// Whoever finds an object keeps it until its call ends. An object that has left the map is freed by a later call that writes, once no call can have
+// found it. So a value's destructor runs in any thread that writes, and under no lock of the map. While a function of `look` runs, all objects that
+// leave the map wait for it.
+//
+// Keys are compared. Two keys whose hashes of 64 bits are the same can't be in the map at once: the later one replaces the earlier.
+//
+// What you promise is what cefrodil_map.hpp lists, and: keys and values may be read by several threads at once, and destroyed by any of them. The
+// listener and destructors throw nothing. No key or value that is destroyed by `close` or by the map's destructor calls the map. A reference that
+// `look` passes is not kept. No call throws, but what your functions and types throw. Then the map is as it was, unless an update was repeated.
+#ifndef CEFRODIL_OBJECT_MAP_HPP
+#define CEFRODIL_OBJECT_MAP_HPP
+
+#include "cefrodil_map.hpp"
+#include "cefrodil_objects.hpp"
+#include <algorithm>
+#include <array>
+#include <functional>
+#include <memory>
+#include <new>
+#include <optional>
+#include <type_traits>
+#include <utility>
+
+namespace cefrodil {
+
+// A map of K to V. A hash of yours is as that of cefrodil::map; `Equal` compares a K with what a call takes as a key.
+template <class K, class V, class Hash = SipHash<K>, class Equal = std::equal_to<>> class object_map {
+    using Objects = inside::Objects<K, V>;
+    using Pinned = typename Objects::Pinned;
+    using Seen = typename Objects::Seen;
+    using Changed = typename Objects::Changed;
+    using Own = typename Objects::Own;
+
+  public:
+    // How a call takes a key. A string is taken as a view.
+    using Key = inside::Taken<K, Hash>;
+    // Hears of each object that leaves the map, before it is freed, in the call that made it leave; but not of those that `close` frees. It may call
+    // the map.
+    using Listener = typename Objects::Listener;
+
+    object_map() noexcept {}
+
+    // Opens the map, empty. Statuses are those of cefrodil::map.
+    [[nodiscard]] Status open(const MapOptions &options, Listener listener = nullptr, Hash hash = Hash()) noexcept {
+        if (inner_) {
+            return Status::in_use;
+        }
+        std::unique_ptr<Inner> opened;
+        if (!inside::has_memory([&] { opened = std::make_unique<Inner>(options.passes, std::move(listener), std::move(hash)); })) {
+            return Status::no_memory;
+        }
+        if (!opened->identities.draw()) {
+            return Status::no_random;
+        }
+        const Status status = opened->objects.open(options, mix);
+        return status == Status::ok && !inner_.own(std::move(opened)) ? Status::no_memory : status;
+    }
+    bool is_open() const noexcept { return bool(inner_); }
+    // Closes the map, and destroys its objects.
+    Status close() noexcept { return inner_.reset() ? Status::ok : Status::closed; }
+
+    // Calls `see(const V &)` with the key's value. ok, or absent, busy or closed: then it was not called. The value stays for so long, though another
+    // thread may remove it meanwhile.
+    template <class See> [[nodiscard]] Status look(Key key, See see) const {
+        if (!inner_) {
+            return Status::closed;
+        }
+        Pinned pinned(inner_->objects);
+        const Seen seen = inner_->look(pinned, inner_->identities.of(key), key, inner_->objects.turns().looks());
+        if (seen.status == Status::ok) {
+            see(static_cast<const V &>(seen.object->value));
+        }
+        return seen.status;
+    }
+    // A copy of the key's value, if it is there.
+    [[nodiscard]] std::optional<V> find(Key key) const {
+        std::optional<V> found;
+        static_cast<void>(look(key, [&](const V &value) { found.emplace(value); }));
+        return found;
+    }
+    [[nodiscard]] bool contains(Key key) const {
+        return look(key, [](const V &) {}) == Status::ok;
+    }
+
+    // Puts a key that is absent. Statuses are those of cefrodil::map, and no_memory. Unless ok, a V that was moved here is moved back.
+    template <class Value> [[nodiscard]] Stored insert(Key key, Value &&value) {
+        return put<Value>(key, value, [&](const inside::Identity &known, Own &object) { return inner_->insert(known, key, object); });
+    }
+    // Puts a key, whether it is there or not.
+    template <class Value> [[nodiscard]] Stored insert_or_assign(Key key, Value &&value) {
+        return put<Value>(key, value, [&](const inside::Identity &known, Own &object) { return inner_->objects.put(known.index, object); });
+    }
+    // Replaces the value of a key that is there by what the function makes of it, `V function(const V &)`. If another thread is first, it is called
+    // again. absent: the key is not there.
+    template <class Function> [[nodiscard]] Status update(Key key, Function function) {
+        if (!inner_) {
+            return Status::closed;
+        }
+        const inside::Identity known = inner_->identities.of(key);
+        inner_->flights_of(known).outdate(known);
+        for (uint32_t repeat = 0;; repeat++) {
+            Seen seen{};
+            const Changed change = inner_->renew(known, key, function, seen);
+            if (seen.status != Status::ok || !is_lost(change.status)) {
+                return inner_->objects.end(change);
+            }
+            if (repeat >= inner_->objects.turns().tries()) {
+                return Status::changed;
+            }
+        }
+    }
+    // Removes a key. ok or absent: it is gone.
+    [[nodiscard]] Status erase(Key key) {
+        if (!inner_) {
+            return Status::closed;
+        }
+        const inside::Identity known = inner_->identities.of(key);
+        inner_->flights_of(known).outdate(known);
+        for (uint32_t repeat = 0;; repeat++) {
+            const Seen seen = inner_->look(Pinned(inner_->objects), known, key, inner_->objects.turns().tries());
+            if (seen.status != Status::ok) {
+                return seen.status;
+            }
+            const Status status = inner_->objects.end(inner_->objects.take(known.index, seen.since));
+            if (status != Status::changed || repeat >= inner_->objects.turns().tries()) {
+                return status;
+            }
+        }
+    }
+    // The key's value, or what the function computes, `V function()`, which is then put. As by cefrodil::map. V must be copyable.
+    template <class Function> [[nodiscard]] Computed<V> find_or_compute(Key key, Function function) {
+        if (!inner_) {
+            return {Status::closed, function(), true};
+        }
+        const inside::Identity known = inner_->identities.of(key);
+        for (;;) {
+            if (std::optional<V> found = find(key)) {
+                return {Status::ok, std::move(*found), false};
+            }
+            inside::Flight flight(inner_->flights_of(known), known);
+            if (!flight.has_begun()) {
+                continue;
+            }
+            // Another flight may have ended between the lookup and the begin of this one.
+            if (std::optional<V> found = find(key)) {
+                return {Status::ok, std::move(*found), false};
+            }
+            V value = function();
+            Own object(new (std::nothrow) inside::Object<K, V>(key, static_cast<const V &>(value)));
+            Changed put = Objects::refused(Status::no_memory);
+            // No code of the caller's runs under the lock of the flight.
+            const Status status = flight.land([&] {
+                put = object ? inner_->objects.put_absent(known.index, object) : put;
+                return put.status == Status::changed ? Status::present : put.status;
+            });
+            static_cast<void>(inner_->objects.end(put));
+            return {status, std::move(value), true};
+        }
+    }
+
+    // Removes each key that was put before. Unless ok, some keys may still be there.
+    [[nodiscard]] Status clear() {
+        if (!inner_) {
+            return Status::closed;
+        }
+        std::for_each(inner_->flights.begin(), inner_->flights.end(), [](inside::Flights &flights) { flights.outdate_all(); });
+        return inner_->objects.clear();
+    }
+    // Frees what has left the map and no call can use any more. Other calls do so now and then. Returns how many objects.
+    size_t free_unused() noexcept { return inner_ ? inner_->objects.free_now() : 0; }
+
+    uint64_t size() const noexcept { return inner_ ? inner_->objects.turns().keys() : 0; }
+    uint64_t capacity() const noexcept { return inner_ ? inner_->objects.turns().capacity() : 0; }
+    Meter meter() const noexcept { return inner_ ? inner_->objects.turns().meter() : Meter(nullptr); }
+
+  private:
+    // Makes an object, and puts it.
+    template <class Value, class Put> Stored put(Key key, std::remove_reference_t<Value> &value, Put make) {
+        if (!inner_) {
+            return {Status::closed, false, false};
+        }
+        const inside::Identity known = inner_->identities.of(key);
+        Own object(new (std::nothrow) inside::Object<K, V>(key, std::forward<Value>(value)));
+        if (!object) {
+            return {Status::no_memory, false, false};
+        }
+        inner_->flights_of(known).outdate(known);
+        Changed change = make(known, object);
+        if constexpr (std::is_same_v<Value, V> && std::is_move_assignable_v<V>) {
+            if (object) {
+                value = std::move(object->value);
+            }
+        }
+        if (change.renewed && !Equal()(change.old->key, key)) {
+            change.why = Left::evicted, change.renewed = false, change.evicted = true;
+        }
+        return {inner_->objects.end(change), change.renewed, change.evicted};
+    }
+    // Whether the entry is another one than was looked up.
+    static bool is_lost(Status status) noexcept { return status == Status::changed || status == Status::absent; }
+
+    struct Inner {
+        Inner(size_t slots, Listener &&its_listener, Hash &&its_hash) : identities(std::move(its_hash)), objects(slots, std::move(its_listener)) {}
+        inside::Flights &flights_of(const inside::Identity &key) noexcept { return flights[key.index % flights.size()]; }
+
+        bool is_of(const Seen &seen, Key key) const { return seen.object != nullptr && Equal()(seen.object->key, key); }
+        // The key's object. An object of another key with the same number is none of its.
+        Seen look(Pinned &&pinned, const inside::Identity &known, Key key, uint32_t most) const { return look(pinned, known, key, most); }
+        Seen look(Pinned &pinned, const inside::Identity &known, Key key, uint32_t most) const {
+            const Seen seen = pinned.look(known.index, most);
+            return seen.status == Status::ok && !is_of(seen, key) ? Seen{Status::absent, nullptr, seen.since} : seen;
+        }
+        // Puts a key that is absent, or says `present`.
+        Changed insert(const inside::Identity &known, Key key, Own &object) {
+            for (uint32_t repeat = 0;; repeat++) {
+                const Seen seen = look(Pinned(objects), known, key, objects.turns().tries());
+                if (seen.status != Status::absent) {
+                    return Objects::refused(seen.status == Status::ok ? Status::present : seen.status);
+                }
+                const Changed put = seen.since != 0 ? objects.put_over(known.index, seen.since, object) : objects.put_absent(known.index, object);
+                if (!is_lost(put.status)) {
+                    return put;
+                }
+                if (repeat >= objects.turns().tries()) {
+                    return Objects::refused(Status::changed);
+                }
+            }
+        }
+        // Puts what the function makes of the key's value, if no other thread does meanwhile. `seen`: what it looked up.
+        template <class Function> Changed renew(const inside::Identity &known, Key key, Function &function, Seen &seen) {
+            Own object;
+            {
+                Pinned pinned(objects);
+                seen = look(pinned, known, key, objects.turns().tries());
+                if (seen.status != Status::ok) {
+                    return Objects::refused(seen.status);
+                }
+                object.reset(new (std::nothrow) inside::Object<K, V>(key, function(static_cast<const V &>(seen.object->value))));
+            }
+            // A flight may have begun while the function ran.
+            flights_of(known).outdate(known);
+            return object ? objects.put_over(known.index, seen.since, object) : Objects::refused(Status::no_memory);
+        }
+
+        inside::Identities<Key, Hash> identities;
+        std::array<inside::Flights, 16> flights{};
+        Objects objects;
+    };
+
+    inside::OwnedPointer<Inner> inner_{};
+    // The index hashes what a hash of the user's may have spread badly.
+    static constexpr uint32_t mix = std::is_same_v<Hash, SipHash<K>> ? CEFRODIL_MIX_NONE : CEFRODIL_MIX_FULL;
+
+    static_assert(std::is_object_v<K> && std::is_object_v<V> && !std::is_const_v<V>, "keys and values are objects");
+    static_assert(std::is_nothrow_destructible_v<K> && std::is_nothrow_destructible_v<V>, "destructors of keys and values throw nothing");
+    static_assert(inside::hashes<Hash, inside::Taken<K, Hash>>, "a hash has the call that cefrodil::map asks for");
+};
+
+} // namespace cefrodil
+
+#endif

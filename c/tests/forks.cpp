@@ -1,0 +1,115 @@
+// A process forks while its threads open, write and close. A child finds each map closed, and may open its own. It ends by exit, which destroys static
+// objects: none hangs, and none has freed anything of its parent's.
+#include "cefrodil_object_map.hpp"
+#include "must.h"
+#include <algorithm>
+#include <atomic>
+#include <cstdlib>
+#include <sys/wait.h>
+#include <thread>
+#include <unistd.h>
+
+using Map = cefrodil::map<uint64_t, uint64_t>;
+using cefrodil::Status;
+
+enum { CHILDREN = 200, KEYS = 1000 };
+
+static Map map;
+static cefrodil::object_map<uint64_t, std::string> names;
+static cefrodil::Writer<1> writer;
+static std::vector<cefrodil::Reader<1>> readers;
+static std::vector<cefrodil::Pass<1>> passes;
+static std::atomic<bool> is_over{false};
+
+static bool open_and_close() {
+    Map other;
+    return other.open({40000, 4, 2, 10}) == Status::ok && other.insert(1, 2).status == Status::ok && other.find(1) == 2u;
+}
+
+// A call that waits for another's computation, when the process forks, and one that computes.
+static void compute_slowly() {
+    for (uint64_t n = 0; !is_over; n++) {
+        static_cast<void>(map.find_or_compute(KEYS + n / 2 % 100, [] {
+            std::this_thread::sleep_for(std::chrono::microseconds(300));
+            return uint64_t(1);
+        }));
+        static_cast<void>(map.erase(KEYS + n / 2 % 100));
+    }
+}
+
+static void write_on() {
+    for (uint64_t n = 0; !is_over; n++) {
+        MUST(map.insert_or_assign(n % KEYS, n).status == Status::ok);
+        MUST(writer.put(n % KEYS, {n}).status == Status::ok);
+        MUST(names.insert_or_assign(n % KEYS, std::string(n % 100, 'x')).status == Status::ok);
+    }
+}
+
+// Readers and passes come and go, and so do threads that take passes of the map.
+static void churn() {
+    const auto shape = cefrodil::shape_for_items(1000);
+    while (!is_over) {
+        cefrodil::Writer<1> other;
+        std::vector<cefrodil::Reader<1>> its;
+        MUST(shape && cefrodil::open(*shape, 2, other, its) == Status::ok && open_and_close());
+        static_cast<void>(writer.meter().counts());
+        std::thread([] { MUST(map.find(1).has_value()); }).join();
+    }
+}
+
+static bool sees_nothing_open() {
+    const cefrodil::Computed<uint64_t> computed = map.find_or_compute(5, [] { return uint64_t(6); });
+    std::optional<uint64_t> values[2];
+    const uint64_t keys[2] = {1, 2};
+    return !map.is_open() && !map.find(1) && map.get(1).status == Status::closed && map.insert(1, 1).status == Status::closed &&
+           map.insert_or_assign(1, 1).status == Status::closed && map.erase(1) == Status::closed && map.clear() == Status::closed &&
+           !names.is_open() && !names.find(1) && names.erase(1) == Status::closed && computed.status == Status::closed &&
+           computed.value == 6 && map.find_many(keys, 2, values) == 0 && map.size() == 0;
+}
+
+static void be_child(int number) {
+    alarm(20);
+    bool is_right = sees_nothing_open() && open_and_close() && writer.meter().counts().hits == 0;
+    if (number % 2 == 0) {
+        Map moved = std::move(map);
+        is_right = is_right && !moved.is_open() && map.close() == Status::closed && map.open({100}) == Status::ok;
+        is_right = is_right && map.insert(1, 2).status == Status::ok && map.find(1) == 2u && !map.find(2);
+    }
+    std::exit(is_right ? 0 : 2);
+}
+
+static int children_end_well() {
+    int ended = 0;
+    for (int i = 0; i < CHILDREN; i++) {
+        const pid_t child = fork();
+        if (child == 0) {
+            be_child(i);
+        }
+        int status = -1;
+        MUST(waitpid(child, &status, 0) == child);
+        ended += WIFEXITED(status) && WEXITSTATUS(status) == 0;
+        if (!WIFEXITED(status) || WEXITSTATUS(status) != 0) {
+            std::printf("child %d: status %d\n", i, status);
+        }
+    }
+    return ended;
+}
+
+int main() {
+    const auto shape = cefrodil::shape_for_items(2000);
+    MUST(shape && map.open({100000}) == Status::ok && cefrodil::open(*shape, 2, writer, readers) == Status::ok);
+    MUST(cefrodil::open_shards(*shape, 2, 3, passes) == Status::ok && names.open({KEYS}) == Status::ok);
+    for (uint64_t key = 0; key < KEYS; key++) {
+        MUST(map.insert(key, key).status == Status::ok);
+    }
+    std::vector<std::thread> threads;
+    threads.emplace_back(churn);
+    threads.emplace_back(write_on);
+    threads.emplace_back(compute_slowly);
+    threads.emplace_back(compute_slowly);
+    MUST(children_end_well() == CHILDREN);
+    is_over = true;
+    std::for_each(threads.begin(), threads.end(), [](std::thread &thread) { thread.join(); });
+    MUST(map.find(1).has_value() && readers[0].get(1).status == Status::ok && map.size() >= KEYS);
+    return outcome("forks");
+}

@@ -1,0 +1,338 @@
+// A map of objects: values of any type and size, whose destructors are counted. Each object that enters the map is destroyed once, the listener hears
+// of each that leaves, and a small map agrees with a model. Argument: by how much less to do.
+#include "cefrodil_object_map.hpp"
+#include "must.h"
+#include <algorithm>
+#include <cstdlib>
+#include <map>
+
+using cefrodil::Left;
+using cefrodil::object_map;
+using cefrodil::Status;
+
+// So many of these live. One is no copy of another, and knows whether it lives.
+static std::atomic<long> living{0};
+
+class Tracked {
+  public:
+    explicit Tracked(uint64_t number) : number_(number) { living++; }
+    Tracked(Tracked &&other) noexcept : number_(other.number_) { living++; }
+    Tracked &operator=(Tracked &&other) noexcept = default;
+    ~Tracked() {
+        mark_ = dead;
+        living--;
+    }
+    bool lives() const { return mark_ == alive; }
+    uint64_t number() const { return number_; }
+
+  private:
+    static constexpr uint64_t alive = 0x600d, dead = 0xdead;
+    uint64_t number_;
+    volatile uint64_t mark_ = alive;
+};
+
+// All keys have few numbers in the index.
+struct Meeting {
+    cefrodil::HashPair operator()(const uint64_t &key, const cefrodil::HashSecret &) const noexcept { return {key % 3, key}; }
+};
+
+static void any_types() {
+    object_map<std::string, std::unique_ptr<std::string>> names;
+    MUST(!names.is_open() && names.look("a", [](const auto &) {}) == Status::closed && names.erase("a") == Status::closed);
+    MUST(names.insert("a", nullptr).status == Status::closed && names.size() == 0 && names.free_unused() == 0 && names.close() == Status::closed);
+    MUST(names.open({100, 16, 0}) == Status::bad_readers && names.open({100, 3}) == Status::bad_shards && !names.is_open());
+    MUST(names.open({100, 16, 4000000000}) == Status::bad_readers && names.open({0}) == Status::bad_items);
+    MUST(names.open({100}) == Status::ok && names.open({100}) == Status::in_use);
+    MUST(names.insert(std::string(1000, 'k'), std::make_unique<std::string>(100000, 'v')).status == Status::ok);
+    size_t size = 0;
+    MUST(names.look(std::string(1000, 'k'), [&](const auto &value) { size = value->size(); }) == Status::ok && size == 100000);
+    MUST(names.look("k", [&](const auto &) { size = 0; }) == Status::absent && size == 100000 && names.contains(std::string(1000, 'k')));
+    // What is refused is given back.
+    auto refused = std::make_unique<std::string>("refused");
+    MUST(names.insert(std::string(1000, 'k'), std::move(refused)).status == Status::present && refused && *refused == "refused");
+    MUST(names.insert("k", std::move(refused)).status == Status::ok && !refused && names.size() == 2);
+
+    object_map<uint64_t, std::shared_ptr<int>> shared;
+    const auto seven = std::make_shared<int>(7);
+    MUST(shared.open({100}) == Status::ok && shared.insert(1, seven).status == Status::ok && seven.use_count() == 2);
+    std::optional<std::shared_ptr<int>> found = shared.find(1);
+    MUST(found && **found == 7 && seven.use_count() == 3 && !shared.find(2));
+    MUST(shared.erase(1) == Status::ok && shared.erase(1) == Status::absent && shared.free_unused() == 1 && seven.use_count() == 2);
+    MUST(shared.insert(1, seven).status == Status::ok && shared.close() == Status::ok && seven.use_count() == 2);
+
+    struct Large {
+        std::array<uint64_t, 1000> words;
+    };
+    const Large of_three{{1, 2, 3}};
+    object_map<int, Large> large;
+    MUST(large.open({10}) == Status::ok && large.insert(-1, of_three).status == Status::ok && large.find(-1)->words[2] == 3);
+}
+
+static void statuses() {
+    object_map<uint64_t, Tracked> map;
+    MUST(map.open({100}) == Status::ok);
+    cefrodil::Stored stored = map.insert(1, Tracked(10));
+    MUST(stored.status == Status::ok && !stored.renewed && !stored.evicted && map.size() == 1);
+    Tracked other(11);
+    MUST(map.insert(1, std::move(other)).status == Status::present);
+    stored = map.insert_or_assign(1, std::move(other));
+    MUST(stored.status == Status::ok && stored.renewed && !stored.evicted && map.size() == 1);
+    MUST(map.update(1, [](const Tracked &old) { return Tracked(old.number() + 1); }) == Status::ok);
+    MUST(map.update(2, [](const Tracked &) { return Tracked(0); }) == Status::absent);
+    uint64_t number = 0;
+    MUST(map.look(1, [&](const Tracked &value) { number = value.number(); }) == Status::ok && number == 12);
+    MUST(map.clear() == Status::ok && map.size() == 0 && !map.contains(1) && map.capacity() >= 100);
+    MUST(map.free_unused() == 3 && living == 1);
+}
+
+// Two keys with the same number in the index are two keys.
+static void keys_that_meet() {
+    std::vector<std::pair<uint64_t, Left>> heard;
+    object_map<uint64_t, Tracked, Meeting> map;
+    MUST(map.open({100}, [&](const uint64_t &key, const Tracked &, Left why) { heard.emplace_back(key, why); }) == Status::ok);
+    MUST(map.insert(1, Tracked(1)).status == Status::ok && !map.contains(4) && map.erase(4) == Status::absent);
+    const cefrodil::Stored stored = map.insert(4, Tracked(4));
+    MUST(stored.status == Status::ok && stored.evicted && map.contains(4) && !map.contains(1) && map.size() == 1);
+    const cefrodil::Stored again = map.insert_or_assign(7, Tracked(7));
+    MUST(again.status == Status::ok && again.evicted && !again.renewed && map.contains(7) && !map.contains(4));
+    MUST(map.update(4, [](const Tracked &) { return Tracked(0); }) == Status::absent);
+    const std::vector<std::pair<uint64_t, Left>> expected{{1, Left::evicted}, {4, Left::evicted}, {7, Left::removed}};
+    MUST(map.erase(7) == Status::ok && heard == expected);
+}
+
+// What was found stays while the function runs, though it has left the map and others were freed.
+static void stays_while_it_is_used() {
+    object_map<uint64_t, Tracked> map;
+    MUST(map.open({1000}) == Status::ok && map.insert(1, Tracked(10)).status == Status::ok);
+    const long before = living;
+    const Status status = map.look(1, [&](const Tracked &mine) {
+        std::thread([&] {
+            MUST(map.erase(1) == Status::ok && map.free_unused() == 0);
+            for (uint64_t key = 100; key < 300; key++) {
+                MUST(map.insert(key, Tracked(key)).status == Status::ok && map.erase(key) == Status::ok);
+            }
+        }).join();
+        // The same thread looks others up, and frees.
+        MUST(map.look(1, [](const Tracked &) {}) == Status::absent && map.free_unused() == 0);
+        MUST(mine.lives() && mine.number() == 10 && living == before + 200);
+    });
+    MUST(status == Status::ok && map.free_unused() == 201 && living == before - 1);
+    // A lookup that began later keeps none of them.
+    MUST(map.insert(2, Tracked(20)).status == Status::ok && map.erase(2) == Status::ok);
+    MUST(map.insert(3, Tracked(30)).status == Status::ok);
+    MUST(map.look(3, [&](const Tracked &) { MUST(map.free_unused() == 1); }) == Status::ok);
+}
+
+// A thread that has no pass of its own is pinned, too.
+static void stays_without_a_pass() {
+    object_map<uint64_t, Tracked> map;
+    MUST(map.open({1000, 16, 1}) == Status::ok && map.insert(1, Tracked(10)).status == Status::ok);
+    MUST(map.look(1, [&](const Tracked &mine) {
+        MUST(map.look(1, [&](const Tracked &) { MUST(map.erase(1) == Status::ok && map.free_unused() == 0); }) == Status::ok);
+        MUST(map.free_unused() == 0 && mine.lives());
+    }) == Status::ok);
+    MUST(map.free_unused() == 1);
+}
+
+static uint64_t drawn = 1;
+static uint64_t draw(uint64_t below) {
+    drawn = drawn * 6364136223846793005 + 1442695040888963407;
+    return (drawn >> 33) % below;
+}
+
+// The listener keeps a model of what is there: it hears of each object that leaves, once.
+static void agrees_with_a_model(long less) {
+    std::map<uint64_t, uint64_t> model;
+    object_map<uint64_t, Tracked> map;
+    bool is_right = true;
+    const auto left = [&](const uint64_t &key, const Tracked &value, Left) {
+        is_right = is_right && value.lives() && model.count(key) == 1 && model[key] == value.number();
+        model.erase(key);
+    };
+    MUST(map.open({200, 2}, left) == Status::ok);
+    const long before = living;
+    for (uint64_t n = 0; n < 200000 / uint64_t(less); n++) {
+        const uint64_t key = draw(600);
+        uint64_t seen = 0;
+        const bool was_there = map.look(key, [&](const Tracked &value) { seen = value.number(); }) == Status::ok;
+        is_right = is_right && was_there == (model.count(key) == 1) && (!was_there || model[key] == seen) && map.size() == model.size();
+        Status status = Status::ok;
+        switch (draw(4)) {
+        case 0: status = map.insert(key, Tracked(n)).status; is_right = is_right && (status == Status::present) == was_there; break;
+        case 1: status = map.insert_or_assign(key, Tracked(n)).status; break;
+        case 2:
+            status = map.update(key, [&](const Tracked &) { return Tracked(n); });
+            is_right = is_right && (status == Status::absent) != was_there;
+            break;
+        default: is_right = is_right && (map.erase(key) == Status::ok) == was_there; status = Status::absent;
+        }
+        if (status == Status::ok) {
+            model[key] = n;
+        }
+    }
+    MUST(is_right && model.size() > 100);
+    static_cast<void>(map.free_unused());
+    MUST(living - before == long(model.size()) && map.close() == Status::ok && living == before);
+}
+
+// A listener and a destructor may call the map.
+static void calls_within_calls() {
+    struct Chain {
+        object_map<int, Chain> *map;
+        int next;
+        Chain(object_map<int, Chain> *its_map, int its_next) : map(its_map), next(its_next) {}
+        Chain(Chain &&other) noexcept : map(std::exchange(other.map, nullptr)), next(other.next) {}
+        ~Chain() {
+            if (map != nullptr) {
+                static_cast<void>(map->erase(next));
+            }
+        }
+    };
+    std::unique_ptr<object_map<int, Chain>> map = std::make_unique<object_map<int, Chain>>();
+    int heard = 0;
+    MUST(map->open({1000}, [&](const int &key, const Chain &, Left) { heard += !map->contains(key); }) == Status::ok);
+    for (int key = 0; key < 100; key++) {
+        MUST(map->insert(key, Chain(map.get(), key + 1)).status == Status::ok);
+    }
+    MUST(map->erase(0) == Status::ok);
+    while (map->size() != 0) {
+        MUST(map->free_unused() > 0);
+    }
+    MUST(heard == 100);
+}
+
+static void computed_once() {
+    object_map<int, std::string> map;
+    MUST(map.open({1000}) == Status::ok);
+    std::atomic<int> computed{0}, wrong{0};
+    std::vector<std::thread> threads;
+    for (int n = 0; n < 4; n++) {
+        threads.emplace_back([&] {
+            for (int key = 0; key < 200; key++) {
+                const auto found = map.find_or_compute(key, [&] { return computed++, std::string(100, char('a' + key % 26)); });
+                wrong += found.value != std::string(100, char('a' + key % 26));
+            }
+        });
+    }
+    std::for_each(threads.begin(), threads.end(), [](std::thread &thread) { thread.join(); });
+    MUST(wrong == 0 && computed == 200 && map.size() == 200);
+    // A removal while it computes: the value is not put.
+    const auto stale = map.find_or_compute(1000, [&] { return static_cast<void>(map.erase(1000)), std::string("old"); });
+    MUST(stale.status == Status::stale && stale.value == "old" && stale.computed && !map.contains(1000));
+    const auto present = map.find_or_compute(1001, [&] { return static_cast<void>(map.clear()), std::string("old"); });
+    MUST(present.status == Status::stale && !map.contains(1001));
+    // A value that was put meanwhile, and is evicted again.
+    object_map<int, std::string> few;
+    MUST(few.open({10, 1}) == Status::ok);
+    const auto evicted = few.find_or_compute(0, [&] {
+        for (int key = 0; key < 200; key++) {
+            MUST(few.insert_or_assign(key, "new").status == Status::ok);
+        }
+        return std::string("old");
+    });
+    MUST(evicted.status == Status::stale && !few.contains(0));
+    // The entry that an update has looked up is gone, and a computation begins before the update's function changes what it reads.
+    int store = 1;
+    std::atomic<bool> has_read{false}, has_changed{false};
+    Status status = Status::ok;
+    std::thread other;
+    const auto read = [&] {
+        const std::string value = std::to_string(store);
+        has_read = true;
+        while (!has_changed) {
+            std::this_thread::yield();
+        }
+        return value;
+    };
+    const auto change = [&](const std::string &) {
+        MUST(map.erase(5) == Status::ok);
+        other = std::thread([&] { status = map.find_or_compute(5, read).status; });
+        while (!has_read) {
+            std::this_thread::yield();
+        }
+        store = 2;
+        return std::to_string(store);
+    };
+    MUST(map.insert(5, "0").status == Status::ok || map.contains(5));
+    MUST(map.update(5, change) == Status::absent);
+    has_changed = true;
+    other.join();
+    MUST(status == Status::stale && !map.contains(5));
+    object_map<int, std::string> closed;
+    MUST(closed.find_or_compute(1, [] { return std::string("x"); }).status == Status::closed);
+}
+
+// Of several threads that insert a key, one does.
+static void inserted_once(uint64_t keys) {
+    object_map<uint64_t, Tracked> map;
+    MUST(map.open({100000}) == Status::ok);
+    std::atomic<uint64_t> begun{0}, inserted{0};
+    std::vector<std::thread> running;
+    for (uint64_t n = 0; n < 4; n++) {
+        running.emplace_back([&, n] {
+            begun++;
+            while (begun != 4) {
+                std::this_thread::yield();
+            }
+            for (uint64_t key = 0; key < keys; key++) {
+                inserted += map.insert(key, Tracked(n)).status == Status::ok;
+            }
+        });
+    }
+    std::for_each(running.begin(), running.end(), [](std::thread &thread) { thread.join(); });
+    MUST(inserted == keys && map.size() == keys);
+}
+
+// Threads look up, put and remove, some without a pass. Nobody sees a value that is dead, or of another key, and all are destroyed at the end.
+static void threads(long less, const cefrodil::MapOptions &options) {
+    std::atomic<long> wrong{0}, entered{0}, heard{0}, hits{0};
+    const long before = living;
+    {
+        object_map<uint64_t, Tracked> map;
+        const auto hear = [&](const uint64_t &key, const Tracked &value, Left) { heard++, wrong += !value.lives() || value.number() % 1000 != key; };
+        MUST(map.open(options, hear) == Status::ok);
+        const auto work = [&](uint64_t seed) {
+            for (uint64_t n = 0; n < 60000 / uint64_t(less); n++) {
+                seed = seed * 6364136223846793005 + 1442695040888963407;
+                const uint64_t key = (seed >> 33) % 300, way = (seed >> 50) % 8;
+                const uint64_t number = n * 1000 + key;
+                if (way < 4) {
+                    hits += map.look(key, [&](const Tracked &value) { wrong += value.number() % 1000 != key || !value.lives(); }) == Status::ok;
+                } else if (way == 4) {
+                    entered += map.insert(key, Tracked(number)).status == Status::ok;
+                } else if (way == 5) {
+                    entered += map.insert_or_assign(key, Tracked(number)).status == Status::ok;
+                } else if (way == 6) {
+                    entered += map.update(key, [&](const Tracked &) { return Tracked(number); }) == Status::ok;
+                } else {
+                    static_cast<void>(map.erase(key));
+                }
+            }
+        };
+        std::vector<std::thread> running;
+        for (uint64_t n = 1; n <= 4; n++) {
+            running.emplace_back(work, n);
+        }
+        std::for_each(running.begin(), running.end(), [](std::thread &thread) { thread.join(); });
+        MUST(wrong == 0 && hits > 0 && entered - heard == long(map.size()));
+    }
+    MUST(living == before);
+}
+
+int main(int argc, char **argv) {
+    const long less = argc > 1 ? std::atol(argv[1]) : 1;
+    any_types();
+    statuses();
+    keys_that_meet();
+    stays_while_it_is_used();
+    stays_without_a_pass();
+    agrees_with_a_model(less);
+    calls_within_calls();
+    computed_once();
+    inserted_once(20000 / uint64_t(less));
+    threads(less, {1000});
+    threads(less, {60, 2, 3});
+    threads(less, {1000, 16, 1});
+    MUST(living == 0);
+    return outcome("object_map");
+}

@@ -1,0 +1,104 @@
+// When an object of a map of objects is freed: the epochs of c/include/cefrodil_epochs.hpp, the header's own code, with atomics and locks of Relacy.
+//
+// One thread removes two objects one after the other and frees what may be freed. Another thread, which has a slot, looks objects up, and so does
+// one without a slot. No object is used after it is freed, and each use comes before the free in the order of the memory model.
+//
+// The index is one entry: a lookup is an acquire load, a removal acquires and releases. A step of the header that is sequentially consistent, and so
+// a locked instruction, is a weaker one here, with a fence after it where a schedule needs that.
+#ifndef CXX_EPOCHS_HPP
+#define CXX_EPOCHS_HPP
+
+#include "explored.hpp"
+
+struct CxxEpochs : rl::test_suite<CxxEpochs, 3> {
+    static constexpr unsigned interruptions = 2;
+    static constexpr std::array<std::string_view, 8> steps{"fence of an announcement",    "fence of a retirement",       "acquire of the number",
+                                                           "release of the number",       "acquire of an announcement",  "release of the end of a pin",
+                                                           "lock of pins without a slot", "removal before the retirement"};
+
+    static std::memory_order unless(std::string_view step, std::memory_order order) {
+        return explored::without(step) ? std::memory_order_relaxed : order;
+    }
+    static void fence_unless(std::string_view step) {
+        if (!explored::without(step)) {
+            explored::fence();
+        }
+    }
+
+    struct Parts {
+        // Thread 0 alone reads announcements, and the others the number of what was retired.
+        template <class T> struct Atomic : explored::Atomic<T> {
+            using Own = explored::Atomic<T>;
+            using Own::Own;
+            T load(std::memory_order) const {
+                const bool is_announced = explored::this_thread() == 0;
+                return Own::load(unless(is_announced ? "acquire of an announcement" : "acquire of the number", std::memory_order_acquire));
+            }
+            void store(T value, std::memory_order order) {
+                if (order == std::memory_order_seq_cst) {
+                    Own::store(value, std::memory_order_release);
+                    fence_unless("fence of an announcement");
+                } else {
+                    Own::store(value, unless("release of the end of a pin", order));
+                }
+            }
+            T fetch_add(T more, std::memory_order) {
+                const T before = Own::fetch_add(more, unless("release of the number", std::memory_order_release));
+                fence_unless("fence of a retirement");
+                return before;
+            }
+        };
+        using Mutex = explored::Mutex;
+    };
+    using Epochs = cefrodil::inside::EpochsOf<Parts>;
+
+    struct Thing : cefrodil::inside::Retired {
+        explored::Plain<int> lives{1};
+    };
+    static constexpr size_t no_thing = 2;
+
+    std::array<Thing, 2> things{};
+    explored::Atomic<size_t> entry{0};
+    Epochs epochs{2};
+
+    void look_up(size_t slot) {
+        std::optional<explored::Mutex::Off> off;
+        if (slot == 0) {
+            off.emplace("lock of pins without a slot");
+        }
+        const Epochs::Pinned pinned(epochs, slot);
+        const size_t word = entry.load(std::memory_order_acquire);
+        RL_ASSERT(word == no_thing || things[word].lives.get() == 1);
+    }
+    void free(cefrodil::inside::Retired *first) {
+        for (; first != nullptr; first = first->next) {
+            static_cast<Thing *>(first)->lives.set(0);
+        }
+    }
+    void retire(size_t word) {
+        const explored::Mutex::Off off("lock of pins without a slot");
+        free(epochs.retire(things[word]));
+        free(epochs.free_now());
+    }
+    void remove() {
+        const bool is_early = explored::without("removal before the retirement");
+        is_early ? retire(0) : void();
+        entry.exchange(1, std::memory_order_acq_rel);
+        is_early ? void() : retire(0);
+        entry.exchange(no_thing, std::memory_order_acq_rel);
+        retire(1);
+    }
+
+    void thread(unsigned index) {
+        if (index == 0) {
+            remove();
+        } else if (index == 1) {
+            look_up(1);
+            look_up(1);
+        } else {
+            look_up(0);
+        }
+    }
+};
+
+#endif

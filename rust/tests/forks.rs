@@ -1,0 +1,77 @@
+//! A process forks while its threads open, write, count and drop. A child drops what it has from its parent, opens caches of its own, and ends by
+//! `exit`. No child hangs.
+use cefrodil::{Cache, Put, Reply, Shape, Shards};
+use std::ffi::c_int;
+use std::process::exit;
+use std::sync::atomic::{AtomicBool, Ordering::Relaxed};
+use std::thread;
+
+const CHILDREN: usize = 200;
+
+extern "C" {
+    fn fork() -> c_int;
+    fn waitpid(child: c_int, status: *mut c_int, options: c_int) -> c_int;
+    fn alarm(seconds: u32) -> u32;
+}
+
+/// Blocks of such shards are cut from a region, behind a lock.
+fn opens_and_drops() -> bool {
+    let shape = Shape::for_shards(40_000, 4).expect("a shape");
+    let mut passes = Shards::<1>::open(&shape, 4, 2).expect("memory");
+    let put = passes[0].try_put(1, &[2]);
+    matches!(put, Ok(Put::Stored { .. })) && matches!(passes[1].get(1), Reply::Found { value: [2], .. })
+}
+
+/// Runs this in a child, and says whether it ended well. A child that hangs is ended by a signal.
+fn ends_well(child: impl FnOnce() -> bool) -> bool {
+    // SAFETY: the child makes calls of the C library after a fork of a process with threads. glibc allows it those of malloc.
+    let number = unsafe { fork() };
+    if number == 0 {
+        // SAFETY: it takes no pointer.
+        unsafe { alarm(20) };
+        exit(if child() { 0 } else { 2 });
+    }
+    let mut status = -1;
+    // SAFETY: `status` is a number of this function's.
+    let ended = unsafe { waitpid(number, &mut status, 0) };
+    ended == number && status == 0
+}
+
+#[test]
+fn no_child_hangs() {
+    let is_over = AtomicBool::new(false);
+    let shape = Shape::for_items(2000).expect("a shape");
+    let (mut writer, mut readers) = Cache::<1>::open(&shape, 2).expect("memory");
+    let passes = Shards::<1>::open(&shape, 2, 2).expect("memory");
+    let (meter, mut mine) = (writer.meter(), readers.pop());
+    thread::scope(|scope| {
+        scope.spawn(|| {
+            while !is_over.load(Relaxed) {
+                assert!(opens_and_drops());
+            }
+        });
+        scope.spawn(|| {
+            while !is_over.load(Relaxed) {
+                let _ = meter.counts();
+            }
+        });
+        scope.spawn(|| {
+            for number in (0..u64::MAX).take_while(|_| !is_over.load(Relaxed)) {
+                writer.put(number % 1000, &[number]).expect("room");
+            }
+        });
+        let mut ended = 0;
+        for _ in 0..CHILDREN {
+            let (mine, passes) = (&mut mine, &passes);
+            ended += usize::from(ends_well(move || {
+                drop(mine.take());
+                // SAFETY: the child never returns from here, so nobody uses these again.
+                passes.iter().for_each(|pass| drop(unsafe { std::ptr::read(pass) }));
+                opens_and_drops()
+            }));
+        }
+        is_over.store(true, Relaxed);
+        assert_eq!(ended, CHILDREN);
+    });
+    assert!(matches!(mine.expect("a reader").get(1), Reply::Found { .. }));
+}
