@@ -346,7 +346,7 @@ CEFRODIL_CHECKED CEFRODIL_NO_NULL cefrodil_status cefrodil_hold(cefrodil_handle 
 
 /* Gives the turn of every shard back. The handle is a pass again, and has seen all that it wrote.
  * OK. CLOSED; KIND: it held none. */
-CEFRODIL_NO_NULL cefrodil_status cefrodil_release(cefrodil_handle *holder);
+CEFRODIL_CHECKED CEFRODIL_NO_NULL cefrodil_status cefrodil_release(cefrodil_handle *holder);
 
 /* The number of changes to the table, which is the `at` of a lookup made now. By the writer. By a handle that holds the turns of all shards:
  * the number of changes to all of them, or 2^64 - 1 if there were more.

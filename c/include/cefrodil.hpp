@@ -227,7 +227,9 @@ template <size_t Words> class Writing {
     // Gives the turns back now.
     void end() noexcept {
         if (pass_ != nullptr) {
-            cefrodil_release(writer_.raw());
+            // It holds, so this can't fail.
+            const cefrodil_status released = cefrodil_release(writer_.raw());
+            static_cast<void>(released);
             inside::Counting::move(writer_, *std::exchange(pass_, nullptr));
         }
     }
