@@ -2,8 +2,10 @@
 #![deny(missing_debug_implementations, unsafe_op_in_unsafe_fn)]
 
 pub mod accept;
+pub mod allocator;
 pub mod answers;
 pub mod audit;
+pub mod ceiling;
 pub mod clock;
 pub mod command;
 pub mod complain;

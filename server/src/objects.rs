@@ -35,17 +35,18 @@ pub fn shards_for(items: usize) -> Option<u32> {
 }
 
 impl Objects {
-    /// Opens an index for at least so many items. What leaves it gives its bytes back to `room`.
+    /// Opens an index for at least so many items. `room` hears of the bytes of what leaves it, and again when they are freed.
     pub fn open(items: usize, threads: usize, room: &Arc<Room>, audit: Option<Arc<Audit>>) -> Result<Objects, OpenError> {
-        let (room, is_logged) = (Arc::clone(room), audit.is_some());
+        let (freeing, room, is_logged) = (Arc::clone(room), Arc::clone(room), audit.is_some());
+        let freed = move |name: &Name, item: &Item| freeing.free(cost(name.len(), item.data.len()));
         let listener = move |name: &Name, item: &Item, reason| {
-            room.give_back(cost(name.len(), item.data.len()));
+            room.leave(cost(name.len(), item.data.len()));
             if reason == Reason::Evicted {
                 room.count_eviction();
                 EVICTED.set(is_logged.then_some(name.hash_of_key()));
             }
         };
-        let mut builder = ObjectMap::builder(items).threads(threads).listener(listener).hasher(Names::default());
+        let mut builder = ObjectMap::builder(items).threads(threads).listener(listener).freed(freed).hasher(Names::default());
         if is_logged {
             // The log has one history, that of a shard.
             builder = builder.shards(1);

@@ -14,13 +14,18 @@ pub const SPARE_ENTRIES: usize = 1024;
 /// The queue gives memory back if it has room for this many times its entries.
 const ROOM_OF_AN_ENTRY: usize = 4;
 
+/// Items that have left and are not freed yet may take this part of the limit, beside what it leaves.
+const PART_OF_RESERVE: u64 = 16;
+
 /// The bytes that items may take, and those that they do take.
 // All accesses are relaxed. Each change is one atomic step, so none is lost, and an item's bytes are added before it is put and so before they
-// are subtracted. No other memory is read by what the words say. The limit is set before there are workers.
-#[derive(Debug)]
+// are subtracted. No other memory is read by what the words say.
+#[derive(Debug, Default)]
 pub struct Room {
     limit: AtomicU64,
     used: AtomicU64,
+    allocated: AtomicU64,
+    taken: AtomicU64,
     items: AtomicU64,
     evicted: AtomicU64,
 }
@@ -37,7 +42,7 @@ pub fn cost(key: usize, value: usize) -> u64 {
 impl Room {
     /// Room for this many bytes.
     pub fn new(limit: u64) -> Room {
-        Room { limit: AtomicU64::new(limit), used: AtomicU64::new(0), items: AtomicU64::new(0), evicted: AtomicU64::new(0) }
+        Room { limit: AtomicU64::new(limit), ..Room::default() }
     }
 
     /// Leaves room for so many bytes from now on.
@@ -55,21 +60,44 @@ impl Room {
         self.used.load(Relaxed)
     }
 
-    /// How many items these are.
+    /// The bytes of items that have left the index and are not freed yet, since a thread may be reading them.
+    pub fn waiting(&self) -> u64 {
+        self.allocated.load(Relaxed).saturating_sub(self.used())
+    }
+
+    /// The bytes of all items that were ever about to be put.
+    pub fn taken(&self) -> u64 {
+        self.taken.load(Relaxed)
+    }
+
+    /// How many items are in the index, with those that are about to be put.
     pub fn items(&self) -> u64 {
         self.items.load(Relaxed)
     }
 
     /// Counts the bytes of an item that is about to be put.
     pub fn take(&self, bytes: u64) {
+        self.taken.fetch_add(bytes, Relaxed);
+        self.allocated.fetch_add(bytes, Relaxed);
         self.used.fetch_add(bytes, Relaxed);
         self.items.fetch_add(1, Relaxed);
     }
 
-    /// Counts the bytes of an item that has left the index, or was not put.
+    /// Counts the bytes of an item that was not put.
     pub fn give_back(&self, bytes: u64) {
+        self.leave(bytes);
+        self.free(bytes);
+    }
+
+    /// Counts the bytes of an item that has left the index.
+    pub fn leave(&self, bytes: u64) {
         self.used.fetch_sub(bytes, Relaxed);
         self.items.fetch_sub(1, Relaxed);
+    }
+
+    /// Counts the bytes of an item that had left and is freed.
+    pub fn free(&self, bytes: u64) {
+        self.allocated.fetch_sub(bytes, Relaxed);
     }
 
     /// Counts an item that gave way, to the limit or to a new key in a full index.
@@ -85,6 +113,12 @@ impl Room {
     /// Whether an item must give way.
     pub fn is_over(&self) -> bool {
         self.used() > self.limit()
+    }
+
+    /// Whether no item may be put before some are freed that have left.
+    pub fn is_crowded(&self) -> bool {
+        let limit = self.limit();
+        self.allocated.load(Relaxed) > limit + limit / PART_OF_RESERVE
     }
 }
 

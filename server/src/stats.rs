@@ -33,6 +33,7 @@ fn general(store: &Store, out: &mut Vec<u8>) {
     }
     text!(out, "STAT evictions {}\r\n", store.room.evicted());
     text!(out, "STAT bytes {}\r\nSTAT curr_items {}\r\n", store.room.used(), store.room.items());
+    text!(out, "STAT bytes_waiting {}\r\nSTAT bytes_limit {}\r\n", store.room.waiting(), store.room.limit());
     text!(out, "STAT limit_maxbytes {}\r\n", store.options.memory);
     line(out, "END");
 }

@@ -1,4 +1,5 @@
 //! What commands do with items, whatever their protocol.
+use crate::ceiling::Ceiling;
 use crate::clock::Clock;
 use crate::counts::{Count, Counts};
 use crate::index::{Index, Refused, Token};
@@ -16,6 +17,7 @@ pub struct Store {
     pub counts: Counts,
     pub clock: Clock,
     pub room: Arc<Room>,
+    ceiling: Option<Ceiling>,
     pub queue: Queue,
     pub(crate) turns: Turns,
     flushes: Flushes,
@@ -78,7 +80,20 @@ impl Store {
         // The last place is that of the thread that accepts connections.
         let counts = Counts::new(options.threads + 1);
         let (clock, queue, turns, flushes) = (Clock::new(), Queue::default(), Turns::default(), Flushes::default());
-        Store { index, counts, clock, room, queue, turns, flushes, seats: Seats::new(options.connections), options }
+        let seats = Seats::new(options.connections);
+        Store { index, counts, clock, room, ceiling: None, queue, turns, flushes, seats, options }
+    }
+
+    /// The same store, whose items get less room if the process exceeds this ceiling.
+    pub fn below(self, ceiling: Ceiling) -> Store {
+        Store { ceiling: Some(ceiling), ..self }
+    }
+
+    /// Looks at the memory of the process if much was put since that was done last.
+    pub(crate) fn look_at_memory(&self) {
+        if let Some(ceiling) = &self.ceiling {
+            ceiling.look_at_times(&self.room, 0);
+        }
     }
 
     /// Looks the keys up in order, and calls `each` with the position of each that has a value. It returns whether it goes on: if not, the

@@ -121,6 +121,7 @@ impl Store {
         }
         if let Ok(Outcome::Done(token)) = outcome {
             self.enqueue(self.stamp(key, token));
+            self.look_at_memory();
             return Ok(Some(token));
         }
         self.room.give_back(bytes);

@@ -24,6 +24,22 @@ fn bytes_and_items_are_added_and_subtracted() {
 }
 
 #[test]
+fn what_has_left_is_counted_until_it_is_freed() {
+    let room = Room::new(160);
+    let state = || (room.used(), room.waiting(), room.items(), room.is_crowded());
+    room.take(160);
+    room.leave(160);
+    assert_eq!(state(), (0, 160, 0, false));
+    room.take(10);
+    assert_eq!(state(), (10, 160, 1, false), "a sixteenth of the limit is beside it");
+    room.take(1);
+    assert_eq!(state(), (11, 160, 2, true));
+    room.free(160);
+    assert_eq!(state(), (11, 0, 2, false));
+    assert_eq!(room.taken(), 171);
+}
+
+#[test]
 fn what_gave_way_is_counted() {
     let room = Room::new(0);
     assert_eq!(room.evicted(), 0);

@@ -37,6 +37,9 @@ pub(crate) struct Listener<K, V>(Box<Call<K, V>>);
 
 type Call<K, V> = dyn Fn(&K, &V, Reason) + Send + Sync;
 
+/// Who hears of each object that is freed.
+pub(crate) type Freed<K, V> = Box<dyn Fn(&K, &V) + Send + Sync>;
+
 impl<K, V> Listener<K, V> {
     pub fn call(&self, key: &K, value: &V, reason: Reason) {
         (self.0)(key, value, reason);
@@ -59,12 +62,13 @@ impl<K, V> Listener<K, V> {
 pub struct ObjectBuilder<K, V, S = RandomState> {
     settings: Settings<S>,
     listener: Option<Listener<K, V>>,
+    freed: Option<Freed<K, V>>,
 }
 
 impl<K, V> ObjectBuilder<K, V> {
     /// For a map of at least this many entries.
     pub fn new(capacity: usize) -> ObjectBuilder<K, V> {
-        ObjectBuilder { settings: Settings::new(capacity), listener: None }
+        ObjectBuilder { settings: Settings::new(capacity), listener: None, freed: None }
     }
 }
 
@@ -84,7 +88,7 @@ impl<K, V, S> ObjectBuilder<K, V, S> {
     /// What hashes the keys, once each. Of two keys with the same hash the map holds one, so all 64 bits must be well spread. If an enemy
     /// may choose keys, take a keyed hasher. The default is std's, which is keyed.
     pub fn hasher<T>(self, hasher: T) -> ObjectBuilder<K, V, T> {
-        ObjectBuilder { settings: self.settings.hasher(hasher), listener: self.listener }
+        ObjectBuilder { settings: self.settings.hasher(hasher), listener: self.listener, freed: self.freed }
     }
 
     /// How long a value lives, unless it is put with another time. `Duration::MAX` never ends, and `Duration::ZERO` is over at once. By
@@ -103,6 +107,14 @@ impl<K, V, S> ObjectBuilder<K, V, S> {
     /// the map keeps it for ever. If `listener` panics, so does the call, which has made its change.
     pub fn listener(mut self, listener: impl Fn(&K, &V, Reason) + Send + Sync + 'static) -> Self {
         self.listener = Some(Listener(Box::new(listener)));
+        self
+    }
+
+    /// Who hears of each object right before it is freed, once: also when the map is dropped. So a program can count what the objects take
+    /// that have left the map and are still there. It hears in any thread, in calls that write. If `freed` panics, the panic ends there, as that
+    /// of a destructor does.
+    pub fn freed(mut self, freed: impl Fn(&K, &V) + Send + Sync + 'static) -> Self {
+        self.freed = Some(Box::new(freed));
         self
     }
 }
@@ -139,6 +151,7 @@ where
             life,
             tries,
             listener: self.listener,
+            freed: self.freed,
             objects: PhantomData,
         };
         Ok(ObjectMap { inner: Arc::new(inner) })

@@ -1,5 +1,5 @@
 //! What all clones of a map of objects share, and how an object leaves.
-use super::builder::{Listener, Reason};
+use super::builder::{Freed, Listener, Reason};
 use super::epochs::Epochs;
 use super::object::Object;
 use crate::clock::{Clock, NEVER};
@@ -31,6 +31,7 @@ pub(crate) struct ObjectInner<K, V, S> {
     /// How often a call tries.
     pub tries: u32,
     pub listener: Option<Listener<K, V>>,
+    pub freed: Option<Freed<K, V>>,
     pub objects: PhantomData<Object<K, V>>,
 }
 
@@ -78,11 +79,19 @@ impl<K, V, S> ObjectInner<K, V, S> {
             // time that it was retired. That is once: an object is retired when it leaves the index, and is never put again. `Epochs` returns
             // it when no call is pinned that may have found the object. So nothing borrows it, and nothing else makes a `Box` of it.
             let object = unsafe { Box::from_raw(Object::<K, V>::pointer(word)) };
-            if let Err(panic) = catch_unwind(AssertUnwindSafe(|| drop(object))) {
-                // What it panicked with may panic when it is dropped, too.
-                mem::forget(catch_unwind(AssertUnwindSafe(|| drop(panic))));
+            if let Some(freed) = &self.freed {
+                contain(|| freed(&object.key, &object.value));
             }
+            contain(|| drop(object));
         }
+    }
+}
+
+/// Calls code of the program whose panic must end here.
+fn contain(call: impl FnOnce()) {
+    if let Err(panic) = catch_unwind(AssertUnwindSafe(call)) {
+        // What it panicked with may panic when it is dropped, too.
+        mem::forget(catch_unwind(AssertUnwindSafe(|| drop(panic))));
     }
 }
 
