@@ -11,9 +11,6 @@ use std::sync::Mutex;
 /// The memory is looked at whenever items have been put that take this part of the ceiling.
 const PART_OF_LOOK: u64 = 256;
 
-/// Items get more room only if this part of the ceiling is free.
-const PART_OF_SLACK: u64 = 64;
-
 /// A look takes at most this part of the items' room away. So no command has to remove too many of them.
 const PART_OF_CUT: u64 = 32;
 
@@ -75,16 +72,15 @@ impl Ceiling {
             allocator::trim();
             taken = resident(&self.pages)?.saturating_sub(apart);
         }
-        room.set_limit(self.next_limit(taken, room.limit(), room.used()));
+        room.set_limit(self.next_limit(taken, room.used()));
         Ok(())
     }
 
-    /// The next limit of items, if the process takes so much, and items so much of it.
-    pub fn next_limit(&self, taken: u64, limit: u64, used: u64) -> u64 {
-        let next = match taken.checked_sub(self.bytes) {
-            Some(excess) => limit.min(used) - excess.min(limit.min(used) / PART_OF_CUT),
-            None if self.bytes - taken > self.bytes / PART_OF_SLACK => limit + (self.bytes - taken) / 2,
-            None => limit,
+    /// The next limit of items, if the process takes so much, and items so much of it: what they take, and what is free below the ceiling.
+    pub fn next_limit(&self, taken: u64, used: u64) -> u64 {
+        let next = match self.bytes.checked_sub(taken) {
+            Some(free) => used + free,
+            None => used - (taken - self.bytes).min(used / PART_OF_CUT),
         };
         next.clamp(self.most / PART_OF_LEAST, self.most)
     }

@@ -62,18 +62,19 @@ impl Store {
         true
     }
 
-    /// Waits until items that have left are freed, if they take too much. Returns whether they are.
+    /// Frees items that have left, if they take much. If they take too much, waits until they are freed. Returns whether there is room.
     fn wait_for_frees(&self) -> bool {
+        if self.room.has_many_waiting() {
+            self.index.sweep();
+        }
         for _ in 0..WAITS {
             if !self.room.is_crowded() {
                 return true;
             }
+            sleep(WAIT);
             self.index.sweep();
-            if self.room.is_crowded() {
-                sleep(WAIT);
-            }
         }
-        !self.room.is_crowded()
+        false
     }
 
     /// Notes that an item was stored.

@@ -17,7 +17,7 @@ use std::process::ExitCode;
 use std::sync::Arc;
 
 /// The process may take this part of the memory limit beside it: for what is no item and no part of the index, and for the allocator's loss.
-const PART_OF_LOSS: usize = 12;
+const PART_OF_LOSS: usize = 10;
 
 fn main() -> ExitCode {
     let words = env::args_os().skip(1).map(OsString::into_string).collect::<Result<Vec<String>, OsString>>();

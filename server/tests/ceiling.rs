@@ -17,23 +17,15 @@ fn what_the_process_does_not_take_is_room() {
 }
 
 #[test]
-fn the_room_is_less_while_the_process_takes_too_much() {
+fn items_have_what_they_take_and_what_is_free() {
     let ceiling = high();
     let (top, most) = (1 << 40, ceiling.room());
-    assert_eq!(ceiling.next_limit(top, most, most), most, "at the ceiling");
-    assert_eq!(ceiling.next_limit(top + 10, most, most), most - 10);
-    assert_eq!(ceiling.next_limit(top + 10, most, most / 2), most / 2 - 10, "less than the items take");
-    assert_eq!(ceiling.next_limit(2 * top, most, most), most - most / 32, "in steps");
-    assert_eq!(ceiling.next_limit(2 * top, most, 0), most / 8, "but some stays");
-}
-
-#[test]
-fn the_room_grows_again() {
-    let ceiling = high();
-    let (top, most) = (1 << 40, ceiling.room());
-    assert_eq!(ceiling.next_limit(top - top / 64, most / 2, 0), most / 2, "too little is free");
-    assert_eq!(ceiling.next_limit(top - top / 32, most / 2, 0), most / 2 + top / 64);
-    assert_eq!(ceiling.next_limit(top / 2, most, 0), most, "up to the first one");
+    assert_eq!(ceiling.next_limit(top - 10, most / 2), most / 2 + 10);
+    assert_eq!(ceiling.next_limit(top, most / 2), most / 2);
+    assert_eq!(ceiling.next_limit(top + 10, most / 2), most / 2 - 10);
+    assert_eq!(ceiling.next_limit(2 * top, most / 2), most / 2 - most / 2 / 32, "less in steps");
+    assert_eq!(ceiling.next_limit(2 * top, 0), most / 8, "but some stays");
+    assert_eq!(ceiling.next_limit(0, most), most, "no more than at first");
 }
 
 #[test]

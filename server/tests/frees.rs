@@ -23,7 +23,7 @@ fn set(store: &Store, key: &[u8], length: usize) -> Result<Answer, Fault> {
 /// Looks at this key, and calls `meanwhile` in another thread while it looks.
 fn while_it_is_read(store: &Store, key: &[u8], meanwhile: impl Fn() + Sync) {
     let looked = store.look(&[key], |_, _, _| {
-        thread::scope(|threads| drop(threads.spawn(&meanwhile).join().expect("no assertion failed")));
+        thread::scope(|threads| threads.spawn(&meanwhile).join().expect("no assertion failed"));
         true
     });
     assert_eq!(looked, 1);

@@ -1,6 +1,7 @@
 //! The bytes of items, the queue, and the seats of clients, each by itself.
 use cefrodild::index::Stamp;
-use cefrodild::room::{Queue, Room, ENTRIES_OF_AN_ITEM, SPARE_ENTRIES};
+use cefrodild::queue::{Queue, ENTRIES_OF_AN_ITEM, SPARE_ENTRIES};
+use cefrodild::room::Room;
 use cefrodild::seat::Seats;
 
 fn stamp(token: u64) -> Stamp {
@@ -37,6 +38,16 @@ fn what_has_left_is_counted_until_it_is_freed() {
     room.free(160);
     assert_eq!(state(), (11, 0, 2, false));
     assert_eq!(room.taken(), 171);
+}
+
+#[test]
+fn what_has_left_should_not_take_much() {
+    let room = Room::new(1_280);
+    room.take(11);
+    room.leave(10);
+    assert!(!room.has_many_waiting());
+    room.leave(1);
+    assert!(room.has_many_waiting(), "it is more than a part in 128");
 }
 
 #[test]
@@ -78,6 +89,23 @@ fn an_empty_queue_gives_memory_back() {
         assert_eq!(queue.pop(), Some(stamp(token)));
     }
     assert!(queue.capacity() <= 4 * SPARE_ENTRIES, "{}", queue.capacity());
+}
+
+#[test]
+fn all_entries_are_looked_at_in_turn() {
+    let queue = Queue::default();
+    assert_eq!(queue.look(10), []);
+    (1..=5_000).for_each(|token| queue.push(stamp(token)));
+    let look = |most| queue.look(most).iter().map(|stamp| stamp.token).collect::<Vec<_>>();
+    assert_eq!(look(2_000), (1..=2_000).collect::<Vec<_>>());
+    (0..100).for_each(|_| assert!(queue.pop().is_some()));
+    assert_eq!(look(2_000), (2_001..=4_000).collect::<Vec<_>>());
+    (0..4_500).for_each(|_| assert!(queue.pop().is_some()));
+    queue.push(stamp(5_001));
+    assert_eq!(look(300), (4_601..=4_900).collect::<Vec<_>>(), "those before are gone");
+    assert_eq!(look(300), (4_901..=5_001).collect::<Vec<_>>());
+    assert_eq!(look(2), [4_601, 4_602], "then it begins again");
+    assert_eq!(queue.entries(), 401);
 }
 
 #[test]
