@@ -46,6 +46,9 @@ pub trait Index: Send + Sync {
     /// Looks up the item of this put, if it is still there.
     fn look_stamped(&self, stamp: Stamp, see: &mut dyn FnMut(Seen<'_>));
 
+    /// Does the same for tidying: the index does not take it for a use of the item.
+    fn peek_stamped(&self, stamp: Stamp, see: &mut dyn FnMut(Seen<'_>));
+
     /// Puts the item, whatever its key has.
     fn put(&self, item: NewItem) -> Result<Token, Refused>;
 

@@ -13,6 +13,7 @@ pub mod connection;
 pub mod counts;
 pub mod dialogue;
 mod evict;
+pub mod expire;
 pub mod files;
 pub mod index;
 pub mod item;

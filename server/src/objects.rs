@@ -140,6 +140,12 @@ impl Index for Objects {
         });
     }
 
+    fn peek_stamped(&self, stamp: Stamp, see: &mut dyn FnMut(Seen<'_>)) {
+        self.map.peek_hash(stamp.hash, |found| {
+            see(answers::seen(found).map(|seen| seen.filter(|(_, token)| *token == stamp.token)));
+        });
+    }
+
     fn put(&self, item: NewItem) -> Result<Token, Refused> {
         let logged = self.logged(&item);
         let put = self.map.put(item).map_err(answers::of_put)?;

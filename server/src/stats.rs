@@ -28,6 +28,7 @@ fn general(store: &Store, out: &mut Vec<u8>) {
     text!(out, "STAT pointer_size 64\r\n");
     text!(out, "STAT max_connections {}\r\n", store.options.connections);
     text!(out, "STAT curr_connections {}\r\nSTAT threads {}\r\n", store.seats.taken(), store.options.threads);
+    text!(out, "STAT buffer_bytes {}\r\n", store.seats.bytes());
     for (name, sum) in store.counts.sums() {
         text!(out, "STAT {name} {sum}\r\n");
     }

@@ -12,13 +12,16 @@ use crate::turn::Turns;
 use std::fmt::{self, Debug, Formatter};
 use std::sync::Arc;
 
+/// The buffers of all connections may take this part of the memory limit, beside it.
+const PART_OF_BUFFERS: usize = 2;
+
 /// The items, and all that is counted of them.
 pub struct Store {
     pub index: Box<dyn Index>,
     pub counts: Counts,
     pub clock: Clock,
     pub room: Arc<Room>,
-    ceiling: Option<Ceiling>,
+    pub(crate) ceiling: Option<Ceiling>,
     pub queue: Queue,
     pub(crate) turns: Turns,
     flushes: Flushes,
@@ -81,7 +84,7 @@ impl Store {
         // The last place is that of the thread that accepts connections.
         let counts = Counts::new(options.threads + 1);
         let (clock, queue, turns, flushes) = (Clock::new(), Queue::default(), Turns::default(), Flushes::default());
-        let seats = Seats::new(options.connections);
+        let seats = Seats::new(options.connections, options.memory / PART_OF_BUFFERS);
         Store { index, counts, clock, room, ceiling: None, queue, turns, flushes, seats, options }
     }
 
@@ -93,7 +96,7 @@ impl Store {
     /// Looks at the memory of the process if much was put since that was done last.
     pub(crate) fn look_at_memory(&self) {
         if let Some(ceiling) = &self.ceiling {
-            ceiling.look_at_times(&self.room, 0);
+            ceiling.look_at_times(&self.room, self.seats.bytes());
         }
     }
 

@@ -110,7 +110,7 @@ fn all_entries_are_looked_at_in_turn() {
 
 #[test]
 fn so_many_seats() {
-    let seats = Seats::new(2);
+    let seats = Seats::new(2, 100);
     let (first, second) = (seats.take(), seats.take());
     assert!(first.is_some() && second.is_some() && seats.take().is_none());
     assert_eq!(seats.taken(), 2);
@@ -120,4 +120,20 @@ fn so_many_seats() {
     assert!(third.is_some() && seats.take().is_none());
     drop((second, third));
     assert_eq!(seats.taken(), 0);
+}
+
+#[test]
+fn what_clients_hold_is_bounded() {
+    let seats = Seats::new(3, 100);
+    let take = || seats.take().expect("a seat is free");
+    let (mut first, mut second, mut third) = (take(), take(), take());
+    assert!(first.hold(60) && second.hold(40));
+    assert_eq!(seats.bytes(), 100);
+    assert!(!third.hold(1), "it is one too many");
+    assert!(first.hold(59) && second.hold(40) && !second.hold(42) && second.hold(41), "less is always allowed");
+    assert_eq!(seats.bytes(), 101);
+    drop((second, third));
+    assert_eq!(seats.bytes(), 59);
+    assert!(first.hold(0));
+    assert_eq!(seats.bytes(), 0);
 }

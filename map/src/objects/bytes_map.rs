@@ -9,6 +9,7 @@ use crate::error::{GetError, InsertError, OpenError};
 use crate::settings::Settings;
 use crate::stats::Stats;
 use crate::wait::TRIES;
+use cefrodil::Reply;
 use std::collections::hash_map::RandomState;
 use std::fmt::{self, Debug, Formatter};
 use std::hash::BuildHasher;
@@ -118,6 +119,14 @@ impl<H: Head, S> BytesMap<H, S> {
         let pinned = self.inner.pin();
         let state = self.inner.count(pinned.look(hash, &Any, self.inner.looks()));
         look(state.map(|state| state.object()).ok_or(GetError::Busy))
+    }
+
+    /// Like [`look_hash`](Self::look_hash), for a program that tidies up: what is found does not count as used, nor is the lookup counted. It
+    /// tries once for the turn of the hash's shard, as a write does, and is busy if that did not win.
+    pub fn peek_hash<R>(&self, hash: u64, look: impl FnOnce(Result<Look<&Bytes<H>>, GetError>) -> R) -> R {
+        let pinned = self.inner.pin();
+        let reply = self.inner.slots.call(|pass| pass.try_peek(hash)).unwrap_or(Reply::Busy);
+        look(pinned.state_or_look(hash, &Any, reply, 1).map(|state| state.object()).ok_or(GetError::Busy))
     }
 
     /// As [`ObjectMap::remove_stamped`](crate::ObjectMap::remove_stamped).

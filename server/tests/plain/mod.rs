@@ -97,6 +97,10 @@ impl Index for Plain {
         see(Ok(entry.map(|entry| (&*entry.item, entry.token))));
     }
 
+    fn peek_stamped(&self, stamp: Stamp, see: &mut dyn FnMut(Seen<'_>)) {
+        self.look_stamped(stamp, see);
+    }
+
     fn put(&self, item: NewItem) -> Result<Token, Refused> {
         match self.put_as(item, |_| true)? {
             Outcome::Done(token) => Ok(token),
