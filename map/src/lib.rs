@@ -30,5 +30,7 @@ pub use builder::Builder;
 pub use error::{ClearError, GetError, InsertError, OpenError, RemoveError, UpdateError};
 pub use map::{Inserted, Map};
 #[cfg(feature = "objects")]
-pub use objects::{AbsentError, IfError, Look, ObjectBuilder, ObjectMap, Put, Reason, Refused};
+pub use objects::{
+    AbsentError, Block, Bytes, BytesBuilder, BytesMap, Head, IfError, Look, ObjectBuilder, ObjectMap, Put, Reason, Refused,
+};
 pub use stats::Stats;

@@ -24,7 +24,7 @@ struct State {
 /// What the log says of an item.
 pub fn digest(item: &Item) -> u64 {
     let mut hasher = DefaultHasher::new();
-    (item.flags, &item.data).hash(&mut hasher);
+    (item.flags, item.value()).hash(&mut hasher);
     hasher.finish()
 }
 

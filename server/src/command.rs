@@ -50,11 +50,11 @@ pub(crate) use text;
 pub fn value(out: &mut Vec<u8>, key: &[u8], item: &Item, token: Option<u64>) {
     out.extend_from_slice(b"VALUE ");
     out.extend_from_slice(key);
-    text!(out, " {} {}", item.flags, item.data.len());
+    text!(out, " {} {}", item.flags, item.value().len());
     if let Some(token) = token {
         text!(out, " {token}");
     }
-    block(out, &item.data);
+    block(out, item.value());
 }
 
 /// Ends a line, and writes a block behind it.

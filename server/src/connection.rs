@@ -1,4 +1,5 @@
 //! A client's connection: its buffers, and what it may take in one turn.
+use crate::complain::{complain_at_times, Last};
 use crate::counts::Count;
 use crate::dialogue::{Dialogue, Turn, MOST_WAITING};
 use crate::seat::Seat;
@@ -14,6 +15,9 @@ const CHUNK: usize = 1 << 14;
 
 /// A buffer that is larger than this is given up when it is empty.
 const LARGE: usize = 1 << 17;
+
+/// Less than this waits in a buffer of its own size.
+const SMALL: usize = 1 << 12;
 
 thread_local! {
     /// Buffers for what is read and for answers. A client has buffers of its own only while bytes wait in them.
@@ -49,7 +53,7 @@ pub struct Connection {
     is_dry: bool,
     /// The client sends no more. That event may have come with the last bytes.
     is_half_closed: bool,
-    _seat: Seat,
+    seat: Seat,
 }
 
 /// Bytes that were read and are not done with: those of `bytes` from `start` to `end`.
@@ -65,7 +69,7 @@ impl Connection {
     pub fn new(stream: TcpStream, seat: Seat) -> Connection {
         let (dialogue, input, output) = (Dialogue::default(), Input::default(), Vec::new());
         let (is_ending, is_dry, is_half_closed) = (false, false, false);
-        Connection { stream, dialogue, input, needs: 1, output, is_ending, is_dry, is_half_closed, _seat: seat }
+        Connection { stream, dialogue, input, needs: 1, output, is_ending, is_dry, is_half_closed, seat }
     }
 
     /// The connection, for registering it.
@@ -94,12 +98,22 @@ impl Connection {
         self.borrow_buffers();
         let next = self.rounds(store);
         self.return_buffers();
-        next
+        if self.seat.hold(self.input.bytes.capacity() + self.output.capacity()) {
+            return next;
+        }
+        store.counts.add(Count::NoBuffers);
+        static LAST: Last = Last::new(None);
+        complain_at_times(&LAST, format_args!("a client is cut off: the buffers of all take half of the memory limit (-m)"));
+        if self.output.is_empty() {
+            // If the client doesn't get this, it sees all the same that the connection ends.
+            let _ = self.stream.write(b"SERVER_ERROR out of memory reading request\r\n");
+        }
+        Ok(Next::Nothing)
     }
 
     fn borrow_buffers(&mut self) {
-        if self.input.bytes.is_empty() {
-            self.input.bytes = READ.take();
+        if self.input.bytes.len() < CHUNK {
+            self.input.move_to(READ.take());
         }
         if self.output.capacity() == 0 {
             self.output = ANSWERS.take();
@@ -109,6 +123,9 @@ impl Connection {
     fn return_buffers(&mut self) {
         if self.input.len() == 0 {
             READ.set(mem::take(&mut self.input.bytes));
+        } else if self.input.len() < SMALL && self.input.bytes.len() >= CHUNK {
+            let small = self.input.waiting().to_vec();
+            READ.set(mem::replace(&mut self.input, Input { start: 0, end: small.len(), bytes: small }).bytes);
         }
         if self.output.is_empty() {
             ANSWERS.set(mem::take(&mut self.output));
@@ -197,6 +214,15 @@ fn retry(mut call: impl FnMut() -> io::Result<usize>) -> io::Result<Option<usize
 impl Input {
     fn len(&self) -> usize {
         self.end - self.start
+    }
+
+    /// Moves what waits into this buffer, if there is room.
+    fn move_to(&mut self, mut bytes: Vec<u8>) {
+        let length = self.len();
+        if bytes.len() > length {
+            bytes[..length].copy_from_slice(self.waiting());
+            *self = Input { bytes, start: 0, end: length };
+        }
     }
 
     fn waiting(&self) -> &[u8] {

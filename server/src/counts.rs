@@ -35,6 +35,7 @@ counts! {
     TooLarge "store_too_large",
     NoMemory "store_no_memory",
     Stored "total_items",
+    Expired "crawler_reclaimed",
     Busy "busy",
     Held "held",
     Refused "refused",
@@ -42,9 +43,10 @@ counts! {
     BytesWritten "bytes_written",
     Connections "total_connections",
     Rejected "rejected_connections",
+    NoBuffers "connections_out_of_memory",
 }
 
-const KINDS: usize = Count::Rejected as usize + 1;
+const KINDS: usize = Count::NoBuffers as usize + 1;
 
 thread_local! {
     static PLACE: Cell<usize> = const { Cell::new(0) };

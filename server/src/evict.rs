@@ -1,13 +1,19 @@
 //! Items that give way: those in the queue for longest that were not read lately.
 use crate::index::{Outcome, Stamp};
 use crate::store::{Fault, Store};
-use std::thread::yield_now;
+use std::thread::{sleep, yield_now};
+use std::time::Duration;
 
 /// After so many entries, the next item gives way even if it was read lately.
 const LOOKS: u32 = 1000;
 
 /// How often no item could be removed before there is no room. Other threads may be about to add to the queue.
 const FAILURES: u32 = 100;
+
+/// How often a command waits, and how long, until items are freed that have left: 20 ms at least. It sleeps, so that a thread that was stopped
+/// while it reads them gets the processor.
+const WAITS: u32 = 200;
+const WAIT: Duration = Duration::from_micros(100);
 
 /// How many entries a command looks at, at most, if the queue is too long. A removal makes the queue too long by two entries.
 const TIDIED: u32 = 8;
@@ -32,8 +38,16 @@ impl Store {
         if bytes + kept.map_or(0, |kept| kept.bytes) > self.room.limit() {
             return Err(Fault::NoRoom);
         }
-        let kept = kept.map(|kept| kept.stamp);
         self.room.take(bytes);
+        if self.evict_enough(kept.map(|kept| kept.stamp)) && self.wait_for_frees() {
+            return Ok(());
+        }
+        self.room.give_back(bytes);
+        Err(Fault::NoRoom)
+    }
+
+    /// Removes items until the others are within the limit. Returns whether they are.
+    fn evict_enough(&self, kept: Option<Stamp>) -> bool {
         let mut failed = 0;
         while self.room.is_over() {
             if self.evict(kept) {
@@ -41,12 +55,26 @@ impl Store {
             }
             failed += 1;
             if failed == FAILURES {
-                self.room.give_back(bytes);
-                return Err(Fault::NoRoom);
+                return false;
             }
             yield_now();
         }
-        Ok(())
+        true
+    }
+
+    /// Frees items that have left, if they take much. If they take too much, waits until they are freed. Returns whether there is room.
+    fn wait_for_frees(&self) -> bool {
+        if self.room.has_many_waiting() {
+            self.index.sweep();
+        }
+        for _ in 0..WAITS {
+            if !self.room.is_crowded() {
+                return true;
+            }
+            sleep(WAIT);
+            self.index.sweep();
+        }
+        false
     }
 
     /// Notes that an item was stored.

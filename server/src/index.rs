@@ -1,5 +1,5 @@
 //! What the server asks of an index of items.
-use crate::item::Item;
+use crate::item::{Item, NewItem};
 use std::time::Duration;
 
 /// Which put of a key stored its item: memcached's `cas unique`. Never compare those of two keys.
@@ -47,14 +47,17 @@ pub trait Index: Send + Sync {
     /// Looks up the item of this put, if it is still there.
     fn look_stamped(&self, stamp: Stamp, see: &mut dyn FnMut(Seen<'_>));
 
-    /// Puts the item, whatever the key has.
-    fn put(&self, key: &[u8], item: Item) -> Result<Token, Refused>;
+    /// Does the same for tidying: the index does not take it for a use of the item.
+    fn peek_stamped(&self, stamp: Stamp, see: &mut dyn FnMut(Seen<'_>));
 
-    /// Puts the item if the key is absent.
-    fn put_new(&self, key: &[u8], item: Item) -> Result<Outcome, Refused>;
+    /// Puts the item, whatever its key has.
+    fn put(&self, item: NewItem) -> Result<Token, Refused>;
 
-    /// Puts the item if the key has this token.
-    fn put_if(&self, key: &[u8], token: Token, item: Item) -> Result<Outcome, Refused>;
+    /// Puts the item if its key is absent.
+    fn put_new(&self, item: NewItem) -> Result<Outcome, Refused>;
+
+    /// Puts the item if its key has this token.
+    fn put_if(&self, token: Token, item: NewItem) -> Result<Outcome, Refused>;
 
     /// Removes the key if it has this token.
     fn remove_if(&self, key: &[u8], token: Token) -> Result<Outcome, Refused>;

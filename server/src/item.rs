@@ -1,18 +1,50 @@
 //! What is stored under a key.
+use cefrodil_map::{Block, Bytes, Head};
+use std::mem::offset_of;
 use std::sync::atomic::{AtomicBool, AtomicU64, Ordering::Acquire, Ordering::Relaxed, Ordering::SeqCst};
 use std::sync::Mutex;
 
-/// The value of a key, and what belongs to it.
+/// A key, its value, and what belongs to them.
+pub type Item = Bytes<About>;
+
+/// An item that is not in the index.
+pub type NewItem = Block<About>;
+
+/// What belongs to an item. The order of the fields leaves no gap before the key.
 #[derive(Debug)]
-pub struct Item {
-    /// The client's flags.
-    pub flags: u32,
-    /// The value.
-    pub data: Box<[u8]>,
+#[repr(C)]
+pub struct About {
     /// When it was made. What is made of an older item, or because there is one, was made when that was found: so a flush in between hits it.
     born: u64,
     deadline: AtomicU64,
+    /// The client's flags.
+    pub flags: u32,
+    value: u32,
+    key: u8,
     is_used: AtomicBool,
+}
+
+// SAFETY: `is_used` is the last field, and has one byte. Nobody changes the lengths.
+unsafe impl Head for About {
+    const SIZE: usize = offset_of!(About, is_used) + 1;
+
+    fn lengths(&self) -> (usize, usize) {
+        (self.key.into(), self.value as usize)
+    }
+}
+
+/// An item that was made at this time, with a value of these parts.
+pub fn new_item(born: u64, flags: u32, deadline: u64, key: &[u8], value: &[&[u8]]) -> NewItem {
+    let length = value.iter().map(|part| part.len()).sum::<usize>();
+    let about = About {
+        born,
+        deadline: AtomicU64::new(deadline),
+        flags,
+        value: length.try_into().expect("the longest value has 128 MB"),
+        key: key.len().try_into().expect("the longest key has 250 bytes"),
+        is_used: AtomicBool::new(false),
+    };
+    NewItem::new(about, key, value)
 }
 
 /// Which items `flush_all` has made invalid: those that are no younger than one of these times, once it has come.
@@ -24,12 +56,7 @@ pub struct Flushes {
     turn: Mutex<()>,
 }
 
-impl Item {
-    /// An item that was made at this time.
-    pub fn new(born: u64, flags: u32, deadline: u64, data: Box<[u8]>) -> Item {
-        Item { flags, data, born, deadline: AtomicU64::new(deadline), is_used: AtomicBool::new(false) }
-    }
-
+impl About {
     /// When it expires.
     pub fn deadline(&self) -> u64 {
         // It says nothing of other memory. A call that keeps it and one that moves it take turns, which orders them.

@@ -2,8 +2,10 @@
 #![deny(missing_debug_implementations, unsafe_op_in_unsafe_fn)]
 
 pub mod accept;
+pub mod allocator;
 pub mod answers;
 pub mod audit;
+pub mod ceiling;
 pub mod clock;
 pub mod command;
 pub mod complain;
@@ -11,15 +13,16 @@ pub mod connection;
 pub mod counts;
 pub mod dialogue;
 mod evict;
+pub mod expire;
 pub mod files;
 pub mod index;
 pub mod item;
 pub mod meta;
 mod meta_command;
-pub mod names;
 pub mod number;
 pub mod objects;
 pub mod options;
+pub mod queue;
 pub mod request;
 pub mod room;
 pub mod seat;

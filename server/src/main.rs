@@ -1,5 +1,7 @@
 //! The program `cefrodild`.
+use cefrodild::allocator;
 use cefrodild::audit::Audit;
+use cefrodild::ceiling::Ceiling;
 use cefrodild::complain::complain;
 use cefrodild::files;
 use cefrodild::objects::Objects;
@@ -10,13 +12,12 @@ use cefrodild::store::Store;
 use std::env;
 use std::error::Error;
 use std::ffi::OsString;
-use std::fs;
 use std::io::{self, Write};
 use std::process::ExitCode;
 use std::sync::Arc;
 
-/// The allocator loses up to this part of the memory of items that differ in size, if several threads free them.
-const PART_OF_LOSS: usize = 4;
+/// The process may take this part of the memory limit beside it: for what is no item and no part of the index, and for the allocator's loss.
+const PART_OF_LOSS: usize = 10;
 
 fn main() -> ExitCode {
     let words = env::args_os().skip(1).map(OsString::into_string).collect::<Result<Vec<String>, OsString>>();
@@ -51,20 +52,17 @@ fn tell(text: &str) -> ExitCode {
 fn serve(options: Options) -> Result<(), Box<dyn Error>> {
     let Options { listen, threads, memory, items, connections, .. } = options;
     files::make_room(connections, threads)?;
+    allocator::set_up();
     let log = options.audit.as_deref().map(Audit::create).transpose()?.map(Arc::new);
     let room = Arc::new(Room::new(0));
     let index = Objects::open(items, threads, &room, log.clone())?;
-    let left = memory.checked_sub(resident()?).ok_or("the index takes all of the memory limit: choose a smaller -n")?;
-    room.set_limit((left - left / PART_OF_LOSS) as u64);
-    let store = Arc::new(Store::new(Box::new(index), room, options));
+    let ceiling = Ceiling::new((memory + memory / PART_OF_LOSS) as u64)?;
+    if ceiling.room() == 0 {
+        return Err("the index takes all of the memory limit: choose a smaller -n".into());
+    }
+    room.set_limit(ceiling.room());
+    let store = Arc::new(Store::new(Box::new(index), room, options).below(ceiling));
     // If nobody reads that, the server goes on.
     Server::run(store, listen, |address| drop(writeln!(io::stdout(), "cefrodild: listening on {address}")))?;
     log.map_or(Ok(()), |log| log.end()).map_err(Into::into)
-}
-
-/// How many bytes the process takes.
-fn resident() -> Result<usize, Box<dyn Error>> {
-    let status = fs::read_to_string("/proc/self/status")?;
-    let line = status.lines().find_map(|line| line.strip_prefix("VmRSS:")).ok_or("/proc/self/status has no VmRSS")?;
-    Ok(line.trim().trim_end_matches(" kB").parse::<usize>()? << 10)
 }

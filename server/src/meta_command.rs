@@ -36,11 +36,11 @@ fn get(store: &Store, meta: &Meta, out: &mut Vec<u8>) {
     let each = |_, item: &Item, token| {
         is_found = true;
         let left = Some(store.clock.left(item.deadline()));
-        let facts = Facts { flags: Some(item.flags), size: Some(item.data.len()), left, ..with(token) };
+        let facts = Facts { flags: Some(item.flags), size: Some(item.value().len()), left, ..with(token) };
         if meta.with_value {
-            text!(out, "VA {}", item.data.len());
+            text!(out, "VA {}", item.value().len());
             write_flags(meta, &facts, out);
-            block(out, &item.data);
+            block(out, item.value());
         } else {
             answer(meta, "HD", &facts, out);
         }

@@ -2,11 +2,11 @@
 use crate::answers;
 use crate::audit::{digest, Audit};
 use crate::index::{Index, Outcome, Refused, Seen, Stamp, Token};
-use crate::item::Item;
-use crate::names::{KeyHash, Name, Names};
+use crate::item::{About, Item, NewItem};
 use crate::room::{cost, Room};
-use cefrodil_map::{IfError, Inserted, Look, ObjectMap, OpenError, Put, Reason};
+use cefrodil_map::{BytesMap, IfError, Inserted, Look, OpenError, Put, Reason};
 use std::cell::Cell;
+use std::hash::{BuildHasher, RandomState};
 use std::sync::Arc;
 use std::time::Duration;
 
@@ -16,7 +16,7 @@ pub const BYTES_OF_AN_ENTRY: usize = 56;
 /// The map, and its log if there is one.
 #[derive(Debug)]
 pub struct Objects {
-    map: ObjectMap<Name, Item, Names>,
+    map: BytesMap<About>,
     audit: Option<Arc<Audit>>,
 }
 
@@ -24,29 +24,49 @@ pub struct Objects {
 const ITEMS_OF_A_SHARD: usize = 3_000_000;
 const SHARDS: usize = 16;
 
+/// With at most so many items, the table of a shard takes less than 128 KB. With at least so many, it takes 2 MB or more. In between, the
+/// allocator of Cefrodil's library loses as much again when it opens shards, so such sizes are avoided.
+const ITEMS_OF_A_SMALL_SHARD: usize = 3_380;
+const ITEMS_OF_A_LARGE_SHARD: usize = 60_000;
+const MOST_SHARDS: usize = 256;
+
 thread_local! {
     /// The hash of the key that gave way to the put that this thread makes, for the log.
     static EVICTED: Cell<Option<u64>> = const { Cell::new(None) };
 }
 
-/// How many shards there are for so many items, if they are more than a map has by itself.
+/// How many shards there are for so many items, if the map does not choose that well by itself.
 pub fn shards_for(items: usize) -> Option<u32> {
-    let shards = items.div_ceil(ITEMS_OF_A_SHARD);
-    (shards > SHARDS).then(|| shards.next_power_of_two() as u32)
+    let small = items.div_ceil(ITEMS_OF_A_SMALL_SHARD).next_power_of_two();
+    let shards = match items.div_ceil(ITEMS_OF_A_SHARD) {
+        many if many > SHARDS => many.next_power_of_two(),
+        _ if small <= SHARDS => return None,
+        _ if small <= MOST_SHARDS => small,
+        _ if items < SHARDS * ITEMS_OF_A_LARGE_SHARD => SHARDS / 2,
+        _ => SHARDS,
+    };
+    Some(shards as u32)
+}
+
+/// The bytes of an item.
+fn cost_of(item: &Item) -> u64 {
+    cost(item.key().len(), item.value().len())
 }
 
 impl Objects {
-    /// Opens an index for at least so many items. What leaves it gives its bytes back to `room`.
+    /// Opens an index for at least so many items. `room` hears of the bytes of what leaves it, and again when they are freed.
     pub fn open(items: usize, threads: usize, room: &Arc<Room>, audit: Option<Arc<Audit>>) -> Result<Objects, OpenError> {
-        let (room, is_logged) = (Arc::clone(room), audit.is_some());
-        let listener = move |name: &Name, item: &Item, reason| {
-            room.give_back(cost(name.len(), item.data.len()));
+        let (freeing, room, is_logged) = (Arc::clone(room), Arc::clone(room), audit.is_some());
+        let (hasher, freed) = (RandomState::new(), move |item: &Item| freeing.free(cost_of(item)));
+        let hash_of = hasher.clone();
+        let listener = move |item: &Item, reason| {
+            room.leave(cost_of(item));
             if reason == Reason::Evicted {
                 room.count_eviction();
-                EVICTED.set(is_logged.then_some(name.hash_of_key()));
+                EVICTED.set(is_logged.then(|| hash_of.hash_one(item.key())));
             }
         };
-        let mut builder = ObjectMap::builder(items).threads(threads).listener(listener).hasher(Names::default());
+        let mut builder = BytesMap::builder(items).threads(threads).listener(listener).freed(freed).hasher(hasher);
         if is_logged {
             // The log has one history, that of a shard.
             builder = builder.shards(1);
@@ -61,10 +81,6 @@ impl Objects {
         self.map.capacity()
     }
 
-    fn name(&self, key: &[u8]) -> Name {
-        Name::new(self.hash_of(key), key)
-    }
-
     fn log_look(&self, hash: impl FnOnce() -> u64, found: Look<&Item>) {
         let Some(audit) = &self.audit else { return };
         let hash = hash();
@@ -75,12 +91,12 @@ impl Objects {
         }
     }
 
-    fn log_put(&self, key: &[u8], digest: Option<u64>, put: Put) {
-        let (Some(audit), Some(digest)) = (&self.audit, digest) else { return };
+    fn log_put(&self, logged: Option<(u64, u64)>, put: Put) {
+        let (Some(audit), Some((hash, digest))) = (&self.audit, logged) else { return };
         if let (Inserted::Evicted, Some(evicted)) = (put.did, EVICTED.take()) {
             audit.line(format_args!("evict {} {evicted}", put.at - 1));
         }
-        audit.line(format_args!("put {} {} {digest}", put.at, self.hash_of(key)));
+        audit.line(format_args!("put {} {hash} {digest}", put.at));
     }
 
     fn log_change(&self, change: &str, at: u64, hash: impl FnOnce() -> u64) {
@@ -89,8 +105,9 @@ impl Objects {
         }
     }
 
-    fn digest(&self, item: &Item) -> Option<u64> {
-        self.audit.is_some().then(|| digest(item))
+    /// What the log says of an item that is about to be put, if there is a log: the hash of its key, and its digest.
+    fn logged(&self, item: &Item) -> Option<(u64, u64)> {
+        self.audit.is_some().then(|| (self.hash_of(item.key()), digest(item)))
     }
 
     fn failed(&self, hash: impl FnOnce() -> u64, why: IfError) -> Result<Outcome, Refused> {
@@ -116,7 +133,7 @@ impl Index for Objects {
     }
 
     fn look_stamped(&self, stamp: Stamp, see: &mut dyn FnMut(Seen<'_>)) {
-        self.map.look_many(&[&KeyHash(stamp.hash)], |_, found| {
+        self.map.look_hash(stamp.hash, |found| {
             if let Ok(found) = found {
                 self.log_look(|| stamp.hash, found);
             }
@@ -124,32 +141,38 @@ impl Index for Objects {
         });
     }
 
-    fn put(&self, key: &[u8], item: Item) -> Result<Token, Refused> {
-        let digest = self.digest(&item);
-        let put = self.map.put(self.name(key), item, None).map_err(|refused| answers::of_put(refused.why))?;
-        self.log_put(key, digest, put);
+    fn peek_stamped(&self, stamp: Stamp, see: &mut dyn FnMut(Seen<'_>)) {
+        self.map.peek_hash(stamp.hash, |found| {
+            see(answers::seen(found).map(|seen| seen.filter(|(_, token)| *token == stamp.token)));
+        });
+    }
+
+    fn put(&self, item: NewItem) -> Result<Token, Refused> {
+        let logged = self.logged(&item);
+        let put = self.map.put(item).map_err(answers::of_put)?;
+        self.log_put(logged, put);
         Ok(put.at)
     }
 
-    fn put_new(&self, key: &[u8], item: Item) -> Result<Outcome, Refused> {
-        let digest = self.digest(&item);
-        match self.map.put_if_absent(self.name(key), item, None) {
+    fn put_new(&self, item: NewItem) -> Result<Outcome, Refused> {
+        let logged = self.logged(&item);
+        match self.map.put_if_absent(item) {
             Ok(put) => {
-                self.log_put(key, digest, put);
+                self.log_put(logged, put);
                 Ok(Outcome::Done(put.at))
             }
-            Err(refused) => answers::of_new(refused.why),
+            Err(why) => answers::of_new(why),
         }
     }
 
-    fn put_if(&self, key: &[u8], token: Token, item: Item) -> Result<Outcome, Refused> {
-        let digest = self.digest(&item);
-        match self.map.replace_if(self.name(key), token, item, None) {
+    fn put_if(&self, token: Token, item: NewItem) -> Result<Outcome, Refused> {
+        let (logged, hash) = (self.logged(&item), self.hash_of(item.key()));
+        match self.map.replace_if(token, item) {
             Ok(put) => {
-                self.log_put(key, digest, put);
+                self.log_put(logged, put);
                 Ok(Outcome::Done(put.at))
             }
-            Err(refused) => self.failed(|| self.hash_of(key), refused.why),
+            Err(why) => self.failed(|| hash, why),
         }
     }
 

@@ -11,7 +11,7 @@ cefrodild: a cache server that speaks memcached's text protocol
 -U, --udp-port=0       there is no UDP, so only 0 is allowed
 -t, --threads=N        worker threads, 1 to 64 (4)
 -m, --memory-limit=N   megabytes for keys, values and index, at least 16 (64)
--n, --items=N          most items, up to 768000000 (one for each 256 bytes of the memory limit)
+-n, --items=N          most items, up to 768000000 (about one for each 162 bytes of the memory limit)
 -c, --conn-limit=N     most connections at a time (1024)
 -I, --max-item-size=N  longest value in bytes, or with k or m behind it, 1k to 128m (1m)
     --audit=FILE       log changes and answers for mccheck; one shard
@@ -22,7 +22,10 @@ cefrodild: a cache server that speaks memcached's text protocol
 const MEGABYTE: usize = 1 << 20;
 
 /// How many bytes of the limit go with one item of the index, if `-n` doesn't say how many items there are.
-const BYTES_OF_AN_ITEM: usize = 256;
+const BYTES_OF_AN_ITEM: usize = 162;
+
+/// A table has a power of two of places, and is best filled to this part, in thousandths. A little more would need twice the places.
+const FILLED: usize = 790;
 
 /// The most items, and the most with a log, which has one shard.
 const MOST_ITEMS: usize = 256 * 3_000_000;
@@ -95,7 +98,7 @@ pub fn parse(words: impl IntoIterator<Item = String>) -> Result<Asked, String> {
     let memory = megabytes * MEGABYTE;
     let listen = SocketAddr::new(address, port as u16);
     let most = if audit.is_some() { MOST_LOGGED } else { MOST_ITEMS };
-    let items = items.unwrap_or((memory / BYTES_OF_AN_ITEM).min(most));
+    let items = items.unwrap_or_else(|| items_for(memory).min(most));
     if items > most {
         return Err(format!("-n: with --audit there are at most {most} items"));
     }
@@ -103,6 +106,18 @@ pub fn parse(words: impl IntoIterator<Item = String>) -> Result<Asked, String> {
         return Err(format!("-n: the index of {items} items would take half of the memory limit, or more"));
     }
     Ok(Asked::Serve(Options { listen, threads, memory, items, connections, longest, audit }))
+}
+
+/// How many items the index has if nothing says how many. If that is less than a fourth above what fills tables well, it is that.
+fn items_for(memory: usize) -> usize {
+    let items = memory / BYTES_OF_AN_ITEM;
+    let places = 1 << (items * 1000 / FILLED).ilog2();
+    let filled = places * FILLED / 1000;
+    if items < filled + filled / 4 {
+        filled
+    } else {
+        items
+    }
 }
 
 /// The option's letter, and its value: behind the name, or the next word.

@@ -28,12 +28,14 @@ fn general(store: &Store, out: &mut Vec<u8>) {
     text!(out, "STAT pointer_size 64\r\n");
     text!(out, "STAT max_connections {}\r\n", store.options.connections);
     text!(out, "STAT curr_connections {}\r\nSTAT threads {}\r\n", store.seats.taken(), store.options.threads);
+    text!(out, "STAT buffer_bytes {}\r\n", store.seats.bytes());
     for (name, sum) in store.counts.sums() {
         text!(out, "STAT {name} {sum}\r\n");
     }
     text!(out, "STAT stalled_seconds {}\r\n", store.index.stalled().as_secs());
     text!(out, "STAT evictions {}\r\n", store.room.evicted());
     text!(out, "STAT bytes {}\r\nSTAT curr_items {}\r\n", store.room.used(), store.room.items());
+    text!(out, "STAT bytes_waiting {}\r\nSTAT bytes_limit {}\r\n", store.room.waiting(), store.room.limit());
     text!(out, "STAT limit_maxbytes {}\r\n", store.options.memory);
     line(out, "END");
 }

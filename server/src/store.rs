@@ -1,14 +1,19 @@
 //! What commands do with items, whatever their protocol.
+use crate::ceiling::Ceiling;
 use crate::clock::Clock;
 use crate::counts::{Count, Counts};
 use crate::index::{Index, Refused, Token};
 use crate::item::{Flushes, Item};
 use crate::options::Options;
-use crate::room::{Queue, Room};
+use crate::queue::Queue;
+use crate::room::Room;
 use crate::seat::Seats;
 use crate::turn::Turns;
 use std::fmt::{self, Debug, Formatter};
 use std::sync::Arc;
+
+/// The buffers of all connections may take this part of the memory limit, beside it.
+const PART_OF_BUFFERS: usize = 2;
 
 /// The items, and all that is counted of them.
 pub struct Store {
@@ -16,6 +21,7 @@ pub struct Store {
     pub counts: Counts,
     pub clock: Clock,
     pub room: Arc<Room>,
+    pub(crate) ceiling: Option<Ceiling>,
     pub queue: Queue,
     pub(crate) turns: Turns,
     flushes: Flushes,
@@ -78,7 +84,20 @@ impl Store {
         // The last place is that of the thread that accepts connections.
         let counts = Counts::new(options.threads + 1);
         let (clock, queue, turns, flushes) = (Clock::new(), Queue::default(), Turns::default(), Flushes::default());
-        Store { index, counts, clock, room, queue, turns, flushes, seats: Seats::new(options.connections), options }
+        let seats = Seats::new(options.connections, options.memory / PART_OF_BUFFERS);
+        Store { index, counts, clock, room, ceiling: None, queue, turns, flushes, seats, options }
+    }
+
+    /// The same store, whose items get less room if the process exceeds this ceiling.
+    pub fn below(self, ceiling: Ceiling) -> Store {
+        Store { ceiling: Some(ceiling), ..self }
+    }
+
+    /// Looks at the memory of the process if much was put since that was done last.
+    pub(crate) fn look_at_memory(&self) {
+        if let Some(ceiling) = &self.ceiling {
+            ceiling.look_at_times(&self.room, self.seats.bytes());
+        }
     }
 
     /// Looks the keys up in order, and calls `each` with the position of each that has a value. It returns whether it goes on: if not, the

@@ -2,6 +2,7 @@
 use crate::complain::complain;
 use crate::connection::{Connection, Next};
 use crate::counts;
+use crate::expire::PAUSE;
 use crate::store::Store;
 use mio::{Events, Interest, Poll, Token, Waker};
 use std::collections::HashMap;
@@ -39,6 +40,8 @@ pub struct Worker {
     ready: Vec<Token>,
     /// When the worker ends, if it was told to.
     end: Option<Instant>,
+    /// When it tidies up next.
+    next_tidy: Instant,
     /// If the inbox alone had it, it would be closed before it has woken the worker for the last time.
     _waker: Arc<Waker>,
 }
@@ -68,7 +71,8 @@ impl Worker {
         let waker = Arc::new(Waker::new(poll.registry(), WAKE)?);
         let (sender, clients) = channel();
         let (connections, ready) = (HashMap::new(), Vec::new());
-        let worker = Worker { store, poll, clients, connections, next_token: 0, ready, end: None, _waker: Arc::clone(&waker) };
+        let (next_token, next_tidy, end) = (0, Instant::now() + PAUSE, None);
+        let worker = Worker { store, poll, clients, connections, next_token, ready, end, next_tidy, _waker: Arc::clone(&waker) };
         Ok((worker, Inbox { clients: sender, waker }))
     }
 
@@ -81,6 +85,7 @@ impl Worker {
                 Err(why) if why.kind() != ErrorKind::Interrupted => return Err(why),
                 _ => {}
             }
+            self.tidy_up_at_times();
             let mut ready = mem::take(&mut self.ready);
             for event in &events {
                 if let Some(connection) = self.connections.get_mut(&event.token()) {
@@ -96,10 +101,18 @@ impl Worker {
     }
 
     fn timeout(&self) -> Option<Duration> {
-        match self.end {
-            _ if !self.ready.is_empty() => Some(Duration::ZERO),
-            Some(end) => Some(end.saturating_duration_since(Instant::now())),
-            None => None,
+        if !self.ready.is_empty() {
+            return Some(Duration::ZERO);
+        }
+        let next = self.end.map_or(self.next_tidy, |end| end.min(self.next_tidy));
+        Some(next.saturating_duration_since(Instant::now()))
+    }
+
+    fn tidy_up_at_times(&mut self) {
+        let now = Instant::now();
+        if now >= self.next_tidy {
+            self.next_tidy = now + PAUSE;
+            self.store.tidy_up();
         }
     }
 

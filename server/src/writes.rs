@@ -2,7 +2,7 @@
 use crate::counts::Count;
 use crate::evict::Kept;
 use crate::index::{Outcome, Refused, Stamp, Token};
-use crate::item::Item;
+use crate::item::{new_item, Item, NewItem};
 use crate::number;
 use crate::request::{Change, How, Order};
 use crate::room::cost;
@@ -13,14 +13,6 @@ const TRIES: u32 = 1000;
 
 /// An item from this size on is freed as soon as it can be. Of smaller ones some wait.
 const LARGE: usize = 1 << 15;
-
-/// What is to be put instead of what was found.
-struct Next {
-    born: u64,
-    flags: u32,
-    deadline: u64,
-    data: Box<[u8]>,
-}
 
 impl Store {
     /// Stores this value as it is ordered.
@@ -46,22 +38,22 @@ impl Store {
 
     fn set(&self, order: &Order, data: &[u8]) -> Result<Answer, Fault> {
         let next = self.fresh(order, self.clock.now(), data);
-        let put = self.put(order.key, next, None, |item| self.index.put(order.key, item).map(Outcome::Done))?;
+        let put = self.put(next, None, |item| self.index.put(item).map(Outcome::Done))?;
         Ok(put.map_or(Answer::NotStored, Answer::Done))
     }
 
-    fn fresh(&self, order: &Order, born: u64, data: &[u8]) -> Next {
-        Next { born, flags: order.flags, deadline: self.clock.deadline(order.expiry), data: data.into() }
+    fn fresh(&self, order: &Order, born: u64, data: &[u8]) -> NewItem {
+        new_item(born, order.flags, self.clock.deadline(order.expiry), order.key, &[data])
     }
 
     /// What is to be put over an item that was found at this time.
-    fn over(&self, order: &Order, data: &[u8], item: &Item, born: u64) -> Next {
-        let data = match order.how {
-            How::Append => [&item.data, data].concat(),
-            How::Prepend => [data, &item.data].concat(),
+    fn over(&self, order: &Order, data: &[u8], item: &Item, born: u64) -> NewItem {
+        let value = match order.how {
+            How::Append => [item.value(), data],
+            How::Prepend => [data, item.value()],
             _ => return self.fresh(order, born, data),
         };
-        Next { born, flags: item.flags, deadline: item.deadline(), data: data.into() }
+        new_item(born, item.flags, item.deadline(), order.key, &value)
     }
 
     fn store_if(&self, order: &Order, data: &[u8]) -> Result<Answer, Fault> {
@@ -69,7 +61,7 @@ impl Store {
         for _ in 0..TRIES {
             let found = self.find(order.key, |item, now| {
                 item.mark_used();
-                (self.over(order, data, item, now), item.data.len())
+                (self.over(order, data, item, now), item.value().len())
             })?;
             let (next, over) = match (found, order.how, order.compare) {
                 (Found::Absent | Found::Dead(_), How::Set | How::Replace, Some(_)) => return Ok(Answer::NotFound),
@@ -80,7 +72,7 @@ impl Store {
                 (Found::Dead(token), ..) => (self.fresh(order, self.clock.now(), data), Found::Dead(token)),
                 (Found::Live((next, length), token), ..) => (next, Found::Live(length, token)),
             };
-            if next.data.len() > self.options.longest {
+            if next.value().len() > self.options.longest {
                 return Err(Fault::TooLong);
             }
             if let Some(token) = self.put_over(order.key, over, next)? {
@@ -91,14 +83,14 @@ impl Store {
     }
 
     /// Puts an item over what was found: a live one with a value of this length, or another one, or none. `None`: that is not there any more.
-    fn put_over(&self, key: &[u8], found: Found<usize>, next: Next) -> Result<Option<Token>, Fault> {
+    fn put_over(&self, key: &[u8], found: Found<usize>, next: NewItem) -> Result<Option<Token>, Fault> {
         let kept = match found {
             Found::Live(length, token) => Some(Kept { stamp: self.stamp(key, token), bytes: cost(key.len(), length) }),
             Found::Dead(_) | Found::Absent => None,
         };
-        self.put(key, next, kept, |item| match found {
-            Found::Live(_, token) | Found::Dead(token) => self.index.put_if(key, token, item),
-            Found::Absent => self.index.put_new(key, item),
+        self.put(next, kept, |item| match found {
+            Found::Live(_, token) | Found::Dead(token) => self.index.put_if(token, item),
+            Found::Absent => self.index.put_new(item),
         })
     }
 
@@ -108,19 +100,20 @@ impl Store {
 
     fn put(
         &self,
-        key: &[u8],
-        next: Next,
+        next: NewItem,
         kept: Option<Kept>,
-        put: impl FnOnce(Item) -> Result<Outcome, Refused>,
+        put: impl FnOnce(NewItem) -> Result<Outcome, Refused>,
     ) -> Result<Option<Token>, Fault> {
-        let (bytes, is_large) = (cost(key.len(), next.data.len()), next.data.len() >= LARGE);
+        let (bytes, is_large) = (cost(next.key().len(), next.value().len()), next.value().len() >= LARGE);
+        let hash = self.index.hash_of(next.key());
         self.make_room(bytes, kept)?;
-        let outcome = put(Item::new(next.born, next.flags, next.deadline, next.data));
+        let outcome = put(next);
         if is_large {
             self.index.sweep();
         }
         if let Ok(Outcome::Done(token)) = outcome {
-            self.enqueue(self.stamp(key, token));
+            self.enqueue(Stamp { hash, token });
+            self.look_at_memory();
             return Ok(Some(token));
         }
         self.room.give_back(bytes);
@@ -170,10 +163,10 @@ impl Store {
         for _ in 0..TRIES {
             let found = self.find(key, |item, born| {
                 item.mark_used();
-                let number = change.of(number::unsigned(&item.data)?);
-                let (deadline, data) = (deadline.unwrap_or(item.deadline()), number.to_string().into_bytes().into());
-                let next = Next { born, flags: item.flags, deadline, data };
-                Some((next, number, item.data.len()))
+                let number = change.of(number::unsigned(item.value())?);
+                let deadline = deadline.unwrap_or(item.deadline());
+                let next = new_item(born, item.flags, deadline, key, &[number.to_string().as_bytes()]);
+                Some((next, number, item.value().len()))
             })?;
             let (next, number, length, token) = match found {
                 Found::Absent | Found::Dead(_) => return Ok(Changed::NotFound),
@@ -181,7 +174,7 @@ impl Store {
                 Found::Live(None, _) => return Ok(Changed::NotNumeric),
                 Found::Live(Some((next, number, length)), token) => (next, number, length, token),
             };
-            let deadline = next.deadline;
+            let deadline = next.deadline();
             if let Some(token) = self.put_over(key, Found::Live(length, token), next)? {
                 return Ok(Changed::Changed(number, token, deadline));
             }

@@ -2,12 +2,12 @@
 use cefrodil_map::{AbsentError, GetError, IfError, InsertError, Look};
 use cefrodild::answers::{of_condition, of_new, of_put, seen};
 use cefrodild::index::{Outcome, Refused};
-use cefrodild::item::Item;
+use cefrodild::item::new_item;
 
 #[test]
 fn lookups() {
-    let item = Item::new(1, 7, u64::MAX, Box::default());
-    let Ok(Some((found, token))) = seen(Ok(Look::Found { result: &item, at: 3, since: 2 })) else { panic!("it was found") };
+    let item = new_item(1, 7, u64::MAX, b"key", &[]);
+    let Ok(Some((found, token))) = seen(Ok(Look::Found { result: &*item, at: 3, since: 2 })) else { panic!("it was found") };
     assert_eq!((found.flags, token), (7, 2));
     assert!(matches!(seen(Ok(Look::Absent { at: 3 })), Ok(None)));
     assert!(matches!(seen(Ok(Look::Expired { at: 3, since: 2 })), Ok(None)));

@@ -1,6 +1,6 @@
 //! The log for `mccheck`.
 use cefrodild::audit::{digest, Audit};
-use cefrodild::item::Item;
+use cefrodild::item::new_item;
 use std::fs::{self, File};
 use std::path::PathBuf;
 use std::process::{id, Command};
@@ -27,7 +27,7 @@ fn a_file_that_cannot_be_made_is_named() {
 
 #[test]
 fn the_log_tells_items_apart_by_flags_and_by_bytes() {
-    let digest = |flags, text: &str| digest(&Item::new(1, flags, u64::MAX, text.as_bytes().into()));
+    let digest = |flags, text: &str| digest(&new_item(1, flags, u64::MAX, b"key", &[text.as_bytes()]));
     assert_eq!(digest(1, "a"), digest(1, "a"));
     assert_ne!(digest(1, "a"), digest(2, "a"));
     assert_ne!(digest(1, "a"), digest(1, "b"));

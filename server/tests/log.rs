@@ -1,7 +1,7 @@
 //! What the index writes into the log: each change and each answer, in order.
 use cefrodild::audit::{digest, Audit};
 use cefrodild::index::{Index, Outcome, Stamp};
-use cefrodild::item::Item;
+use cefrodild::item::{new_item, NewItem};
 use cefrodild::objects::Objects;
 use cefrodild::room::Room;
 use std::fs;
@@ -20,8 +20,8 @@ struct Logged {
 /// The words of a line: its kind, its moment, and the others.
 type Line = (String, u64, Vec<u64>);
 
-fn item(flags: u32) -> Item {
-    Item::new(1, flags, u64::MAX, Box::new([]))
+fn item(key: &[u8], flags: u32) -> NewItem {
+    new_item(1, flags, u64::MAX, key, &[])
 }
 
 impl Logged {
@@ -35,7 +35,7 @@ impl Logged {
 
     fn put(&self, key: &[u8], flags: u32) -> u64 {
         self.room.take(0);
-        self.objects.put(key, item(flags)).expect("there is room")
+        self.objects.put(item(key, flags)).expect("there is room")
     }
 
     /// The lines but for the head. This ends the log.
@@ -62,17 +62,17 @@ fn each_call_has_its_line() {
     let first = logged.put(key, 1);
     look();
     room.take(0);
-    let Ok(Outcome::Done(second)) = objects.put_if(key, first, item(2)) else { panic!("it has this token") };
+    let Ok(Outcome::Done(second)) = objects.put_if(first, item(key, 2)) else { panic!("it has this token") };
     objects.look_stamped(Stamp { hash, token: second }, &mut |seen| assert!(seen.is_ok()));
     let Ok(Outcome::Done(third)) = objects.remove_if(key, second) else { panic!("it has this token") };
     assert_eq!(objects.remove_if(key, second), Ok(Outcome::Absent));
     assert_eq!(objects.remove_stamped(Stamp { hash, token: second }), Ok(Outcome::Absent));
-    assert_eq!(objects.put_if(key, second, item(3)), Ok(Outcome::Absent));
+    assert_eq!(objects.put_if(second, item(key, 3)), Ok(Outcome::Absent));
     room.take(0);
-    let Ok(Outcome::Done(fourth)) = objects.put_new(key, item(4)) else { panic!("it was absent") };
+    let Ok(Outcome::Done(fourth)) = objects.put_new(item(key, 4)) else { panic!("it was absent") };
     let Ok(Outcome::Done(fifth)) = objects.remove_stamped(Stamp { hash, token: fourth }) else { panic!("it has this token") };
     let line = |kind: &str, at, more: &[u64]| (kind.to_owned(), at, more.to_vec());
-    let digest = |flags| digest(&item(flags));
+    let digest = |flags| digest(&item(key, flags));
     let expected = [
         line("absent", first - 1, &[hash]),
         line("put", first, &[hash, digest(1)]),
@@ -108,8 +108,8 @@ fn each_eviction_has_its_line() {
 fn what_changed_nothing_is_not_in_the_log() {
     let logged = Logged::new("nothing", 100);
     let token = logged.put(b"key", 1);
-    assert_eq!(logged.objects.put_new(b"key", item(2)), Ok(Outcome::Changed));
-    assert_eq!(logged.objects.put_if(b"key", token + 1, item(2)), Ok(Outcome::Changed));
+    assert_eq!(logged.objects.put_new(item(b"key", 2)), Ok(Outcome::Changed));
+    assert_eq!(logged.objects.put_if(token + 1, item(b"key", 2)), Ok(Outcome::Changed));
     assert_eq!(logged.objects.remove_if(b"key", token + 1), Ok(Outcome::Changed));
     let lines = logged.lines();
     assert_eq!(lines.iter().map(|(kind, ..)| kind.as_str()).collect::<Vec<_>>(), ["put"]);

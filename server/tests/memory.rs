@@ -1,6 +1,7 @@
 //! The memory of items: what is counted, what gives way, and what the queue keeps.
 mod plain;
-use cefrodild::room::{cost, ENTRIES_OF_AN_ITEM, SPARE_ENTRIES};
+use cefrodild::queue::{ENTRIES_OF_AN_ITEM, SPARE_ENTRIES};
+use cefrodild::room::cost;
 use plain::client::{Client, MEGABYTE};
 use std::sync::atomic::Ordering::SeqCst;
 
@@ -187,7 +188,7 @@ fn an_item_that_a_command_could_not_change_gives_way_in_its_turn() {
 
 #[test]
 fn what_an_item_counts() {
-    assert_eq!((cost(0, 0), cost(3, 5)), (180, 188));
+    assert_eq!((cost(0, 0), cost(3, 5)), (58, 66));
 }
 
 /// A command that changes what `a` has, and its answer.

@@ -1,7 +1,7 @@
 //! The index of items over Cefrodil's.
 use cefrodild::audit::Audit;
 use cefrodild::index::{Index, Outcome, Stamp, Token};
-use cefrodild::item::Item;
+use cefrodild::item::new_item;
 use cefrodild::objects::{shards_for, Objects};
 use cefrodild::room::{cost, Room};
 use std::sync::Arc;
@@ -9,7 +9,7 @@ use std::sync::Arc;
 /// Puts an item with these flags.
 fn put(objects: &Objects, room: &Room, key: &[u8], flags: u32) -> Token {
     room.take(cost(key.len(), 1));
-    objects.put(key, Item::new(1, flags, u64::MAX, Box::new([0]))).expect("there is room")
+    objects.put(new_item(1, flags, u64::MAX, key, &[&[0]])).expect("there is room")
 }
 
 /// The flags of the item with this stamp, if it is there.
@@ -42,13 +42,13 @@ fn a_stamp_names_one_put_of_one_key() {
 fn a_condition_that_is_not_met_changes_nothing() {
     let room = Arc::new(Room::new(1 << 20));
     let objects = Objects::open(1000, 1, &room, None).expect("there is memory");
-    let (key, item) = (b"key".as_slice(), |flags| Item::new(1, flags, u64::MAX, Box::new([0])));
-    assert_eq!(objects.put_if(key, 1, item(1)), Ok(Outcome::Absent));
+    let (key, item) = (b"key".as_slice(), |flags| new_item(1, flags, u64::MAX, b"key", &[&[0]]));
+    assert_eq!(objects.put_if(1, item(1)), Ok(Outcome::Absent));
     assert_eq!(objects.remove_if(key, 1), Ok(Outcome::Absent));
     let old = put(&objects, &room, key, 2);
     let new = put(&objects, &room, key, 3);
-    assert_eq!(objects.put_new(key, item(4)), Ok(Outcome::Changed));
-    assert_eq!(objects.put_if(key, old, item(5)), Ok(Outcome::Changed));
+    assert_eq!(objects.put_new(item(4)), Ok(Outcome::Changed));
+    assert_eq!(objects.put_if(old, item(5)), Ok(Outcome::Changed));
     assert_eq!(objects.remove_if(key, old), Ok(Outcome::Changed));
     assert_eq!(flags_of(&objects, Stamp { hash: objects.hash_of(key), token: new }), Some(3));
     assert_eq!((room.items(), room.used()), (1, cost(key.len(), 1)));
@@ -59,11 +59,11 @@ fn a_condition_that_is_met() {
     let room = Arc::new(Room::new(1 << 20));
     let objects = Objects::open(1000, 1, &room, None).expect("there is memory");
     let (key, bytes) = (b"key".as_slice(), cost(3, 1));
-    let item = |flags| Item::new(1, flags, u64::MAX, Box::new([0]));
+    let item = |flags| new_item(1, flags, u64::MAX, key, &[&[0]]);
     room.take(bytes);
-    let Ok(Outcome::Done(first)) = objects.put_new(key, item(1)) else { panic!("it was absent") };
+    let Ok(Outcome::Done(first)) = objects.put_new(item(1)) else { panic!("it was absent") };
     room.take(bytes);
-    let Ok(Outcome::Done(second)) = objects.put_if(key, first, item(2)) else { panic!("it has this token") };
+    let Ok(Outcome::Done(second)) = objects.put_if(first, item(2)) else { panic!("it has this token") };
     assert_eq!(flags_of(&objects, Stamp { hash: objects.hash_of(key), token: second }), Some(2));
     assert!(matches!(objects.remove_if(key, second), Ok(Outcome::Done(_))));
     objects.look(&[key], &mut |_, seen| assert!(matches!(seen, Ok(None))));
@@ -119,7 +119,19 @@ fn nobody_can_choose_keys_that_collide() {
 /// The crate says whether shards hold so many items.
 #[test]
 fn the_more_items_the_more_shards() {
-    let table = [(1, None), (48_000_000, None), (48_000_001, Some(32)), (96_000_001, Some(64)), (768_000_000, Some(256))];
+    let table = [
+        (1, None),
+        (54_080, None),
+        (54_081, Some(32)),
+        (432_537, Some(128)),
+        (865_280, Some(256)),
+        (865_281, Some(8)),
+        (960_000, Some(16)),
+        (48_000_000, Some(16)),
+        (48_000_001, Some(32)),
+        (96_000_001, Some(64)),
+        (768_000_000, Some(256)),
+    ];
     for (items, shards) in table {
         assert_eq!(shards_for(items), shards, "{items}");
         assert!(cefrodil::Shape::for_shards(items as u32, shards.unwrap_or(16)).is_ok(), "{items}");

@@ -19,7 +19,10 @@ fn memcached_s_names() {
         (plain.listen.to_string(), plain.threads, plain.memory, plain.connections, plain.longest),
         ("127.0.0.1:11211".into(), 4, 64 << 20, 1024, 1 << 20)
     );
-    assert_eq!(plain.items, (64 << 20) / 256, "one item for each 256 bytes of the memory limit");
+    assert_eq!(plain.items, 414_187, "less than one item for each 162 bytes of the memory limit, so that a table is well filled");
+    assert_eq!(options("-m 75").items, 414_187);
+    assert_eq!(options("-m 100").items, (100 << 20) / 162);
+    assert_eq!(options("-m 128").items, 828_375);
     let short = options("-p 1234 -l ::1 -t2 -m 100 -c 10 -U 0 -I 2m");
     let long =
         options("--port=1234 --listen ::1 --threads=2 --memory-limit 100 --conn-limit=10 --udp-port=0 --max-item-size=2048k");

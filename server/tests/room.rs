@@ -1,6 +1,7 @@
 //! The bytes of items, the queue, and the seats of clients, each by itself.
 use cefrodild::index::Stamp;
-use cefrodild::room::{Queue, Room, ENTRIES_OF_AN_ITEM, SPARE_ENTRIES};
+use cefrodild::queue::{Queue, ENTRIES_OF_AN_ITEM, SPARE_ENTRIES};
+use cefrodild::room::Room;
 use cefrodild::seat::Seats;
 
 fn stamp(token: u64) -> Stamp {
@@ -21,6 +22,32 @@ fn bytes_and_items_are_added_and_subtracted() {
     assert_eq!(state(), (41, 2, false));
     room.set_limit(40);
     assert_eq!((room.limit(), state()), (40, (41, 2, true)));
+}
+
+#[test]
+fn what_has_left_is_counted_until_it_is_freed() {
+    let room = Room::new(160);
+    let state = || (room.used(), room.waiting(), room.items(), room.is_crowded());
+    room.take(160);
+    room.leave(160);
+    assert_eq!(state(), (0, 160, 0, false));
+    room.take(10);
+    assert_eq!(state(), (10, 160, 1, false), "a sixteenth of the limit is beside it");
+    room.take(1);
+    assert_eq!(state(), (11, 160, 2, true));
+    room.free(160);
+    assert_eq!(state(), (11, 0, 2, false));
+    assert_eq!(room.taken(), 171);
+}
+
+#[test]
+fn what_has_left_should_not_take_much() {
+    let room = Room::new(1_280);
+    room.take(11);
+    room.leave(10);
+    assert!(!room.has_many_waiting());
+    room.leave(1);
+    assert!(room.has_many_waiting(), "it is more than a part in 128");
 }
 
 #[test]
@@ -65,8 +92,25 @@ fn an_empty_queue_gives_memory_back() {
 }
 
 #[test]
+fn all_entries_are_looked_at_in_turn() {
+    let queue = Queue::default();
+    assert_eq!(queue.look(10), []);
+    (1..=5_000).for_each(|token| queue.push(stamp(token)));
+    let look = |most| queue.look(most).iter().map(|stamp| stamp.token).collect::<Vec<_>>();
+    assert_eq!(look(2_000), (1..=2_000).collect::<Vec<_>>());
+    (0..100).for_each(|_| assert!(queue.pop().is_some()));
+    assert_eq!(look(2_000), (2_001..=4_000).collect::<Vec<_>>());
+    (0..4_500).for_each(|_| assert!(queue.pop().is_some()));
+    queue.push(stamp(5_001));
+    assert_eq!(look(300), (4_601..=4_900).collect::<Vec<_>>(), "those before are gone");
+    assert_eq!(look(300), (4_901..=5_001).collect::<Vec<_>>());
+    assert_eq!(look(2), [4_601, 4_602], "then it begins again");
+    assert_eq!(queue.entries(), 401);
+}
+
+#[test]
 fn so_many_seats() {
-    let seats = Seats::new(2);
+    let seats = Seats::new(2, 100);
     let (first, second) = (seats.take(), seats.take());
     assert!(first.is_some() && second.is_some() && seats.take().is_none());
     assert_eq!(seats.taken(), 2);
@@ -76,4 +120,20 @@ fn so_many_seats() {
     assert!(third.is_some() && seats.take().is_none());
     drop((second, third));
     assert_eq!(seats.taken(), 0);
+}
+
+#[test]
+fn what_clients_hold_is_bounded() {
+    let seats = Seats::new(3, 100);
+    let take = || seats.take().expect("a seat is free");
+    let (mut first, mut second, mut third) = (take(), take(), take());
+    assert!(first.hold(60) && second.hold(40));
+    assert_eq!(seats.bytes(), 100);
+    assert!(!third.hold(1), "it is one too many");
+    assert!(first.hold(59) && second.hold(40) && !second.hold(42) && second.hold(41), "less is always allowed");
+    assert_eq!(seats.bytes(), 101);
+    drop((second, third));
+    assert_eq!(seats.bytes(), 59);
+    assert!(first.hold(0));
+    assert_eq!(seats.bytes(), 0);
 }

@@ -102,7 +102,8 @@ fn each_name_is_told_once() {
     let mut expected: Vec<_> = "pid uptime time version cefrodild pointer_size max_connections curr_connections threads evictions bytes curr_items \
         limit_maxbytes cmd_get cmd_set cmd_flush cmd_touch cmd_meta get_hits get_misses delete_misses delete_hits incr_misses incr_hits \
         decr_misses decr_hits cas_misses cas_hits cas_badval touch_hits touch_misses store_too_large store_no_memory total_items busy held \
-        refused bytes_read bytes_written total_connections rejected_connections stalled_seconds"
+        refused crawler_reclaimed connections_out_of_memory buffer_bytes bytes_limit bytes_waiting bytes_read bytes_written total_connections rejected_connections \
+         stalled_seconds"
         .split_whitespace()
         .collect();
     expected.sort_unstable();

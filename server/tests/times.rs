@@ -1,6 +1,6 @@
 //! The clock, deadlines, and what a flush hits.
 use cefrodild::clock::{unix_time, Clock, NEVER};
-use cefrodild::item::{Flushes, Item};
+use cefrodild::item::{new_item, Flushes, NewItem};
 use std::sync::atomic::{AtomicU64, Ordering::SeqCst};
 use std::thread;
 use std::time::{Duration, Instant, SystemTime, UNIX_EPOCH};
@@ -8,8 +8,8 @@ use std::time::{Duration, Instant, SystemTime, UNIX_EPOCH};
 const SECOND: u64 = 1_000_000_000;
 const DAYS_30: i64 = 60 * 60 * 24 * 30;
 
-fn item(born: u64, deadline: u64) -> Item {
-    Item::new(born, 0, deadline, Box::default())
+fn item(born: u64, deadline: u64) -> NewItem {
+    new_item(born, 0, deadline, b"key", &[])
 }
 
 /// Whether this is the deadline of what has so many seconds from a moment between these two.

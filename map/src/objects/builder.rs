@@ -2,6 +2,7 @@
 use super::epochs::Epochs;
 use super::inner::{ObjectInner, Stripe};
 use super::map::ObjectMap;
+use super::object::{Held, Object};
 use crate::clock::Clock;
 use crate::error::OpenError;
 use crate::flight::Flights;
@@ -33,15 +34,12 @@ pub enum Reason {
 }
 
 /// Who hears of each object that leaves.
-pub(crate) struct Listener<K, V>(Box<Call<K, V>>);
+pub(crate) struct Listener<O>(pub Box<Call<O>>);
 
-type Call<K, V> = dyn Fn(&K, &V, Reason) + Send + Sync;
+type Call<O> = dyn Fn(&O, Reason) + Send + Sync;
 
-impl<K, V> Listener<K, V> {
-    pub fn call(&self, key: &K, value: &V, reason: Reason) {
-        (self.0)(key, value, reason);
-    }
-}
+/// Who hears of each object that is freed.
+pub(crate) type Freed<O> = Box<dyn Fn(&O) + Send + Sync>;
 
 /// Chooses how a map of objects is opened.
 ///
@@ -58,13 +56,14 @@ impl<K, V> Listener<K, V> {
 #[must_use = "a builder opens nothing before `open`"]
 pub struct ObjectBuilder<K, V, S = RandomState> {
     settings: Settings<S>,
-    listener: Option<Listener<K, V>>,
+    listener: Option<Listener<Object<K, V>>>,
+    freed: Option<Freed<Object<K, V>>>,
 }
 
 impl<K, V> ObjectBuilder<K, V> {
     /// For a map of at least this many entries.
     pub fn new(capacity: usize) -> ObjectBuilder<K, V> {
-        ObjectBuilder { settings: Settings::new(capacity), listener: None }
+        ObjectBuilder { settings: Settings::new(capacity), listener: None, freed: None }
     }
 }
 
@@ -84,7 +83,7 @@ impl<K, V, S> ObjectBuilder<K, V, S> {
     /// What hashes the keys, once each. Of two keys with the same hash the map holds one, so all 64 bits must be well spread. If an enemy
     /// may choose keys, take a keyed hasher. The default is std's, which is keyed.
     pub fn hasher<T>(self, hasher: T) -> ObjectBuilder<K, V, T> {
-        ObjectBuilder { settings: self.settings.hasher(hasher), listener: self.listener }
+        ObjectBuilder { settings: self.settings.hasher(hasher), listener: self.listener, freed: self.freed }
     }
 
     /// How long a value lives, unless it is put with another time. `Duration::MAX` never ends, and `Duration::ZERO` is over at once. By
@@ -102,7 +101,15 @@ impl<K, V, S> ObjectBuilder<K, V, S> {
     /// `listener` may call the map. A put by it may make another object leave, and then it is called again. A listener that owns a clone of
     /// the map keeps it for ever. If `listener` panics, so does the call, which has made its change.
     pub fn listener(mut self, listener: impl Fn(&K, &V, Reason) + Send + Sync + 'static) -> Self {
-        self.listener = Some(Listener(Box::new(listener)));
+        self.listener = Some(Listener(Box::new(move |object, reason| listener(&object.key, &object.value, reason))));
+        self
+    }
+
+    /// Who hears of each object right before it is freed, once: also when the map is dropped. So a program can count what the objects take
+    /// that have left the map and are still there. It hears in any thread, in calls that write. If `freed` panics, the panic ends there, as that
+    /// of a destructor does.
+    pub fn freed(mut self, freed: impl Fn(&K, &V) + Send + Sync + 'static) -> Self {
+        self.freed = Some(Box::new(move |object| freed(&object.key, &object.value)));
         self
     }
 }
@@ -125,10 +132,24 @@ where
 
     /// Opens the map with shards of this shape, and calls that try so often.
     pub(crate) fn open_shaped(self, shape: &Shape, shards: u32, tries: u32) -> Result<ObjectMap<K, V, S>, OpenError> {
-        let count = self.settings.passes();
+        let inner = ObjectInner::open(self.settings, (shape, shards), tries, self.listener, self.freed)?;
+        Ok(ObjectMap { inner: Arc::new(inner) })
+    }
+}
+
+impl<O: Held, S> ObjectInner<O, S> {
+    /// Opens so many shards of this shape.
+    pub fn open(
+        settings: Settings<S>,
+        (shape, shards): (&Shape, u32),
+        tries: u32,
+        listener: Option<Listener<O>>,
+        freed: Option<Freed<O>>,
+    ) -> Result<ObjectInner<O, S>, OpenError> {
+        let count = settings.passes();
         let mut passes = Shards::open(shape, shards, count).map_err(OpenError::of)?;
-        let Settings { hasher, life, threads, .. } = self.settings;
-        let inner = ObjectInner {
+        let Settings { hasher, life, threads, .. } = settings;
+        Ok(ObjectInner {
             capacity: passes[0].capacity(),
             slots: Arc::new(Slots::new(passes)),
             epochs: Epochs::new(threads),
@@ -138,10 +159,10 @@ where
             hasher,
             life,
             tries,
-            listener: self.listener,
+            listener,
+            freed,
             objects: PhantomData,
-        };
-        Ok(ObjectMap { inner: Arc::new(inner) })
+        })
     }
 }
 

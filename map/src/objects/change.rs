@@ -58,7 +58,7 @@ where
     }
 }
 
-impl<K: Hash + Eq, V, S: BuildHasher> ObjectInner<K, V, S> {
+impl<K: Hash + Eq, V, S: BuildHasher> ObjectInner<Object<K, V>, S> {
     fn update(&self, mut key: K, mut change: impl FnMut(Option<&V>) -> V) -> Result<Put, UpdateError> {
         let hash = self.hash(&key);
         for _ in 0..self.tries {

@@ -92,7 +92,7 @@ where
     }
 }
 
-impl<K: Eq, V: Clone, S> ObjectInner<K, V, S> {
+impl<K: Eq, V: Clone, S> ObjectInner<Object<K, V>, S> {
     // A lookup that is counted.
     fn get<Q: Eq + ?Sized>(&self, hash: u64, key: &Q, tries: u32) -> Result<Option<V>, GetError>
     where

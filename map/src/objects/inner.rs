@@ -1,7 +1,7 @@
 //! What all clones of a map of objects share, and how an object leaves.
-use super::builder::{Listener, Reason};
+use super::builder::{Freed, Listener, Reason};
 use super::epochs::Epochs;
-use super::object::Object;
+use super::object::{pointer, Held};
 use crate::clock::{Clock, NEVER};
 use crate::flight::Flights;
 use crate::print::Print;
@@ -16,7 +16,7 @@ use std::panic::{catch_unwind, AssertUnwindSafe};
 use std::sync::{Arc, Mutex};
 use std::time::Duration;
 
-pub(crate) struct ObjectInner<K, V, S> {
+pub(crate) struct ObjectInner<O: Held, S> {
     pub slots: Arc<Slots<Pass<'static, 1>>>,
     pub epochs: Epochs,
     pub flights: Flights<()>,
@@ -30,8 +30,9 @@ pub(crate) struct ObjectInner<K, V, S> {
     pub capacity: usize,
     /// How often a call tries.
     pub tries: u32,
-    pub listener: Option<Listener<K, V>>,
-    pub objects: PhantomData<Object<K, V>>,
+    pub listener: Option<Listener<O>>,
+    pub freed: Option<Freed<O>>,
+    pub objects: PhantomData<O>,
 }
 
 /// Some keys, by their hash. Each is in a cache line of its own.
@@ -39,7 +40,7 @@ pub(crate) struct ObjectInner<K, V, S> {
 #[repr(align(64))]
 pub(crate) struct Stripe(pub Mutex<()>);
 
-impl<K, V, S> ObjectInner<K, V, S> {
+impl<O: Held, S> ObjectInner<O, S> {
     /// How often a lookup tries that is a miss if it stays busy.
     pub fn looks(&self) -> u32 {
         self.tries.min(LOOKS)
@@ -67,7 +68,7 @@ impl<K, V, S> ObjectInner<K, V, S> {
         if let Some(listener) = &self.listener {
             let object = left.object();
             let reason = if self.clock.has_passed(object.deadline()) { Reason::Expired } else { reason };
-            listener.call(&object.key, &object.value, reason);
+            listener.0(object, reason);
         }
     }
 
@@ -76,17 +77,26 @@ impl<K, V, S> ObjectInner<K, V, S> {
         for word in words {
             // SAFETY: the word is one of `into_word` of these types, since it was in this map's index. `Epochs` returns a word once for each
             // time that it was retired. That is once: an object is retired when it leaves the index, and is never put again. `Epochs` returns
-            // it when no call is pinned that may have found the object. So nothing borrows it, and nothing else makes a `Box` of it.
-            let object = unsafe { Box::from_raw(Object::<K, V>::pointer(word)) };
-            if let Err(panic) = catch_unwind(AssertUnwindSafe(|| drop(object))) {
-                // What it panicked with may panic when it is dropped, too.
-                mem::forget(catch_unwind(AssertUnwindSafe(|| drop(panic))));
+            // it when no call is pinned that may have found the object. So nothing borrows it but `freed`, and nothing else makes an owner of it.
+            unsafe {
+                if let Some(freed) = &self.freed {
+                    contain(|| freed(&*pointer::<O>(word)));
+                }
+                contain(|| drop(O::of_word(word)));
             }
         }
     }
 }
 
-impl<K, V, S: BuildHasher> ObjectInner<K, V, S> {
+/// Calls code of the program whose panic must end here.
+fn contain(call: impl FnOnce()) {
+    if let Err(panic) = catch_unwind(AssertUnwindSafe(call)) {
+        // What it panicked with may panic when it is dropped, too.
+        mem::forget(catch_unwind(AssertUnwindSafe(|| drop(panic))));
+    }
+}
+
+impl<O: Held, S: BuildHasher> ObjectInner<O, S> {
     #[inline]
     pub fn hash<Q: Hash + ?Sized>(&self, key: &Q) -> u64 {
         self.hasher.hash_one(key)
@@ -94,26 +104,26 @@ impl<K, V, S: BuildHasher> ObjectInner<K, V, S> {
 }
 
 /// An object that has left the index. It is retired when this is dropped, also by a panic.
-struct Left<'a, K, V, S> {
-    inner: &'a ObjectInner<K, V, S>,
+struct Left<'a, O: Held, S> {
+    inner: &'a ObjectInner<O, S>,
     word: u64,
 }
 
-impl<K, V, S> Left<'_, K, V, S> {
-    fn object(&self) -> &Object<K, V> {
+impl<O: Held, S> Left<'_, O, S> {
+    fn object(&self) -> &O {
         // SAFETY: the word was in this map's index, so it is one of `into_word` of these types. It is not retired before this is dropped, so
-        // no `Box` is made of it.
-        unsafe { &*Object::pointer(self.word) }
+        // no owner is made of it.
+        unsafe { &*pointer(self.word) }
     }
 }
 
-impl<K, V, S> Drop for Left<'_, K, V, S> {
+impl<O: Held, S> Drop for Left<'_, O, S> {
     fn drop(&mut self) {
         self.inner.free(self.inner.epochs.retire(self.word));
     }
 }
 
-impl<K, V, S> Drop for ObjectInner<K, V, S> {
+impl<O: Held, S> Drop for ObjectInner<O, S> {
     // No call runs any more. What is in the index is retired like what has left it, since nothing will look it up again.
     fn drop(&mut self) {
         let listed = self.slots.in_turn(LISTS, || self.slots.call(Pass::try_entries));

@@ -1,6 +1,7 @@
 //! Lookups of objects.
 use super::inner::ObjectInner;
 use super::map::ObjectMap;
+use super::object::{Held, Keyed};
 use super::pinned::State;
 use crate::error::GetError;
 use crate::pass::MANY;
@@ -86,7 +87,7 @@ where
     where
         K: Borrow<Q>,
     {
-        match self.inner.look(key, self.inner.looks(), look) {
+        match self.inner.look(key, self.inner.looks(), |object| look(&object.value)) {
             Ok(Look::Found { result, .. }) => Some(result),
             _ => None,
         }
@@ -111,7 +112,7 @@ where
     where
         K: Borrow<Q>,
     {
-        self.inner.look(key, self.inner.looks(), look)
+        self.inner.look(key, self.inner.looks(), |object| look(&object.value))
     }
 
     /// Looks the keys up in order, and calls `look` with the index and the value of each that is found. Up to 32 keys are looked up before
@@ -132,7 +133,8 @@ where
     where
         K: Borrow<Q>,
     {
-        self.inner.look_many(keys, look);
+        let mut look = look;
+        self.inner.look_many(keys, |index, found| look(index, found.map(|look| look.map(|object| &object.value))));
     }
 
     /// Begins the value's time to live anew with `life`, in place: no token changes, and nothing is copied. A removal that comes between is
@@ -145,20 +147,20 @@ where
     }
 }
 
-impl<K: Eq, V, S: BuildHasher> ObjectInner<K, V, S> {
-    fn look<Q: Hash + Eq + ?Sized, R>(&self, key: &Q, tries: u32, look: impl FnOnce(&V) -> R) -> Result<Look<R>, GetError>
+impl<O: Held, S: BuildHasher> ObjectInner<O, S> {
+    fn look<Q: Hash + ?Sized, R>(&self, key: &Q, tries: u32, look: impl FnOnce(&O) -> R) -> Result<Look<R>, GetError>
     where
-        K: Borrow<Q>,
+        O: Keyed<Q>,
     {
         let hash = self.hash(key);
         let pinned = self.pin();
         let state = self.count(pinned.look(hash, key, tries)).ok_or(GetError::Busy)?;
-        Ok(state.value().map(look))
+        Ok(state.object().map(look))
     }
 
-    fn look_many<Q: Hash + Eq + ?Sized>(&self, keys: &[&Q], mut look: impl FnMut(usize, Result<Look<&V>, GetError>))
+    pub fn look_many<Q: Hash + ?Sized>(&self, keys: &[&Q], mut look: impl FnMut(usize, Result<Look<&O>, GetError>))
     where
-        K: Borrow<Q>,
+        O: Keyed<Q>,
     {
         let pinned = self.pin();
         for (chunk, keys) in keys.chunks(MANY).enumerate() {
@@ -168,15 +170,15 @@ impl<K: Eq, V, S: BuildHasher> ObjectInner<K, V, S> {
             self.slots.call(|pass| pass.get_many(&hashes[..keys.len()], &mut replies[..keys.len()]));
             for (index, ((key, hash), reply)) in keys.iter().zip(hashes).zip(replies).enumerate() {
                 let state = pinned.state_or_look(hash, *key, reply, self.looks());
-                look(chunk * MANY + index, self.count(state).map(State::value).ok_or(GetError::Busy));
+                look(chunk * MANY + index, self.count(state).map(State::object).ok_or(GetError::Busy));
             }
         }
     }
 
     // The lock keeps the deadline still while another call makes an object that keeps it. No code of the caller runs under it.
-    fn touch<Q: Hash + Eq + ?Sized>(&self, key: &Q, life: Duration) -> bool
+    fn touch<Q: Hash + ?Sized>(&self, key: &Q, life: Duration) -> bool
     where
-        K: Borrow<Q>,
+        O: Keyed<Q>,
     {
         let hash = self.hash(key);
         let pinned = self.pin();
@@ -202,10 +204,10 @@ impl<K: Eq, V, S: BuildHasher> ObjectInner<K, V, S> {
     }
 }
 
-impl<K, V, S> ObjectInner<K, V, S> {
+impl<O: Held, S> ObjectInner<O, S> {
     /// Counts a lookup.
     #[inline]
-    pub fn count<'a>(&self, state: Option<State<'a, K, V>>) -> Option<State<'a, K, V>> {
+    pub fn count<'a>(&self, state: Option<State<'a, O>>) -> Option<State<'a, O>> {
         match &state {
             Some(State::Live(_)) => self.slots.count(Kind::Hit),
             None => self.slots.count(Kind::Busy),

@@ -1,6 +1,7 @@
 //! The map of objects.
 use super::builder::ObjectBuilder;
 use super::inner::ObjectInner;
+use super::object::Object;
 use crate::error::OpenError;
 use crate::stats::Stats;
 use std::borrow::Borrow;
@@ -29,7 +30,7 @@ use std::sync::Arc;
 /// [`free_unused`](ObjectMap::free_unused): fewer than 32, and all that left while a closure ran. So the map's memory has no bound while a
 /// closure sleeps. A panic in a destructor of what has left the map ends there.
 pub struct ObjectMap<K, V, S = RandomState> {
-    pub(crate) inner: Arc<ObjectInner<K, V, S>>,
+    pub(crate) inner: Arc<ObjectInner<Object<K, V>, S>>,
 }
 
 impl<K, V> ObjectMap<K, V>

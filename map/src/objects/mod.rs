@@ -1,5 +1,7 @@
 //! Objects of any type behind the index: the map's entry is the address of an object on the heap.
 mod builder;
+mod bytes;
+mod bytes_map;
 mod change;
 mod compute;
 mod epochs;
@@ -14,6 +16,8 @@ mod remove;
 mod sweep;
 
 pub use builder::{ObjectBuilder, Reason};
+pub use bytes::{Block, Bytes, Head};
+pub use bytes_map::{BytesBuilder, BytesMap};
 pub use error::{AbsentError, IfError, Refused};
 pub use look::Look;
 pub use map::ObjectMap;
@@ -21,5 +25,7 @@ pub use put::Put;
 
 #[cfg(test)]
 pub(crate) use epochs::{Epochs, BATCH};
+#[cfg(test)]
+pub(crate) use object::Held;
 #[cfg(test)]
 pub(crate) use pinned::State;

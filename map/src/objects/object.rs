@@ -1,6 +1,47 @@
-//! An object on the heap, and its address as the word of an entry.
+//! What a map has on the heap for a key, and its address as the word of an entry.
+use std::borrow::Borrow;
 use std::sync::atomic::{AtomicU64, Ordering::Relaxed};
 
+/// What a map has on the heap for a key.
+///
+/// # Safety
+///
+/// The word that `into_word` returns is the address of a `Self`, and a cast exposed a pointer there to all that belongs to it. It stays
+/// there until `of_word`.
+pub(crate) unsafe trait Held: Sized {
+    /// What owns it before it is put, and when it is to be freed.
+    type Owner;
+
+    /// Its address.
+    fn into_word(owner: Self::Owner) -> u64;
+
+    /// What `into_word` made this word of.
+    ///
+    /// # Safety
+    ///
+    /// The word is one of `into_word` of this type, nothing borrows what is there, and `of_word` was not called of it since.
+    unsafe fn of_word(word: u64) -> Self::Owner;
+
+    /// When it expires.
+    fn deadline(&self) -> u64;
+
+    /// Moves its deadline.
+    fn set_deadline(&self, deadline: u64);
+}
+
+/// What may have a key of this kind.
+pub(crate) trait Keyed<Q: ?Sized> {
+    /// Whether this is its key.
+    fn has_key(&self, key: &Q) -> bool;
+}
+
+/// What there is at this address. The cast of `into_word` exposed the pointer that this one gives back.
+#[inline]
+pub(crate) fn pointer<O: Held>(word: u64) -> *const O {
+    word as usize as *const O
+}
+
+/// A key and a value of any type.
 pub(crate) struct Object<K, V> {
     pub key: K,
     // A renewal moves it. Relaxed: it says nothing of other memory. What moves or keeps it has the lock of the key's stripe.
@@ -12,24 +53,34 @@ impl<K, V> Object<K, V> {
     pub fn new(key: K, value: V, deadline: u64) -> Box<Object<K, V>> {
         Box::new(Object { key, deadline: AtomicU64::new(deadline), value })
     }
+}
+
+// SAFETY: the word is the address of a box, whose pointer the cast exposes.
+unsafe impl<K, V> Held for Object<K, V> {
+    type Owner = Box<Object<K, V>>;
+
+    fn into_word(owner: Box<Object<K, V>>) -> u64 {
+        Box::into_raw(owner) as usize as u64
+    }
+
+    unsafe fn of_word(word: u64) -> Box<Object<K, V>> {
+        // SAFETY: `into_word` made the word of a box of this type, and the caller says that nobody else uses it.
+        unsafe { Box::from_raw(word as usize as *mut Object<K, V>) }
+    }
 
     #[inline]
-    pub fn deadline(&self) -> u64 {
+    fn deadline(&self) -> u64 {
         self.deadline.load(Relaxed)
     }
 
-    pub fn set_deadline(&self, deadline: u64) {
+    fn set_deadline(&self, deadline: u64) {
         self.deadline.store(deadline, Relaxed);
     }
+}
 
-    /// The object's address. It stays allocated until a `Box` is made of it again.
-    pub fn into_word(self: Box<Object<K, V>>) -> u64 {
-        Box::into_raw(self) as usize as u64
-    }
-
-    /// The object of which `into_word` made this word. The cast there exposed the pointer that this one gives back.
+impl<K: Borrow<Q>, V, Q: Eq + ?Sized> Keyed<Q> for Object<K, V> {
     #[inline]
-    pub fn pointer(word: u64) -> *mut Object<K, V> {
-        word as usize as *mut Object<K, V>
+    fn has_key(&self, key: &Q) -> bool {
+        self.key.borrow() == key
     }
 }

@@ -2,31 +2,30 @@
 use super::epochs::Guard;
 use super::inner::ObjectInner;
 use super::look::Look;
-use super::object::Object;
+use super::object::{pointer, Held, Keyed, Object};
 use cefrodil::Reply;
-use std::borrow::Borrow;
 
 /// No object that is found while this lives is freed before it ends.
-pub(crate) struct Pinned<'a, K, V, S> {
-    inner: &'a ObjectInner<K, V, S>,
+pub(crate) struct Pinned<'a, O: Held, S> {
+    inner: &'a ObjectInner<O, S>,
     _guard: Guard<'a>,
 }
 
 /// An object that was found. It was in the index at the moment `at`.
-pub(crate) struct Seen<'a, K, V> {
-    pub object: &'a Object<K, V>,
+pub(crate) struct Seen<'a, O> {
+    pub object: &'a O,
     pub at: u64,
     pub since: u64,
 }
 
 /// What there is under the hash of a key.
-pub(crate) enum State<'a, K, V> {
+pub(crate) enum State<'a, O> {
     /// The key's object.
-    Live(Seen<'a, K, V>),
+    Live(Seen<'a, O>),
     /// The key's object, which has expired.
-    Expired(Seen<'a, K, V>),
+    Expired(Seen<'a, O>),
     /// The object of another key with the same hash.
-    Other(Seen<'a, K, V>),
+    Other(Seen<'a, O>),
     Absent {
         at: u64,
     },
@@ -43,46 +42,52 @@ pub(crate) enum Over {
     At(u64),
 }
 
-impl<K, V> Clone for Seen<'_, K, V> {
+impl<O> Clone for Seen<'_, O> {
     fn clone(&self) -> Self {
         *self
     }
 }
 
-impl<K, V> Copy for Seen<'_, K, V> {}
+impl<O> Copy for Seen<'_, O> {}
 
-impl<'a, K, V> State<'a, K, V> {
-    pub fn value(self) -> Look<&'a V> {
+impl<'a, O> State<'a, O> {
+    pub fn object(self) -> Look<&'a O> {
         match self {
-            State::Live(Seen { object, at, since }) => Look::Found { result: &object.value, at, since },
+            State::Live(Seen { object, at, since }) => Look::Found { result: object, at, since },
             State::Expired(Seen { at, since, .. }) => Look::Expired { at, since },
             State::Other(Seen { at, .. }) | State::Absent { at } => Look::Absent { at },
         }
     }
 }
 
-impl<K, V, S> ObjectInner<K, V, S> {
+impl<'a, K, V> State<'a, Object<K, V>> {
+    pub fn value(self) -> Look<&'a V> {
+        self.object().map(|object| &object.value)
+    }
+}
+
+impl<O: Held, S> ObjectInner<O, S> {
     #[inline]
-    pub fn pin(&self) -> Pinned<'_, K, V, S> {
+    pub fn pin(&self) -> Pinned<'_, O, S> {
         Pinned { inner: self, _guard: self.epochs.pin(self.slots.index()) }
     }
 }
 
-impl<K, V, S> Pinned<'_, K, V, S> {
+impl<O: Held, S> Pinned<'_, O, S> {
     /// Looks the key up under its hash. `None`: each try was busy. It isn't counted.
     #[inline]
-    pub fn look<Q: Eq + ?Sized>(&self, hash: u64, key: &Q, tries: u32) -> Option<State<'_, K, V>>
+    pub fn look<Q: ?Sized>(&self, hash: u64, key: &Q, tries: u32) -> Option<State<'_, O>>
     where
-        K: Borrow<Q>,
+        O: Keyed<Q>,
     {
         self.state_or_look(hash, key, self.inner.slots.call(|pass| pass.get(hash)), tries)
     }
 
     /// What the reply of a first try says; if it is busy, the key is looked up again. This must have been pinned before that try.
     #[inline]
-    pub fn state_or_look<Q: Eq + ?Sized>(&self, hash: u64, key: &Q, first: Reply<1>, tries: u32) -> Option<State<'_, K, V>>
+    pub fn state_or_look<Q: ?Sized>(&self, hash: u64, key: &Q, first: Reply<1>, tries: u32) -> Option<State<'_, O>>
     where
-        K: Borrow<Q>,
+        O: Keyed<Q>,
     {
         match first {
             Reply::Busy => self.look_again(hash, key, tries - 1),
@@ -91,9 +96,9 @@ impl<K, V, S> Pinned<'_, K, V, S> {
     }
 
     /// The key's object, if it has one, and over what the next one of the key is put.
-    pub fn place<Q: Eq + ?Sized>(&self, hash: u64, key: &Q, tries: u32) -> Option<(Option<Seen<'_, K, V>>, Over)>
+    pub fn place<Q: ?Sized>(&self, hash: u64, key: &Q, tries: u32) -> Option<(Option<Seen<'_, O>>, Over)>
     where
-        K: Borrow<Q>,
+        O: Keyed<Q>,
     {
         Some(match self.look(hash, key, tries)? {
             State::Live(seen) => (Some(seen), Over::At(seen.since)),
@@ -108,9 +113,9 @@ impl<K, V, S> Pinned<'_, K, V, S> {
     }
 
     #[cold]
-    fn look_again<Q: Eq + ?Sized>(&self, hash: u64, key: &Q, tries: u32) -> Option<State<'_, K, V>>
+    fn look_again<Q: ?Sized>(&self, hash: u64, key: &Q, tries: u32) -> Option<State<'_, O>>
     where
-        K: Borrow<Q>,
+        O: Keyed<Q>,
     {
         let reply = self.inner.slots.within(tries, || match self.inner.slots.call(|pass| pass.get_or_desk(hash)) {
             Reply::Busy => None,
@@ -120,16 +125,16 @@ impl<K, V, S> Pinned<'_, K, V, S> {
     }
 
     #[inline]
-    fn state<Q: Eq + ?Sized>(&self, reply: Reply<1>, key: &Q) -> Option<State<'_, K, V>>
+    fn state<Q: ?Sized>(&self, reply: Reply<1>, key: &Q) -> Option<State<'_, O>>
     where
-        K: Borrow<Q>,
+        O: Keyed<Q>,
     {
         let seen = match reply {
             Reply::Found { value: [word], at, since } => Seen { object: self.object(word), at, since },
             Reply::Absent { at } => return Some(State::Absent { at }),
             Reply::Busy => return None,
         };
-        Some(if seen.object.key.borrow() != key {
+        Some(if !seen.object.has_key(key) {
             State::Other(seen)
         } else if self.inner.clock.has_passed(seen.object.deadline()) {
             State::Expired(seen)
@@ -140,11 +145,11 @@ impl<K, V, S> Pinned<'_, K, V, S> {
 
     /// The word is one that the index returned to this call after it was pinned, or one that this call puts.
     #[inline]
-    pub fn object(&self, word: u64) -> &Object<K, V> {
+    pub fn object(&self, word: u64) -> &O {
         // SAFETY: the index of this map has only words of `into_word` of the same types. So this is an object, and all others borrow it as
-        // shared. It is made a `Box` again in two places. One gets it back from a put that failed, so it was never in the index. The other
+        // shared. An owner is made of it again in two places. One gets it back from a put that failed, so it was never in the index. The other
         // (`free`) gets it when no call is pinned since before it left the index. This call was pinned before it found the object there,
         // and stays so while `self` is borrowed. SAFETY.md has the argument in full.
-        unsafe { &*Object::pointer(word) }
+        unsafe { &*pointer(word) }
     }
 }

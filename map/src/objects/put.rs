@@ -3,7 +3,7 @@ use super::builder::Reason;
 use super::error::{AbsentError, IfError, Refused};
 use super::inner::ObjectInner;
 use super::map::ObjectMap;
-use super::object::Object;
+use super::object::{Held, Keyed, Object};
 use super::pinned::{Over, Pinned, Seen};
 use crate::error::InsertError;
 use crate::map::Inserted;
@@ -66,12 +66,7 @@ where
         let inner = &self.inner;
         let hash = inner.hash(&key);
         let object = Object::new(key, value, inner.deadline(life));
-        inner.detach(hash);
-        match inner.put_over(hash, object, Over::Any, inner.tries) {
-            Ok(done) => Ok(inner.end(done)),
-            Err((object, Fail::Insert(why))) => Err(inner.refuse(*object, why)),
-            Err(_) => unreachable!("this put does not ask what is there"),
-        }
+        inner.put(hash, object).map_err(|(object, why)| inner.refuse(*object, why))
     }
 
     /// Like [`insert_if_absent`](Self::insert_if_absent), and returns the moment of the put. `life`: a time to live of its own.
@@ -82,27 +77,8 @@ where
     pub fn put_if_absent(&self, key: K, value: V, life: Option<Duration>) -> Result<Put, Refused<K, V, AbsentError>> {
         let inner = &self.inner;
         let hash = inner.hash(&key);
-        let mut object = Object::new(key, value, inner.deadline(life));
-        for _ in 0..inner.tries {
-            let pinned = inner.pin();
-            let over = match pinned.place(hash, &object.key, inner.tries) {
-                None => Err(AbsentError::Busy),
-                Some((Some(seen), _)) => Err(AbsentError::Present { since: seen.since }),
-                Some((None, over)) => Ok(over),
-            };
-            drop(pinned);
-            let over = match over {
-                Ok(over) => over,
-                Err(why) => return Err(inner.refuse(*object, why)),
-            };
-            inner.detach(hash);
-            match inner.put_over(hash, object, over, inner.tries) {
-                Ok(done) => return Ok(inner.end(done)),
-                Err((back, Fail::Insert(why))) => return Err(inner.refuse(*back, why.into())),
-                Err((back, _)) => object = back,
-            }
-        }
-        Err(inner.refuse(*object, AbsentError::Contended))
+        let object = Object::new(key, value, inner.deadline(life));
+        inner.put_new(hash, object, |object| &object.key).map_err(|(object, why)| inner.refuse(*object, why))
     }
 
     /// Replaces the key's value if its last put was at the moment `since`, as a lookup of this key returned it. `life`: a time to live of its
@@ -115,11 +91,7 @@ where
         let inner = &self.inner;
         let hash = inner.hash(&key);
         let object = Object::new(key, value, inner.deadline(life));
-        inner.detach(hash);
-        match inner.put_over(hash, object, Over::At(since), inner.tries) {
-            Ok(done) => Ok(inner.end(done)),
-            Err((object, why)) => Err(inner.refuse(*object, why.of_moment())),
-        }
+        inner.replace(hash, since, object).map_err(|(object, why)| inner.refuse(*object, why))
     }
 }
 
@@ -131,7 +103,10 @@ pub(crate) struct Done {
 }
 
 /// A put, or the object that comes back.
-pub(crate) type Offered<K, V> = Result<Done, (Box<Object<K, V>>, Fail)>;
+pub(crate) type Offered<O> = Result<Done, (<O as Held>::Owner, Fail)>;
+
+/// The same, for this reason.
+type Ended<O, E> = Result<Put, (<O as Held>::Owner, E)>;
 
 /// Why no put was made.
 pub(crate) enum Fail {
@@ -157,9 +132,53 @@ impl Fail {
     }
 }
 
-impl<K, V, S> ObjectInner<K, V, S> {
-    /// Puts the object over what is there now. On failure the object comes back.
-    pub fn put_over(&self, hash: u64, object: Box<Object<K, V>>, over: Over, tries: u32) -> Offered<K, V> {
+impl<O: Held, S> ObjectInner<O, S> {
+    /// Puts the object, whatever there is. On failure it comes back: here and below.
+    pub fn put(&self, hash: u64, object: O::Owner) -> Ended<O, InsertError> {
+        self.detach(hash);
+        match self.put_over(hash, object, Over::Any, self.tries) {
+            Ok(done) => Ok(self.end(done)),
+            Err((object, Fail::Insert(why))) => Err((object, why)),
+            Err(_) => unreachable!("this put does not ask what is there"),
+        }
+    }
+
+    /// Puts the object if its key is absent, or has expired.
+    pub fn put_new<Q: ?Sized>(&self, hash: u64, mut object: O::Owner, key: impl Fn(&O::Owner) -> &Q) -> Ended<O, AbsentError>
+    where
+        O: Keyed<Q>,
+    {
+        for _ in 0..self.tries {
+            let over = match self.pin().place(hash, key(&object), self.tries) {
+                None => Err(AbsentError::Busy),
+                Some((Some(seen), _)) => Err(AbsentError::Present { since: seen.since }),
+                Some((None, over)) => Ok(over),
+            };
+            let over = match over {
+                Ok(over) => over,
+                Err(why) => return Err((object, why)),
+            };
+            self.detach(hash);
+            match self.put_over(hash, object, over, self.tries) {
+                Ok(done) => return Ok(self.end(done)),
+                Err((back, Fail::Insert(why))) => return Err((back, why.into())),
+                Err((back, _)) => object = back,
+            }
+        }
+        Err((object, AbsentError::Contended))
+    }
+
+    /// Puts the object if its key was put at this moment.
+    pub fn replace(&self, hash: u64, since: u64, object: O::Owner) -> Ended<O, IfError> {
+        self.detach(hash);
+        match self.put_over(hash, object, Over::At(since), self.tries) {
+            Ok(done) => Ok(self.end(done)),
+            Err((object, why)) => Err((object, why.of_moment())),
+        }
+    }
+
+    /// Puts the object over what is there now.
+    pub fn put_over(&self, hash: u64, object: O::Owner, over: Over, tries: u32) -> Offered<O> {
         self.offer(object, |word| match over {
             Over::Any => self.put_any(hash, word, tries),
             Over::Absent => self.put_absent(hash, word, tries),
@@ -168,13 +187,7 @@ impl<K, V, S> ObjectInner<K, V, S> {
     }
 
     /// Like `put_over`, over an object that was seen, whose deadline the new one keeps. The lock keeps renewals from coming between.
-    pub fn put_over_seen(
-        &self,
-        pinned: &Pinned<K, V, S>,
-        hash: u64,
-        object: Box<Object<K, V>>,
-        seen: Seen<K, V>,
-    ) -> Offered<K, V> {
+    pub fn put_over_seen(&self, pinned: &Pinned<O, S>, hash: u64, object: O::Owner, seen: Seen<O>) -> Offered<O> {
         self.offer(object, |word| {
             let put = self.slots.in_turn(self.tries, || {
                 self.in_stripe(hash, |pass| {
@@ -187,12 +200,12 @@ impl<K, V, S> ObjectInner<K, V, S> {
     }
 
     // `put` puts the word, as the last that it does with it, unless it fails.
-    fn offer(&self, object: Box<Object<K, V>>, put: impl FnOnce(u64) -> Result<Done, Fail>) -> Offered<K, V> {
-        let word = object.into_word();
+    fn offer(&self, object: O::Owner, put: impl FnOnce(u64) -> Result<Done, Fail>) -> Offered<O> {
+        let word = O::into_word(object);
         put(word).map_err(|why| {
             // SAFETY: `into_word` made the word of this very object. A call of the index that returns an error has put nothing, and each `put`
             // here fails only if its last call did. So no other thread has seen the word.
-            (unsafe { Box::from_raw(Object::pointer(word)) }, why)
+            (unsafe { O::of_word(word) }, why)
         })
     }
 
@@ -258,7 +271,9 @@ impl<K, V, S> ObjectInner<K, V, S> {
         }
         put
     }
+}
 
+impl<K, V, S> ObjectInner<Object<K, V>, S> {
     /// Counts a refusal, and gives the object's parts back.
     fn refuse<E>(&self, object: Object<K, V>, why: E) -> Refused<K, V, E> {
         let Object { key, value, .. } = object;

@@ -4,6 +4,7 @@ use super::error::IfError;
 use super::inner::ObjectInner;
 use super::look::Look;
 use super::map::ObjectMap;
+use super::object::{Held, Keyed};
 use super::pinned::State;
 use crate::error::RemoveError;
 use crate::stats::Kind;
@@ -43,7 +44,7 @@ where
     where
         K: Borrow<Q>,
     {
-        self.inner.remove(key, look)
+        self.inner.remove(key, |object| look(&object.value))
     }
 
     /// Removes the key's value if its last put was at the moment `since`, as a lookup of the key returned it. Returns the moment of the
@@ -70,7 +71,7 @@ where
     }
 }
 
-impl<K, V, S> ObjectInner<K, V, S> {
+impl<O: Held, S> ObjectInner<O, S> {
     /// Takes out the object under this hash if it was put at the moment `since`, and retires it. Returns the moment of the removal.
     pub fn take_if(&self, hash: u64, since: u64, reason: Reason) -> Result<u64, TurnError<PutIfError>> {
         let taken = self.slots.in_turn(self.tries, || self.slots.call(|pass| pass.try_take_if(hash, since)))?;
@@ -79,7 +80,7 @@ impl<K, V, S> ObjectInner<K, V, S> {
         Ok(taken.at)
     }
 
-    fn remove_stamped(&self, hash: u64, since: u64) -> Result<u64, IfError> {
+    pub fn remove_stamped(&self, hash: u64, since: u64) -> Result<u64, IfError> {
         self.detach(hash);
         self.take_if(hash, since, Reason::Removed).map_err(|why| match why {
             TurnError::Call(PutIfError::NotThere { at }) => IfError::NotThere { at },
@@ -90,10 +91,10 @@ impl<K, V, S> ObjectInner<K, V, S> {
     }
 }
 
-impl<K: Eq, V, S: BuildHasher> ObjectInner<K, V, S> {
-    fn remove<Q: Hash + Eq + ?Sized, R>(&self, key: &Q, look: impl FnOnce(&V) -> R) -> Result<Look<R>, RemoveError>
+impl<O: Held, S: BuildHasher> ObjectInner<O, S> {
+    fn remove<Q: Hash + ?Sized, R>(&self, key: &Q, look: impl FnOnce(&O) -> R) -> Result<Look<R>, RemoveError>
     where
-        K: Borrow<Q>,
+        O: Keyed<Q>,
     {
         let hash = self.hash(key);
         self.detach(hash);
@@ -108,7 +109,7 @@ impl<K: Eq, V, S: BuildHasher> ObjectInner<K, V, S> {
             };
             let since = seen.since;
             match self.take_if(hash, since, Reason::Removed) {
-                Ok(at) if live => return Ok(Look::Found { result: look(&seen.object.value), at, since }),
+                Ok(at) if live => return Ok(Look::Found { result: look(seen.object), at, since }),
                 Ok(at) => return Ok(Look::Expired { at, since }),
                 Err(TurnError::Call(PutIfError::NotThere { at })) => return Ok(Look::Absent { at }),
                 Err(TurnError::Call(PutIfError::Changed { .. })) => {}
@@ -119,9 +120,9 @@ impl<K: Eq, V, S: BuildHasher> ObjectInner<K, V, S> {
         Err(self.refused(RemoveError::Contended))
     }
 
-    fn remove_if<Q: Hash + Eq + ?Sized>(&self, key: &Q, since: u64) -> Result<u64, IfError>
+    pub fn remove_if<Q: Hash + ?Sized>(&self, key: &Q, since: u64) -> Result<u64, IfError>
     where
-        K: Borrow<Q>,
+        O: Keyed<Q>,
     {
         let hash = self.hash(key);
         match self.pin().look(hash, key, self.tries) {

@@ -2,6 +2,7 @@
 use super::done;
 use super::waiting::while_it_waits;
 use crate::flight::{Boarding, Leader};
+use crate::objects::Held;
 use crate::print::Print;
 use crate::wait::IN_PAUSE;
 use crate::ObjectMap;

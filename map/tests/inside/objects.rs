@@ -1,7 +1,7 @@
 //! Objects expire by a clock that the tests turn. What is refused comes back.
 use super::done;
 use crate::clock::NEVER;
-use crate::objects::{State, BATCH};
+use crate::objects::{Held, State, BATCH};
 use crate::{
     AbsentError, ClearError, IfError, InsertError, Inserted, Look, ObjectBuilder, ObjectMap, Reason, RemoveError, UpdateError,
 };

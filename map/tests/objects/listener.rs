@@ -80,3 +80,30 @@ fn it_may_call_the_map() {
         assert!(here.is_none() || there.is_none());
     }
 }
+
+// What has left and is still there is what the one has heard of and the other has not.
+#[test]
+fn another_one_hears_of_each_object_when_it_is_freed() {
+    let (ledger, left, freed) = (Ledger::new(1_000), Arc::new(AtomicU64::new(0)), Arc::new(AtomicU64::new(0)));
+    let (hears, counts) = (Arc::clone(&left), Arc::clone(&freed));
+    let map = ObjectMap::<u64, Owned>::builder(100)
+        .threads(1)
+        .listener(move |_, _, _| done(hears.fetch_add(1, SeqCst)))
+        .freed(move |key, value| {
+            value.is_right(*key);
+            counts.fetch_add(1, SeqCst);
+            assert!(*key != 3, "as the test wants");
+        })
+        .hasher(RandomState::new())
+        .open()
+        .unwrap();
+    (0..10).for_each(|key| done(map.insert(key, ledger.make(key)).unwrap()));
+    map.get_with(&0, |_| {
+        (0..5).for_each(|key| assert!(map.remove(&key).unwrap()));
+        assert_eq!((left.load(SeqCst), map.free_unused(), freed.load(SeqCst)), (5, 5, 0), "they wait for this closure");
+    });
+    assert_eq!((map.free_unused(), freed.load(SeqCst), ledger.dropped()), (0, 5, 5));
+    drop(map);
+    assert_eq!((left.load(SeqCst), freed.load(SeqCst)), (5, 10));
+    ledger.each_once();
+}

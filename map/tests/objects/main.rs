@@ -1,4 +1,5 @@
 //! Maps of objects.
+mod bytes;
 mod collisions;
 #[path = "../ends/mod.rs"]
 mod ends;

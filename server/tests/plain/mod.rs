@@ -3,7 +3,7 @@
 pub mod client;
 
 use cefrodild::index::{Index, Outcome, Refused, Seen, Stamp, Token};
-use cefrodild::item::Item;
+use cefrodild::item::NewItem;
 use cefrodild::room::{cost, Room};
 use std::collections::HashMap;
 use std::hash::{BuildHasher, BuildHasherDefault, DefaultHasher};
@@ -30,7 +30,7 @@ pub struct Control {
 /// What is under the hash of a key.
 struct Entry {
     cost: u64,
-    item: Item,
+    item: NewItem,
     token: Token,
 }
 
@@ -49,18 +49,18 @@ impl Plain {
         Plain { items: Mutex::default(), room: Arc::clone(room), control: Arc::clone(control) }
     }
 
-    fn put_as(&self, key: &[u8], item: Item, meant: impl FnOnce(Option<Token>) -> bool) -> Result<Outcome, Refused> {
+    fn put_as(&self, item: NewItem, meant: impl FnOnce(Option<Token>) -> bool) -> Result<Outcome, Refused> {
         if self.control.refuses_puts.load(SeqCst) {
             return Err(Refused::Full);
         }
         let (items, last) = &mut *self.items.lock().unwrap();
-        let hash = self.hash_of(key);
+        let hash = self.hash_of(item.key());
         let token = items.get(&hash).map(|entry| entry.token);
         if !meant(token) {
             return Ok(token.map_or(Outcome::Absent, |_| Outcome::Changed));
         }
         *last += 1;
-        let entry = Entry { cost: cost(key.len(), item.data.len()), item, token: *last };
+        let entry = Entry { cost: cost(item.key().len(), item.value().len()), item, token: *last };
         if let Some(old) = items.insert(hash, entry) {
             self.room.give_back(old.cost);
         }
@@ -86,7 +86,7 @@ impl Index for Plain {
             if self.control.refuses_looks.load(SeqCst) {
                 each(position, Err(Refused::Held));
             } else {
-                each(position, Ok(items.get(&self.hash_of(key)).map(|entry| (&entry.item, entry.token))));
+                each(position, Ok(items.get(&self.hash_of(key)).map(|entry| (&*entry.item, entry.token))));
             }
         }
     }
@@ -97,24 +97,28 @@ impl Index for Plain {
         }
         let (items, _) = &*self.items.lock().unwrap();
         let entry = items.get(&stamp.hash).filter(|entry| entry.token == stamp.token);
-        see(Ok(entry.map(|entry| (&entry.item, entry.token))));
+        see(Ok(entry.map(|entry| (&*entry.item, entry.token))));
     }
 
-    fn put(&self, key: &[u8], item: Item) -> Result<Token, Refused> {
-        match self.put_as(key, item, |_| true)? {
+    fn peek_stamped(&self, stamp: Stamp, see: &mut dyn FnMut(Seen<'_>)) {
+        self.look_stamped(stamp, see);
+    }
+
+    fn put(&self, item: NewItem) -> Result<Token, Refused> {
+        match self.put_as(item, |_| true)? {
             Outcome::Done(token) => Ok(token),
             _ => unreachable!("there is no condition"),
         }
     }
 
-    fn put_new(&self, key: &[u8], item: Item) -> Result<Outcome, Refused> {
+    fn put_new(&self, item: NewItem) -> Result<Outcome, Refused> {
         self.let_others_act();
-        self.put_as(key, item, |token| token.is_none())
+        self.put_as(item, |token| token.is_none())
     }
 
-    fn put_if(&self, key: &[u8], token: Token, item: Item) -> Result<Outcome, Refused> {
+    fn put_if(&self, token: Token, item: NewItem) -> Result<Outcome, Refused> {
         self.let_others_act();
-        self.put_as(key, item, |found| found == Some(token))
+        self.put_as(item, |found| found == Some(token))
     }
 
     fn remove_if(&self, key: &[u8], token: Token) -> Result<Outcome, Refused> {

@@ -1,0 +1,200 @@
+//! Maps of bytes: what a block has, and that the map takes none for another, loses none and frees each once.
+use crate::ledger::{done, next};
+use cefrodil_map::{AbsentError, Block, Bytes, BytesMap, Head, IfError, Look, Reason};
+use std::hash::{BuildHasher, BuildHasherDefault, Hasher, RandomState};
+use std::mem::offset_of;
+use std::sync::atomic::{AtomicU64, Ordering::Relaxed, Ordering::SeqCst};
+use std::sync::Arc;
+use std::thread;
+
+/// A head whose last bytes are padding, in which the key begins.
+#[repr(C)]
+#[derive(Debug)]
+struct Counted {
+    number: u64,
+    uses: AtomicU64,
+    value: u32,
+    key: u8,
+}
+
+// SAFETY: `key` is the last field, and has one byte. Nobody changes the lengths.
+unsafe impl Head for Counted {
+    const SIZE: usize = offset_of!(Counted, key) + 1;
+
+    fn lengths(&self) -> (usize, usize) {
+        (self.key.into(), self.value as usize)
+    }
+}
+
+fn block(number: u64, key: &[u8], value: &[&[u8]]) -> Block<Counted> {
+    let length = value.iter().map(|part| part.len() as u32).sum();
+    Block::new(Counted { number, uses: AtomicU64::new(0), value: length, key: key.len() as u8 }, key, value)
+}
+
+/// The value of this key with this number. Its length depends on the number.
+fn value_of(key: u64, number: u64) -> Vec<u8> {
+    format!("{key}:{number};").repeat(1 + (number % 40) as usize).into_bytes()
+}
+
+fn check(key: u64, found: &Bytes<Counted>) {
+    assert_eq!((found.key(), found.value()), (key.to_string().as_bytes(), value_of(key, found.number).as_slice()));
+}
+
+fn make(key: u64, number: u64) -> Block<Counted> {
+    block(number, key.to_string().as_bytes(), &[&value_of(key, number)])
+}
+
+#[test]
+fn a_block_has_what_it_was_made_of() {
+    for key in [0, 1, 2, 3, 4, 5, 12, 250] {
+        for value in [0, 1, 2, 3, 7, 8, 100, 5_000] {
+            let (key, first, second) = (vec![b'k'; key], vec![b'v'; value / 2], vec![b'w'; value - value / 2]);
+            let block = block(7, &key, &[&first, &second]);
+            block.uses.fetch_add(3, Relaxed);
+            assert_eq!((block.key(), block.value()), (key.as_slice(), [first, second].concat().as_slice()));
+            assert_eq!((block.number, block.uses.load(Relaxed)), (7, 3));
+            assert_eq!(block.size(), (21 + key.len() + value).max(24), "the key begins in the padding");
+        }
+    }
+}
+
+#[test]
+#[should_panic = "the head says what the lengths are"]
+fn a_head_with_other_lengths_is_refused() {
+    let _ = Block::new(Counted { number: 1, uses: AtomicU64::new(0), value: 2, key: 1 }, b"k", &[b"v"]);
+}
+
+#[test]
+fn each_call_does_what_it_says() {
+    let map = BytesMap::<Counted>::builder(100).shards(1).threads(1).open().unwrap();
+    let found = |key: u64| {
+        let mut found = None;
+        map.look_many(&[key.to_string().as_bytes()], |_, look| {
+            if let Ok(Look::Found { result, since, .. }) = look {
+                check(key, result);
+                found = Some((result.number, since));
+            }
+        });
+        found
+    };
+    assert_eq!(found(1), None);
+    let first = map.put(make(1, 10)).unwrap().at;
+    assert_eq!(found(1), Some((10, first)));
+    assert!(matches!(map.put_if_absent(make(1, 11)), Err(AbsentError::Present { since }) if since == first));
+    let second = map.replace_if(first, make(1, 12)).unwrap().at;
+    assert!(matches!(map.replace_if(first, make(1, 13)), Err(IfError::Changed { since }) if since == second));
+    assert!(matches!(map.replace_if(first, make(2, 14)), Err(IfError::NotThere { .. })));
+    assert_eq!(found(1), Some((12, second)));
+    let hash = map.hash_of(b"1");
+    map.look_hash(hash, |look| assert!(matches!(look, Ok(Look::Found { result, .. }) if result.number == 12)));
+    map.look_hash(!hash, |look| assert!(matches!(look, Ok(Look::Absent { .. }))));
+    let hits = map.stats().hits;
+    map.peek_hash(hash, |look| {
+        assert!(matches!(look, Ok(Look::Found { result, since, .. }) if result.number == 12 && since == second))
+    });
+    map.peek_hash(!hash, |look| assert!(matches!(look, Ok(Look::Absent { .. }))));
+    assert_eq!(map.stats().hits, hits, "it is not counted");
+    assert!(matches!(map.remove_if(b"1", first), Err(IfError::Changed { .. })));
+    assert!(map.remove_if(b"1", second).is_ok());
+    assert_eq!(found(1), None);
+    let third = map.put_if_absent(make(1, 15)).unwrap().at;
+    assert!(matches!(map.remove_stamped(hash, second), Err(IfError::Changed { .. })));
+    assert!(map.remove_stamped(hash, third).is_ok());
+    assert_eq!((found(1), map.is_empty(), map.capacity()), (None, true, 100));
+}
+
+/// All keys have one hash.
+#[derive(Default)]
+struct Same;
+
+impl Hasher for Same {
+    fn write(&mut self, _: &[u8]) {}
+
+    fn finish(&self) -> u64 {
+        1
+    }
+}
+
+#[test]
+fn a_key_is_not_taken_for_another_one_with_its_hash() {
+    let map = BytesMap::<Counted>::builder(100).threads(1).hasher(BuildHasherDefault::<Same>::default()).open().unwrap();
+    let at = map.put(make(1, 10)).unwrap().at;
+    map.look_many(&[b"2"], |_, look| assert!(matches!(look, Ok(Look::Absent { .. }))));
+    assert!(matches!(map.remove_if(b"2", at), Err(IfError::NotThere { .. })));
+    assert!(map.put_if_absent(make(2, 20)).is_ok(), "it takes the place of the other one");
+    map.look_many(&[b"1", b"2"], |index, look| assert_eq!(matches!(look, Ok(Look::Found { .. })), index == 1));
+}
+
+#[test]
+fn threads_find_whole_blocks_and_each_is_freed_once() {
+    const CALLS: u64 = 30_000;
+    const KEYS: u64 = 300;
+    let (left, freed, made) = (Arc::new(AtomicU64::new(0)), Arc::new(AtomicU64::new(0)), AtomicU64::new(0));
+    let (hears, counts) = (Arc::clone(&left), Arc::clone(&freed));
+    let number_of = |bytes: &[u8]| std::str::from_utf8(bytes).unwrap().parse::<u64>().unwrap();
+    let map = BytesMap::<Counted>::builder(200)
+        .shards(2)
+        .threads(3)
+        .listener(move |bytes, reason| {
+            check(number_of(bytes.key()), bytes);
+            assert!(reason != Reason::Expired);
+            hears.fetch_add(1, SeqCst);
+        })
+        .freed(move |bytes| {
+            check(number_of(bytes.key()), bytes);
+            counts.fetch_add(1, SeqCst);
+        })
+        .hasher(RandomState::new())
+        .open()
+        .unwrap();
+    thread::scope(|threads| {
+        for thread in 1..=4_u64 {
+            let (map, made) = (&map, &made);
+            threads.spawn(move || {
+                let mut seed = thread * 0x9e37_79b9;
+                for _ in 0..CALLS {
+                    let key = next(&mut seed) % KEYS;
+                    let text = key.to_string();
+                    let mut token = None;
+                    map.look_many(&[text.as_bytes()], |_, look| {
+                        if let Ok(Look::Found { result, since, .. }) = look {
+                            check(key, result);
+                            token = Some(since);
+                        }
+                    });
+                    let new = || make(key, made.fetch_add(1, SeqCst));
+                    match (next(&mut seed) % 4, token) {
+                        (0, _) => done(map.put(new())),
+                        (1, Some(since)) => done(map.remove_if(text.as_bytes(), since)),
+                        (2, Some(since)) => done(map.replace_if(since, new())),
+                        (3, Some(since)) => done(map.remove_stamped(map.hash_of(text.as_bytes()), since)),
+                        _ => done(map.put_if_absent(new())),
+                    }
+                }
+            });
+        }
+    });
+    let (entries, waiting) = (map.len() as u64, map.free_unused());
+    assert_eq!((waiting, freed.load(SeqCst)), (0, left.load(SeqCst)), "nobody looks any more");
+    drop(map);
+    assert_eq!(freed.load(SeqCst), left.load(SeqCst) + entries);
+    assert!(freed.load(SeqCst) <= made.load(SeqCst));
+}
+
+#[test]
+fn the_hash_is_that_of_the_hasher() {
+    let hasher = RandomState::new();
+    let map = BytesMap::<Counted>::builder(100).hasher(hasher.clone()).open().unwrap();
+    assert_eq!(map.hash_of(b"key"), hasher.hash_one(b"key".as_slice()));
+}
+
+#[test]
+fn its_texts() {
+    let builder = BytesMap::<Counted>::builder(100).shards(1);
+    assert!(format!("{builder:?}").starts_with("BytesBuilder { capacity: 100"), "{builder:?}");
+    let map = builder.open().unwrap();
+    map.put(make(1, 1)).unwrap();
+    assert_eq!(format!("{map:?}"), "BytesMap { len: 1, capacity: 100, .. }");
+    let text = format!("{:?}", block(7, b"k", &[b"v"]));
+    assert_eq!(text, "Bytes { head: Counted { number: 7, uses: 0, value: 1, key: 1 }, key: [107], value: [118] }");
+}

@@ -1,0 +1,46 @@
+//! Items that have expired, or that a flush has hit, go after a while though nobody asks for them.
+use crate::counts::Count;
+use crate::index::{Outcome, Token};
+use crate::store::{Found, Store};
+use std::time::Duration;
+
+/// How often each worker looks at some items, and at how many.
+pub const PAUSE: Duration = Duration::from_secs(1);
+pub const LOOKED_AT: usize = 4096;
+
+impl Store {
+    /// Looks at the next entries of the queue, and removes the items that are not live.
+    pub fn expire(&self) {
+        for stamp in self.queue.look(LOOKED_AT) {
+            let mut dead = None;
+            self.index.peek_stamped(stamp, &mut |seen| {
+                if let Ok(Some((item, _))) = seen {
+                    dead = (!self.is_live(item)).then(|| item.key().to_vec());
+                }
+            });
+            if let Some(key) = dead {
+                self.remove_dead(&key, stamp.token);
+            }
+        }
+        self.tidy();
+    }
+
+    /// Removes the key's item if it has this token and is not live. The turn keeps a new time to live from coming between.
+    fn remove_dead(&self, key: &[u8], token: Token) {
+        let _turn = self.turns.wait(key);
+        if !matches!(self.find(key, |_, _| ()), Ok(Found::Dead(found)) if found == token) {
+            return;
+        }
+        if matches!(self.index.remove_if(key, token), Ok(Outcome::Done(_))) {
+            self.counts.add(Count::Expired);
+        }
+    }
+
+    /// What a worker does each second, beside answering clients.
+    pub(crate) fn tidy_up(&self) {
+        self.expire();
+        if let Some(ceiling) = &self.ceiling {
+            ceiling.look(&self.room, self.seats.bytes());
+        }
+    }
+}

@@ -1,0 +1,73 @@
+//! Items that have left and are not freed yet, since a thread reads: their bytes are counted and bounded. The index is the real one.
+use cefrodild::objects::Objects;
+use cefrodild::options::{parse, Asked};
+use cefrodild::request::{How, Order};
+use cefrodild::room::Room;
+use cefrodild::store::{Answer, Fault, Store};
+use std::sync::Arc;
+use std::thread;
+
+const LIMIT: u64 = 1 << 20;
+
+fn store() -> Store {
+    let Ok(Asked::Serve(options)) = parse(["-t2".to_owned()]) else { panic!("these are options") };
+    let room = Arc::new(Room::new(LIMIT));
+    let index = Objects::open(10_000, 2, &room, None).expect("there is memory");
+    Store::new(Box::new(index), room, options)
+}
+
+fn set(store: &Store, key: &[u8], length: usize) -> Result<Answer, Fault> {
+    store.store(&Order { how: How::Set, key, flags: 0, expiry: 0, length, compare: None }, &vec![b'x'; length])
+}
+
+/// Looks at this key, and calls `meanwhile` in another thread while it looks.
+fn while_it_is_read(store: &Store, key: &[u8], meanwhile: impl Fn() + Sync) {
+    let looked = store.look(&[key], |_, _, _| {
+        thread::scope(|threads| threads.spawn(&meanwhile).join().expect("no assertion failed"));
+        true
+    });
+    assert_eq!(looked, 1);
+}
+
+#[test]
+fn an_item_is_counted_until_it_is_freed() {
+    let store = store();
+    assert!(matches!(set(&store, b"key", 1_000), Ok(Answer::Done(_))));
+    let bytes = store.room.used();
+    while_it_is_read(&store, b"key", || {
+        assert!(store.delete(b"key", None).is_ok());
+        store.index.sweep();
+        assert_eq!((store.room.used(), store.room.waiting(), store.room.items()), (0, bytes, 0));
+    });
+    store.index.sweep();
+    assert_eq!((store.room.used(), store.room.waiting()), (0, 0));
+}
+
+#[test]
+fn what_waits_for_a_reader_is_bounded() {
+    let store = store();
+    assert!(matches!(set(&store, b"key", 1_000), Ok(Answer::Done(_))));
+    for size in [1_000, 50_000] {
+        while_it_is_read(&store, b"key", || {
+            let mut refused = 0;
+            for _ in 0..10 * LIMIT as usize / size {
+                match set(&store, b"other", size) {
+                    Ok(_) => {}
+                    Err(why) => {
+                        assert_eq!(why, Fault::NoRoom);
+                        refused += 1;
+                    }
+                }
+                assert!(store.room.used() + store.room.waiting() <= LIMIT + LIMIT / 16);
+                if refused > 0 {
+                    break;
+                }
+            }
+            assert_eq!(refused, 1, "the reader has not ended");
+            assert!(store.room.waiting() > LIMIT / 2, "{}", store.room.waiting());
+        });
+        assert!(matches!(set(&store, b"other", size), Ok(Answer::Done(_))));
+        assert!(store.room.waiting() < LIMIT / 2);
+    }
+    assert_eq!(store.room.evicted(), 0, "no other item makes room for what waits");
+}

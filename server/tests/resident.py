@@ -1,0 +1,89 @@
+#!/usr/bin/env python3
+"""The memory of the process stays near -m, whatever sizes the values have had, and whatever clients do. Items that have expired go by themselves.
+
+usage: resident.py CEFRODILD
+"""
+import contextlib
+import random
+import sys
+import time
+
+from running import ask, connect, memory_of, running
+
+MEGABYTE = 1 << 20
+MEMORY = 64
+
+# The least and the largest size of values, one phase after the other.
+PHASES = [(10, 100), (5_000, 60_000), (900_000, 1_000_000), (1, 1_000), (1, 100_000)]
+
+# At most this part of -m is exceeded.
+MOST = 1.15
+
+
+def sets(sizes, first, draw):
+    """Some commands with new keys from this number on, and how many they are."""
+    count = 200 if sizes[1] < 200_000 else 4
+    lengths = [draw.randint(*sizes) for _ in range(count)]
+    return b''.join(b'set k%d 0 0 %d noreply\r\n%s\r\n' % (first + place, length, b'v' * length) for place, length in enumerate(lengths)), count
+
+
+def stats(client):
+    lines = ask(client, b'stats\r\n', b'END\r\n').splitlines()[:-1]
+    return {name: int(value) for _, name, value in (line.split() for line in lines) if value.isdigit()}
+
+
+def sizes_change(program):
+    draw, number, highest = random.Random(1), 0, 0
+    with running(program, '-m', str(MEMORY)) as (server, port), contextlib.ExitStack() as stack:
+        clients = [stack.enter_context(connect(port)) for _ in range(4)]
+        for sizes in PHASES:
+            sent, batches = 0, 0
+            # Small values fill the memory with fewer bytes.
+            while sent < 1.5 * MEMORY * MEGABYTE and batches < 1000:
+                commands, count = sets(sizes, number, draw)
+                number, sent, batches = number + count, sent + len(commands), batches + 1
+                assert ask(clients[batches % 4], commands + b'mn\r\n') == b'MN\r\n'
+                highest = max(highest, memory_of(server))
+            assert stats(clients[0])[b'bytes'] > MEMORY * MEGABYTE / 3, sizes
+    assert highest < MOST * MEMORY * MEGABYTE, f'{highest / MEGABYTE:.1f} MB of {MEMORY}'
+
+
+def unfinished_values(program):
+    """Clients that don't finish their values are cut off when they hold half of -m. Others are served meanwhile."""
+    most, part = 8 * MEGABYTE, b'v' * 900_000
+    with running(program, '-m', '16') as (server, port), contextlib.ExitStack() as stack, connect(port) as other:
+        before = memory_of(server)
+        rude = [stack.enter_context(connect(port)) for _ in range(60)]
+        for client in rude:
+            with contextlib.suppress(OSError):
+                client.sendall(b'set key 0 0 1048576\r\n' + part)
+            assert ask(other, b'set k 0 0 1\r\nv\r\nget k\r\n', b'END\r\n') == b'STORED\r\nVALUE k 0 1\r\nv\r\nEND\r\n'
+        found = wait_for(other, lambda found: found[b'curr_connections'] < 30)
+        assert 0 < found[b'buffer_bytes'] <= most and found[b'connections_out_of_memory'] >= 30, found
+        assert memory_of(server) - before < most + 8 * MEGABYTE, memory_of(server) - before
+        stack.close()
+        assert wait_for(other, lambda found: found[b'curr_connections'] == 1)[b'buffer_bytes'] == 0
+
+
+def expired_items_go(program):
+    with running(program, '-t', '2') as (_, port), connect(port) as client:
+        commands = b''.join(b'set %d 0 %d 1 noreply\r\nv\r\n' % (key, key % 2) for key in range(2_000))
+        assert ask(client, commands + b'mn\r\n') == b'MN\r\n'
+        assert stats(client)[b'curr_items'] == 2_000
+        found = wait_for(client, lambda found: found[b'curr_items'] == 1_000)
+        assert found[b'crawler_reclaimed'] == 1_000 and found[b'evictions'] == 0, found
+
+
+def wait_for(client, is_met):
+    """The statistics when they are as they should become."""
+    for _ in range(200):
+        found = stats(client)
+        if is_met(found):
+            return found
+        time.sleep(0.05)
+    raise AssertionError(found)
+
+
+for test in [expired_items_go, unfinished_values, sizes_change]:
+    test(sys.argv[1])
+print('resident: 3 tests: ok')
