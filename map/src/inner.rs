@@ -14,11 +14,11 @@ use std::hash::{BuildHasher, Hash};
 use std::sync::Arc;
 use std::time::Duration;
 
-pub(crate) struct Inner<V, S> {
+pub(crate) struct Inner<K: ?Sized, V, S> {
     pub slots: Arc<Slots<AnyPass>>,
     pub flights: Flights<V>,
     pub clock: Clock,
-    pub printer: Printer<S>,
+    pub printer: Printer<K, S>,
     /// The time to live of what is put. Without one, entries have no deadline.
     pub life: Option<Duration>,
     pub capacity: usize,
@@ -37,7 +37,7 @@ pub(crate) enum Found<V> {
     Absent,
 }
 
-impl<V: Copy, S: BuildHasher> Inner<V, S> {
+impl<K: ?Sized, V: Copy, S: BuildHasher> Inner<K, V, S> {
     #[inline]
     pub fn print<Q: Hash + ?Sized>(&self, key: &Q) -> Print {
         self.printer.print(key)

@@ -9,6 +9,7 @@ mod error;
 mod flight;
 mod inner;
 mod map;
+mod number;
 #[cfg(feature = "objects")]
 mod objects;
 mod pass;

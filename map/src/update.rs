@@ -94,7 +94,7 @@ impl<K: ?Sized, V: Copy + Send + Sync + 'static, S: BuildHasher> Map<K, V, S> {
     }
 }
 
-impl<V: Copy, S: BuildHasher> Inner<V, S> {
+impl<K: ?Sized, V: Copy, S: BuildHasher> Inner<K, V, S> {
     fn update<Q: Hash + ?Sized>(&self, key: &Q, tries: u32, mut change: impl FnMut(Option<V>) -> V) -> Result<V, UpdateError> {
         let new = self.change_detached(self.print(key), tries, None, |old| Some(change(old)))?;
         Ok(new.expect("`change` always gives a value"))
