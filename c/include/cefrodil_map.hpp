@@ -18,10 +18,11 @@
 // This header is plain C++ and is not proved. The index below it is: a lookup of a 64-bit number returns what was put under it last, at one moment
 // of the call, and never parts of two values.
 //
-// The map knows a key by 128 bits, made with a secret. Half of them are the key's number in the index. The others are a check word, which is stored
-// with the value. A lookup compares it, and a mismatch is a miss. By SipHash, the check word of a key whose type has up to 8 bytes, such as an integer,
-// is the key itself: two such keys are never confused. Any other key, such as a string of any length, has two hashes. Two of those are confused, as far
-// as is known, with a chance of 2^-128.
+// The map keeps and compares no keys. It knows a key by 128 bits, made with a secret. Half of them are the key's number in the index. The others are
+// a check word, which is stored with the value. A lookup compares it, and a mismatch is a miss. By default the check word of a key whose type has up
+// to 8 bytes, such as an integer, an enum, a pointer or a small struct, is the key itself: two such keys are never confused. Any other key, such as
+// a string of any length, has two hashes. Two of those are confused, as far as is known, with a chance of 2^-128. By a hash of yours, two keys are
+// confused if it gives them the same two words.
 //
 // What you promise: no other call runs during open, close, a move or the destructor. All other calls may come from any thread at any time. No call
 // comes from a signal handler or a forked child. A shared library that opened a map is not unloaded while a thread lives that called the map. malloc,
@@ -65,9 +66,10 @@ template <class V> struct Computed {
     bool computed; // by this call
 };
 
-// A map of K to V. A hash of yours is `HashPair operator()(const K &key, const HashSecret &secret) const`. Several threads call it at once. Two keys
-// are confused if both words agree, so they must be independent. SipHash's are for strings and for types of more than 8 bytes. The second word of a
-// smaller type is the key itself, so don't combine the pairs of two members: hash a struct of both. Here is a hash of a key's name:
+// A map of K to V. A hash of yours is `HashPair operator()(const K &key, const HashSecret &secret) const`. Several threads call it at once. It must
+// take in all by which keys differ: two keys with the same two words are one key to the map. A hash that std::unordered_map can do with may take in
+// less, such as a number that the key keeps of its name. The two words must be independent, as SipHash's are, for any type. To hash two members, hash
+// a struct of both. Here is a hash of a key's name:
 //     return cefrodil::SipHash<std::string_view>()(key.name, secret);
 // Or it has 64 bits: `uint64_t operator()(const K &key, uint64_t seed) const`. Then it is called twice, with two seeds, which must give independent
 // hashes.
