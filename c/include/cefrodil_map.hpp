@@ -48,7 +48,7 @@ namespace cefrodil {
 template <class V> inline constexpr bool is_map_value = is_value<V> && words_of<V> <= 7 && std::is_copy_constructible_v<V> && !std::is_const_v<V>;
 
 // How a map is opened. A thread takes a pass at its first call, and gives it back at its end. One pass is shared behind a lock by all threads that
-// find no other: they are slower.
+// find no other: they are slower, and `shared_calls` counts their calls. Each thread that calls a map takes 4 kB more.
 struct MapOptions {
     uint32_t entries;       // 1 or more: the map has room for so many; `capacity` is more
     uint32_t shards = 16;   // a power of two, 1 to 256: so many threads can write at once
@@ -200,6 +200,8 @@ template <class K, class V, class Hash = SipHash<K>> class map {
     uint64_t size() const noexcept { return inner_ ? inner_->table.turns().keys() : 0; }
     // How many keys all shards hold together. Each evicts for itself, so the first eviction comes before the map is full.
     uint64_t capacity() const noexcept { return inner_ ? inner_->table.turns().capacity() : 0; }
+    // How many calls of the index threads without a pass of their own made. They wait for each other. If there are many, open the map with more passes.
+    uint64_t shared_calls() const noexcept { return inner_ ? inner_->table.turns().shared_calls() : 0; }
     // What the calls of the index came to. A repeated call counts each time, and a call of the map may make several, so no exact hit rate follows:
     // for that, count the answers of your own calls.
     Meter meter() const noexcept { return inner_ ? inner_->table.turns().meter() : Meter(nullptr); }
