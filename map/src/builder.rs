@@ -8,6 +8,7 @@ use crate::pass::AnyPass;
 use crate::print::Printer;
 use crate::settings::Settings;
 use crate::slots::Slots;
+use crate::tiers::Tiers;
 use crate::wait::TRIES;
 use crate::words::{Layout, MOST};
 use cefrodil::Shape;
@@ -86,6 +87,15 @@ impl<K: ?Sized, V, S> Builder<K, V, S> {
         self.settings.life = Some(life);
         self
     }
+
+    /// Puts new keys into a small table, with a tenth of the entries. A key that is found there moves to the main table. So keys that are used
+    /// once evict none that are used often, and more lookups hit, most of all where many keys are used once or in scans.
+    ///
+    /// A lookup that misses the main table looks into the small one, too, and a write looks into both. The default is one table.
+    pub fn small_table(mut self) -> Self {
+        self.settings.small_table = true;
+        self
+    }
 }
 
 impl<K: ?Sized, V: Copy + Send + Sync + 'static, S: BuildHasher> Builder<K, V, S> {
@@ -102,19 +112,34 @@ impl<K: ?Sized, V: Copy + Send + Sync + 'static, S: BuildHasher> Builder<K, V, S
     /// Opens the map with shards of this shape, and calls that try so often.
     pub(crate) fn open_shaped(self, shape: &Shape, shards: u32, tries: u32) -> Result<Map<K, V, S>, OpenError> {
         const { assert!(Layout::Plain.width::<V>() <= MOST, "a value has at most 56 bytes") };
-        let count = self.settings.passes();
+        let width = Layout::of(self.settings.life).width::<V>();
+        let mut passes = AnyPass::open(width, shape, shards, self.settings.passes()).map_err(OpenError::of)?;
+        let mut capacity = passes[0].capacity();
+        let slots = Arc::new(Slots::new(passes));
+        let mut tiers = None;
+        if self.settings.small_table {
+            let mut small = self.small_passes(width)?;
+            capacity += small[0].capacity();
+            tiers = Some(Tiers::new(Arc::clone(&slots), small, capacity));
+        }
         let Settings { hasher, once, life, .. } = self.settings;
-        let width = Layout::of(life).width::<V>();
-        let mut passes = AnyPass::open(width, shape, shards, count).map_err(OpenError::of)?;
         Ok(Map::of(Inner {
-            capacity: passes[0].capacity(),
-            slots: Arc::new(Slots::new(passes)),
+            capacity,
+            slots,
+            tiers,
             flights: Flights::new(),
             clock: Clock::new(),
             printer: if once { Printer::once(hasher) } else { Printer::twice(hasher) },
             life,
             tries,
         }))
+    }
+}
+
+impl<K: ?Sized, V, S> Builder<K, V, S> {
+    fn small_passes(&self, width: usize) -> Result<Vec<AnyPass>, OpenError> {
+        let (shape, shards) = self.settings.small_shape()?;
+        AnyPass::open(width, &shape, shards, self.settings.passes()).map_err(OpenError::of)
     }
 }
 

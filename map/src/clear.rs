@@ -3,6 +3,7 @@ use crate::error::ClearError;
 use crate::map::Map;
 use crate::pass::AnyPass;
 use crate::stats::Kind;
+use crate::tiers::SmallPass;
 use crate::wait::{in_turn, LISTS};
 use cefrodil::Removal;
 
@@ -32,8 +33,11 @@ impl<K: ?Sized, V: Copy, S> Map<K, V, S> {
         let slots = &self.inner.slots;
         self.inner.flights.detach_all();
         let remove_all = || -> Result<(), ClearError> {
-            for key in in_turn(lists, || slots.call(AnyPass::keys)).map_err(ClearError::of_list)? {
-                let removed = in_turn(tries, || slots.call(|pass| pass.remove(key)));
+            for key in self.keys(lists)? {
+                let removed = in_turn(tries, || match &self.inner.tiers {
+                    Some(tiers) => tiers.remove(key),
+                    None => slots.call(|pass| pass.remove(key)),
+                });
                 if let Removal::Removed { .. } = removed.map_err(ClearError::of_removal)? {
                     slots.count(Kind::Removed);
                 }
@@ -41,5 +45,15 @@ impl<K: ?Sized, V: Copy, S> Map<K, V, S> {
             Ok(())
         };
         remove_all().inspect_err(|_| slots.count(Kind::Refused))
+    }
+
+    // The keys of the small table come first: from there a key goes to the main one.
+    fn keys(&self, lists: u32) -> Result<Vec<u64>, ClearError> {
+        let mut keys = match &self.inner.tiers {
+            Some(tiers) => in_turn(lists, || tiers.small().call(SmallPass::keys)).map_err(ClearError::of_list)?,
+            None => Vec::new(),
+        };
+        keys.extend(in_turn(lists, || self.inner.slots.call(AnyPass::keys)).map_err(ClearError::of_list)?);
+        Ok(keys)
     }
 }

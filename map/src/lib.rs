@@ -9,6 +9,7 @@ mod error;
 mod flight;
 mod inner;
 mod map;
+mod moves;
 mod number;
 #[cfg(feature = "objects")]
 mod objects;
@@ -16,8 +17,10 @@ mod pass;
 mod print;
 mod settings;
 mod sip;
+mod sketch;
 mod slots;
 mod stats;
+mod tiers;
 mod update;
 mod wait;
 mod words;

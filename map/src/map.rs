@@ -227,7 +227,11 @@ impl<K: ?Sized, V, S> Map<K, V, S> {
     /// What the calls of all threads came to.
     #[must_use]
     pub fn stats(&self) -> Stats {
-        self.inner.slots.stats()
+        let mut stats = self.inner.slots.stats();
+        if let Some(tiers) = &self.inner.tiers {
+            stats.shared += tiers.small().stats().shared;
+        }
+        stats
     }
 }
 

@@ -91,6 +91,15 @@ impl AnyPass {
         any!(self, pass => wide_reply(pass.get_or_desk(key)))
     }
 
+    /// Whether the key is there. `None`: the lookup was busy.
+    pub fn has(&mut self, key: u64) -> Option<bool> {
+        any!(self, pass => match pass.get_or_desk(key) {
+            Reply::Found { .. } => Some(true),
+            Reply::Absent { .. } => Some(false),
+            Reply::Busy => None,
+        })
+    }
+
     pub fn put(&mut self, key: u64, words: &Words) -> Result<Put, TurnError<PutError>> {
         any!(self, pass => pass.try_put(key, narrow(words)))
     }

@@ -4,7 +4,7 @@ use crate::inner::{Found, Inner};
 use crate::map::Map;
 use crate::print::Print;
 use crate::stats::Kind;
-use crate::wait::in_turn;
+use crate::wait::{in_turn, LOOKS};
 use crate::words::Words;
 use cefrodil::{PutIfAbsentError, PutIfError, TurnError};
 use std::borrow::Borrow;
@@ -126,7 +126,11 @@ impl<K: ?Sized, V: Copy, S: BuildHasher> Inner<K, V, S> {
         mut change: impl FnMut(Option<V>) -> Option<V>,
     ) -> Result<Option<V>, UpdateError> {
         for _ in 0..tries {
-            let (old, since) = match self.look(print, tries).ok_or(UpdateError::Busy)? {
+            let mut found = self.look(print, tries);
+            if self.promote(print, found.as_ref(), tries.min(LOOKS)) {
+                found = self.look(print, tries);
+            }
+            let (old, since) = match found.ok_or(UpdateError::Busy)? {
                 Found::Live(entry, since) => (Some(entry), Some(since)),
                 Found::Expired(since) | Found::Other(since) => (None, Some(since)),
                 Found::Absent => (None, None),
@@ -146,7 +150,11 @@ impl<K: ?Sized, V: Copy, S: BuildHasher> Inner<K, V, S> {
     // Puts the words if the key's last put was at the moment `since`, or if the key is absent. `false`: another thread was first.
     fn put_over(&self, print: Print, since: Option<u64>, words: &Words, tries: u32) -> Result<bool, InsertError> {
         let Some(since) = since else { return self.put_absent(print, words, tries) };
-        match in_turn(tries, || self.slots.call(|pass| pass.put_if(print.key, since, words))) {
+        let put = in_turn(tries, || match &self.tiers {
+            Some(tiers) => tiers.put_if(print.key, since, words),
+            None => self.slots.call(|pass| pass.put_if(print.key, since, words)),
+        });
+        match put {
             Ok(_) => {
                 self.slots.count(Kind::Renewed);
                 Ok(true)
@@ -158,7 +166,11 @@ impl<K: ?Sized, V: Copy, S: BuildHasher> Inner<K, V, S> {
     }
 
     fn put_absent(&self, print: Print, words: &Words, tries: u32) -> Result<bool, InsertError> {
-        match in_turn(tries, || self.slots.call(|pass| pass.put_if_absent(print.key, words))) {
+        let put = in_turn(tries, || match &self.tiers {
+            Some(tiers) => tiers.put_if_absent(print.key, words),
+            None => self.slots.call(|pass| pass.put_if_absent(print.key, words)),
+        });
+        match put {
             Ok(put) => {
                 self.slots.count_put(put);
                 Ok(true)

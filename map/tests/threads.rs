@@ -112,6 +112,20 @@ fn nor_beside_evictions() {
 }
 
 #[test]
+fn nor_beside_moves_from_a_small_table() {
+    let map = Map::builder(300).shards(2).threads(THREADS as usize).small_table().open().unwrap();
+    in_threads(|thread| no_value_is_wrong(&map, 1_000, 15_000, thread + 1));
+    let stats = map.stats();
+    assert!(stats.evicted > 0 && stats.shared == 0 && stats.collided == 0, "{stats:?}");
+    assert!(map.len() <= map.capacity());
+    // A lookup may evict another key, so the first time counts for nothing.
+    let there = || (0..1_000).filter(|key| map.contains_key(key)).count();
+    assert_eq!((there() > 200, there()), (true, map.len()));
+    map.clear().unwrap();
+    assert_eq!((map.len(), there()), (0, 0));
+}
+
+#[test]
 fn forty_threads_share_four_passes() {
     const MANY: usize = 40;
     let map = Map::builder(1_000).threads(3).open().unwrap();
@@ -157,6 +171,37 @@ fn no_lookup_is_older_than_a_write_that_has_returned() {
         }
     });
     assert_eq!(map.stats().evicted, 0);
+}
+
+// Each thread writes keys of its own, removes them, and looks up those of others. Other keys keep the main table full, so all go through the small
+// one and move when they are found.
+#[test]
+fn nor_beside_moves() {
+    const KEYS: u64 = 4;
+    const ROUNDS: u64 = 3_000;
+    let map = Map::<(u64, u64), u64>::builder(60).small_table().open().unwrap();
+    // Numbers of writes that have returned: an even one put its number, and an odd one removed what was there.
+    let written: [[AtomicU64; KEYS as usize]; THREADS as usize] = Default::default();
+    let found: Vec<AtomicU64> = (0..THREADS).map(|_| AtomicU64::new(0)).collect();
+    in_threads(|thread| {
+        let mut seed = thread + 1;
+        for number in 1..ROUNDS {
+            let key = next(&mut seed) % KEYS;
+            match number % 2 {
+                0 => _ = map.insert(&(thread, key), number).unwrap(),
+                _ => _ = map.remove(&(thread, key)).unwrap(),
+            }
+            written[thread as usize][key as usize].store(number, SeqCst);
+            let (other, key) = (next(&mut seed) % THREADS, next(&mut seed) % KEYS);
+            let last = written[other as usize][key as usize].load(SeqCst);
+            if let Some(value) = map.get(&(other, key)) {
+                assert!(value >= last, "{value} after {last}");
+                found[thread as usize].fetch_add(1, SeqCst);
+            }
+            map.insert(&(thread, KEYS + number), 0).unwrap();
+        }
+    });
+    assert!(found.iter().all(|found| found.load(SeqCst) > 100), "{found:?}");
 }
 
 #[test]

@@ -22,6 +22,7 @@ mod places;
 mod prints;
 mod shapes;
 mod slots;
+mod tiers;
 mod timed;
 mod turns;
 mod waiting;
