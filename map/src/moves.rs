@@ -38,17 +38,12 @@ impl Rest {
     /// the end of each lookup.
     #[inline]
     pub fn has_lasted(&mut self, moves: &Moves) -> bool {
-        if self.moves == moves.begun.load(SeqCst) && self.thread == this_thread() {
+        let begun = moves.begun.load(SeqCst);
+        if self.moves == begun && self.thread == this_thread() {
             return true;
         }
-        self.note(moves);
+        let have_ended = moves.ended.load(SeqCst) == begun;
+        *self = if have_ended { Rest { moves: begun, thread: this_thread() } } else { Rest::default() };
         false
-    }
-
-    // The number of those that ended is read first: if as many have begun by then, none was on its way in between.
-    #[cold]
-    fn note(&mut self, moves: &Moves) {
-        let ended = moves.ended.load(SeqCst);
-        *self = if moves.begun.load(SeqCst) == ended { Rest { moves: ended, thread: this_thread() } } else { Rest::default() };
     }
 }
