@@ -33,7 +33,7 @@ impl<K: ?Sized, V: Copy, S> Map<K, V, S> {
         let slots = &self.inner.slots;
         self.inner.flights.detach_all();
         let remove_all = || -> Result<(), ClearError> {
-            for key in self.keys(lists)? {
+            for key in self.keys(lists, tries)? {
                 let removed = in_turn(tries, || match &self.inner.tiers {
                     Some(tiers) => tiers.remove(key),
                     None => slots.call(|pass| pass.remove(key)),
@@ -47,12 +47,13 @@ impl<K: ?Sized, V: Copy, S> Map<K, V, S> {
         remove_all().inspect_err(|_| slots.count(Kind::Refused))
     }
 
-    // The keys of the small table come first: from there a key goes to the main one.
-    fn keys(&self, lists: u32) -> Result<Vec<u64>, ClearError> {
-        let mut keys = match &self.inner.tiers {
-            Some(tiers) => in_turn(lists, || tiers.small().call(SmallPass::keys)).map_err(ClearError::of_list)?,
-            None => Vec::new(),
-        };
+    // Of the small table first: from there a key goes to the main one. One that was on its way has come there, too, when that is listed.
+    fn keys(&self, lists: u32, tries: u32) -> Result<Vec<u64>, ClearError> {
+        let mut keys = Vec::new();
+        if let Some(tiers) = &self.inner.tiers {
+            keys = in_turn(lists, || tiers.small().call(SmallPass::keys)).map_err(ClearError::of_list)?;
+            tiers.wait_for_moves(tries).map_err(ClearError::of_list)?;
+        }
         keys.extend(in_turn(lists, || self.inner.slots.call(AnyPass::keys)).map_err(ClearError::of_list)?);
         Ok(keys)
     }

@@ -96,6 +96,14 @@ impl<K: ?Sized, V: Copy, S: BuildHasher> Inner<K, V, S> {
         }
     }
 
+    /// Whether no table has the key, after a lookup that missed it. `None`: other threads disturbed each try.
+    pub fn lacks(&self, print: Print, tries: u32) -> Option<bool> {
+        match &self.tiers {
+            Some(tiers) => within(tries, || tiers.lacks(print.key)),
+            None => Some(true),
+        }
+    }
+
     /// Moves the key to the main table if it was found in the small one. Returns whether it may have moved.
     pub fn promote(&self, print: Print, found: Option<&Found<V>>, tries: u32) -> bool {
         match (&self.tiers, found) {
@@ -258,7 +266,12 @@ impl<K: ?Sized, V: Copy, S: BuildHasher> Inner<K, V, S> {
             let (value, since) = match self.look(print, tries) {
                 Some(Found::Live(entry, since)) => (Some(entry.value), since),
                 Some(Found::Expired(since)) => (None, since),
-                Some(Found::Absent | Found::Other(_)) => return Ok(None),
+                Some(Found::Other(_)) => return Ok(None),
+                Some(Found::Absent) => match self.lacks(print, tries) {
+                    Some(true) => return Ok(None),
+                    Some(false) => continue,
+                    None => return Err(self.refused(RemoveError::Held)),
+                },
                 None => return Err(self.refused(RemoveError::Busy)),
             };
             let taken = in_turn(tries, || match &self.tiers {

@@ -7,7 +7,7 @@ use crate::pass::AnyPass;
 use crate::sketch::Sketch;
 use crate::slots::Slots;
 use crate::stats::Kind;
-use crate::wait::in_turn;
+use crate::wait::{in_turn, within};
 use crate::words::{Words, MOST};
 use cefrodil::{ListError, Put, PutError, PutIfAbsentError, PutIfError, Removal, Reply, Spent, TurnError};
 use std::sync::atomic::{AtomicBool, Ordering::Relaxed};
@@ -127,8 +127,8 @@ impl Tiers {
     /// it. If so many tries don't take the key out of the small table, both have it, with the same words.
     pub fn promote(&self, key: u64, tries: u32) {
         let Some(_locked) = self.lock(key) else { return };
-        let Reply::Found { value, since, .. } = self.small.call(|small| small.pass.get_or_desk(key)) else { return };
         let _moving = self.moves.begin();
+        let Reply::Found { value, since, .. } = self.small.call(|small| small.pass.get_or_desk(key)) else { return };
         let is_new = match self.main.call(|pass| pass.put_if_absent(key, &value)) {
             Ok(put) => {
                 if self.put_into_main(put) {
@@ -202,6 +202,18 @@ impl Tiers {
             Place::Small if since & OF_SMALL != 0 => self.small.call(|small| in_small(&mut small.pass)),
             _ => Err(TurnError::Call(PutIfError::Changed { since: 0 })),
         }
+    }
+
+    /// Whether no table has the key. A lookup may miss it while it moves, if the small table evicts it meanwhile. So a write asks this, too. `None`:
+    /// other threads disturbed this.
+    pub fn lacks(&self, key: u64) -> Option<bool> {
+        let _locked = self.lock(key)?;
+        self.place(key).map(|place| matches!(place, Place::Nowhere))
+    }
+
+    /// Waits until the moves have ended that have begun before. A lock is tried so often.
+    pub fn wait_for_moves(&self, tries: u32) -> Result<(), TurnError<ListError>> {
+        (0..LOCKS as u64).try_for_each(|key| within(tries, || self.lock(key)).map(drop)).ok_or(TurnError::Held)
     }
 
     /// Removes the key from both tables.

@@ -133,7 +133,11 @@ impl<K: ?Sized, V: Copy, S: BuildHasher> Inner<K, V, S> {
             let (old, since) = match found.ok_or(UpdateError::Busy)? {
                 Found::Live(entry, since) => (Some(entry), Some(since)),
                 Found::Expired(since) | Found::Other(since) => (None, Some(since)),
-                Found::Absent => (None, None),
+                Found::Absent => match self.lacks(print, tries) {
+                    Some(true) => (None, None),
+                    Some(false) => continue,
+                    None => return Err(InsertError::Held.into()),
+                },
             };
             let Some(new) = change(old.map(|entry| entry.value)) else { return Ok(None) };
             let deadline = match (anew, old) {

@@ -3,7 +3,7 @@ use super::turns::{before_calls, calls, Turn};
 use crate::inner::Found;
 use crate::sketch::Sketch;
 use crate::tiers::{SmallPass, OF_SMALL};
-use crate::{InsertError, Inserted, Map, RemoveError, UpdateError};
+use crate::{ClearError, InsertError, Inserted, Map, RemoveError, UpdateError};
 use cefrodil::Reply;
 use std::cell::Cell;
 use std::sync::mpsc::channel;
@@ -156,6 +156,20 @@ fn a_lookup_finds_it_though_it_takes_over_a_pass_that_knows_of_the_move() {
     assert_eq!(calls(|| map.get(&KEY)).1, Some(10));
 }
 
+// Nor does it matter what others noted in the pass that all threads share.
+#[test]
+fn a_lookup_by_the_shared_pass_finds_a_key_that_moves_meanwhile() {
+    let map = open_for(0);
+    map.insert(&KEY, 10).unwrap();
+    let other = map.clone();
+    // It asks twice for a pass of its own before each call.
+    before_calls(3, 1, move || {
+        let map = other.clone();
+        thread::spawn(move || assert_eq!((map.get(&KEY), map.get(&7)), (Some(10), None))).join().unwrap();
+    });
+    assert_eq!(calls(|| map.get(&KEY)).1, Some(10));
+}
+
 // Another thread has put the key into the main table after this one looked there. Before it takes the key out of the small table, others evict it
 // there.
 #[test]
@@ -211,6 +225,31 @@ fn no_write_comes_between_the_steps_of_a_move() {
         assert_eq!(calls(|| map.get(&KEY)).1, Some(10));
         assert_eq!((place(&map, KEY), map.remove(&KEY), map.get(&KEY)), ((true, false), Ok(Some(10)), None));
     }
+}
+
+// The key is in no table while a move has it, since it is evicted from the small one. No removal takes that for its end.
+#[test]
+fn a_removal_waits_for_a_key_that_is_evicted_while_it_moves() {
+    let map = with_young();
+    let other = map.clone();
+    before_calls(4, 1, move || {
+        let map = other.clone();
+        let writes = move || {
+            // Some of these have the lock of the key that moves.
+            (100..200).take_while(|_| place(&map, KEY).1).for_each(|key| _ = map.try_insert(&key, 0));
+            assert_eq!((place(&map, KEY), map.get(&KEY)), ((false, false), None));
+            assert_eq!((map.try_remove(&KEY), map.try_clear()), (Err(RemoveError::Held), Err(ClearError::Held)));
+            assert_eq!(map.modify(&KEY, |old| old), Err(UpdateError::Insert(InsertError::Held)));
+            let put = map.try_update(&KEY, |old| old.unwrap_or(0));
+            assert_eq!(put, Err(UpdateError::Insert(InsertError::Held)));
+        };
+        thread::spawn(writes).join().unwrap();
+    });
+    assert_eq!(calls(|| map.get(&KEY)).1, Some(10));
+    // The first lookup of a key may evict another one.
+    let there = || (1_000..1_037).chain(100..200).chain([KEY]).filter(|key| map.contains_key(key)).count();
+    assert_eq!((there() >= 36, there(), place(&map, KEY)), (true, map.len(), (true, false)));
+    assert_eq!((map.remove(&KEY), map.get(&KEY)), (Ok(Some(10)), None));
 }
 
 // Before each call of the index that a write makes, another thread finds the key, and tries to move it.
