@@ -212,6 +212,21 @@ impl<K: ?Sized, V: Copy, S: BuildHasher> Inner<K, V, S> {
         }));
     }
 
+    /// Looks the key up, which is no use of it, and counts nothing.
+    pub fn peek(&self, print: Print, tries: u32) -> Result<Option<V>, GetError> {
+        let found = within(tries, || {
+            let mut reply = match &self.tiers {
+                Some(tiers) => tiers.peek(print.key),
+                None => self.slots.call(|pass| pass.peek(print.key)),
+            };
+            self.found(print, Seen::of(&mut reply))
+        });
+        match found.ok_or(GetError::Busy)? {
+            Found::Live(entry, _) => Ok(Some(entry.value)),
+            Found::Expired(_) | Found::Other(_) | Found::Absent => Ok(None),
+        }
+    }
+
     fn counted(&self, found: Option<Found<V>>) -> Result<Option<V>, GetError> {
         let kind = match found {
             Some(Found::Live(entry, _)) => {

@@ -120,6 +120,19 @@ impl<K: ?Sized, V: Copy + Send + Sync + 'static, S: BuildHasher> Map<K, V, S> {
         values
     }
 
+    /// The key's value, which doesn't count as used: it is evicted as if nobody had looked. [`stats`](Map::stats) doesn't count the call. It takes
+    /// the turn at the key's shard, as a write does.
+    ///
+    /// # Errors
+    ///
+    /// [`GetError::Busy`]: other threads had the turn at each try.
+    pub fn peek<Q: Hash + ?Sized>(&self, key: &Q) -> Result<Option<V>, GetError>
+    where
+        K: Borrow<Q>,
+    {
+        self.inner.peek(self.inner.print(key), self.inner.tries)
+    }
+
     /// Whether the key has a value, which then counts as used lately.
     #[must_use]
     pub fn contains_key<Q: Hash + ?Sized>(&self, key: &Q) -> bool

@@ -123,6 +123,19 @@ impl Tiers {
         }
     }
 
+    /// Looks a key up in both tables, in a turn at each, which is no use of it.
+    pub fn peek(&self, key: u64) -> Reply<MOST> {
+        let in_main = || self.main.call(|pass| pass.peek(key));
+        match in_main() {
+            Reply::Absent { .. } => match self.small.call(|small| small.pass.peek(key)) {
+                // It may have moved.
+                Reply::Absent { .. } => in_main(),
+                reply => reply,
+            },
+            reply => reply,
+        }
+    }
+
     /// Moves a key that was found in the small table to the main one. If another thread writes there now, the next lookup that finds the key tries
     /// it. If so many tries don't take the key out of the small table, both have it, with the same words.
     pub fn promote(&self, key: u64, tries: u32) {

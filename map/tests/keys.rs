@@ -151,7 +151,7 @@ fn a_map_that_compares_keys_does_not() {
     let (ann, bob) = (Name("ann".into()), Name("bob".into()));
     let map = cefrodil_map::ObjectMap::<Name, u64>::new(100).unwrap();
     map.insert(ann.clone(), 41).unwrap();
-    assert_eq!((map.get(&ann), map.get(&bob), map.remove(&bob)), (Some(41), None, Ok(false)));
+    assert_eq!((map.get(&ann), map.get(&bob), map.remove(&bob)), (Some(41), None, Ok(None)));
     let paths = cefrodil_map::ObjectMap::<std::path::PathBuf, u64>::new(100).unwrap();
     paths.insert("/a".into(), 1).unwrap();
     assert_eq!((paths.get(Path::new("/a")), paths.get(Path::new("a"))), (Some(1), None));

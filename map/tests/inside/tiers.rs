@@ -135,6 +135,19 @@ fn a_lookup_finds_a_key_that_moves_meanwhile() {
     }
 }
 
+#[test]
+fn a_peek_finds_a_key_in_both_tables_and_moves_none() {
+    let map = with_young();
+    assert_eq!((map.peek(&KEY), map.peek(&1_036), map.peek(&7)), (Ok(Some(10)), Ok(Some(0)), Ok(None)));
+    assert_eq!(place(&map, KEY), (false, true));
+    let other = map.clone();
+    before_calls(1, 1, move || {
+        let other = other.clone();
+        assert_eq!(thread::spawn(move || other.get(&KEY)).join().unwrap(), Some(10));
+    });
+    assert_eq!(calls(|| map.peek(&KEY)).1, Ok(Some(10)));
+}
+
 // The thread that moves the key, and notes that, ends. This one takes its pass over, and has looked into the main table before.
 #[test]
 fn a_lookup_finds_it_though_it_takes_over_a_pass_that_knows_of_the_move() {

@@ -1,5 +1,6 @@
 //! Maps of objects.
 mod collisions;
+mod each;
 #[path = "../ends/mod.rs"]
 mod ends;
 mod fills;
