@@ -91,7 +91,8 @@ impl<K: ?Sized, V, S> Builder<K, V, S> {
     /// Puts new keys into a small table, with a tenth of the entries. A key that is found there moves to the main table. So keys that are used
     /// once evict none that are used often, and more lookups hit, most of all where many keys are used once or in scans.
     ///
-    /// A lookup that misses the main table looks into the small one, too, and a write looks into both. The default is one table.
+    /// A lookup that misses the main table looks into the small one, too. If it finds the key there, it moves it: that is a write, for which
+    /// another entry may be evicted. A write of a key looks into both tables. The default is one table.
     pub fn small_table(mut self) -> Self {
         self.settings.small_table = true;
         self
