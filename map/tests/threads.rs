@@ -3,7 +3,7 @@ use cefrodil_map::{GetError, InsertError, Map, RemoveError, UpdateError};
 use std::hint::spin_loop;
 use std::panic::UnwindSafe;
 use std::sync::atomic::{AtomicBool, AtomicU64, Ordering::SeqCst};
-use std::sync::Barrier;
+use std::sync::{Barrier, Mutex};
 use std::thread;
 use std::time::{Duration, Instant};
 
@@ -220,6 +220,34 @@ fn no_update_is_lost() {
     });
     let sum: u64 = (0..KEYS).filter_map(|key| map.get(&key)).sum();
     assert_eq!((sum, map.stats().evicted), (THREADS * UPDATES, 0));
+}
+
+// A counter that was evicted begins anew, with a number of its own. No two updates make the same of it.
+#[test]
+fn no_update_is_lost_beside_moves() {
+    const KEYS: u64 = 6;
+    const UPDATES: u64 = 6_000;
+    let map = Map::<u64, (u64, u64)>::builder(40).small_table().open().unwrap();
+    let (beginnings, all) = (AtomicU64::new(0), Mutex::new(Vec::new()));
+    in_threads(|thread| {
+        let (mut seed, mut made) = (thread + 1, Vec::new());
+        for number in 0..UPDATES {
+            let key = next(&mut seed) % KEYS;
+            let count = map.update(&key, |old| match old {
+                Some((beginning, count)) => (beginning, count + 1),
+                None => (beginnings.fetch_add(1, SeqCst), 0),
+            });
+            made.push((key, count.unwrap()));
+            map.insert(&(1_000 * (thread + 1) + number % 500), (0, 0)).unwrap();
+            let _ = map.get(&(next(&mut seed) % KEYS));
+        }
+        all.lock().unwrap().extend(made);
+    });
+    let mut all = all.into_inner().unwrap();
+    all.sort_unstable();
+    assert!(all.windows(2).all(|pair| pair[0] != pair[1]));
+    let longest = all.iter().map(|(_, (_, count))| *count).max();
+    assert!(longest > Some(10), "{longest:?}");
 }
 
 // Ends other threads, also if an assertion fails.

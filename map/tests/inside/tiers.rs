@@ -6,6 +6,8 @@ use crate::tiers::{SmallPass, OF_SMALL};
 use crate::{ClearError, InsertError, Inserted, Map, RemoveError, UpdateError};
 use cefrodil::Reply;
 use std::cell::Cell;
+use std::collections::HashMap;
+use std::hash::{BuildHasherDefault, Hasher};
 use std::sync::mpsc::channel;
 use std::thread;
 use std::time::Duration;
@@ -399,6 +401,57 @@ fn what_has_expired_in_the_small_table_stays_there() {
     map.inner.clock.turn(Duration::from_secs(6));
     assert_eq!((map.get(&KEY), map.stats().expired, place(&map, KEY)), (None, 1, (false, true)));
     assert_eq!((map.update(&KEY, |old| old.unwrap_or(7)), map.get(&KEY)), (Ok(7), Some(7)));
+}
+
+/// Gives keys one of 50 numbers in the index, and themselves as check words.
+#[derive(Default)]
+struct Narrow(Vec<u64>);
+
+impl Hasher for Narrow {
+    fn write(&mut self, _: &[u8]) {
+        unreachable!("a key is a number")
+    }
+
+    fn write_u64(&mut self, number: u64) {
+        self.0.push(number);
+    }
+
+    fn finish(&self) -> u64 {
+        let [kind, key] = self.0[..] else { panic!("a key is hashed after a number") };
+        if kind == 0 {
+            key % 50
+        } else {
+            key
+        }
+    }
+}
+
+// Keys with the same number in the index drive each other out, in both tables. None has another one's value, or an older one.
+#[test]
+fn keys_that_meet_in_the_index_are_told_apart() {
+    let map = Map::<u64, u64>::builder(30).small_table().hasher(BuildHasherDefault::<Narrow>::default()).open().unwrap();
+    let (mut last, mut seed, mut found) = (HashMap::new(), 7_u64, 0);
+    for number in 0..30_000 {
+        seed = seed.wrapping_mul(0x5851_f42d_4c95_7f2d).wrapping_add(1);
+        let (key, kind) = ((seed >> 33) % 150, (seed >> 60) % 8);
+        let value = match kind {
+            0..=3 => map.get(&key),
+            4 => map.remove(&key).unwrap(),
+            5 => map.modify(&key, |old| old).unwrap(),
+            _ => None,
+        };
+        assert!(value.is_none() || value == last.get(&key).copied(), "key {key}");
+        found += u64::from(value.is_some());
+        match kind {
+            4 => _ = last.remove(&key),
+            6 => _ = (map.insert(&key, number).unwrap(), last.insert(key, number)),
+            7 => _ = (map.update(&key, |_| number).unwrap(), last.insert(key, number)),
+            _ => {}
+        }
+    }
+    assert!(found > 1_000 && map.stats().collided > 1_000, "{found}, {:?}", map.stats());
+    let there = || (0..150).filter(|key| map.contains_key(key)).count();
+    assert_eq!((there() > 0, there()), (true, map.len()));
 }
 
 #[test]
