@@ -20,7 +20,7 @@ pub(crate) struct Rest {
 }
 
 impl Moves {
-    /// Before the key is put into the main table.
+    /// Before the key is read in the small table.
     pub fn begin(&self) -> Moving<'_> {
         self.begun.fetch_add(1, SeqCst);
         Moving(self)
