@@ -7,6 +7,7 @@
 #include "rust_epochs.hpp"
 #include "rust_flights.hpp"
 #include "rust_slots.hpp"
+#include "rust_tiers.hpp"
 #include <cstdio>
 #include <cstdlib>
 #include <string>
@@ -49,5 +50,6 @@ int main(int argc, char **argv) {
     explore<RustFlights>("Rust flights", schedules);
     explore<RustSlots>("Rust slots", schedules);
     explore<RustEpochs>("Rust epochs", schedules);
+    explore<RustTiers>("Rust tiers", schedules);
     return faults == 0 ? 0 : 1;
 }

@@ -10,7 +10,7 @@
 
 struct RustSlots : rl::test_suite<RustSlots, 2> {
     static constexpr unsigned interruptions = 2;
-    static constexpr std::array<std::string_view, 5> steps{"lock of take_free", "lock of give_back", "reset of LAST", "end of CLAIMS",
+    static constexpr std::array<std::string_view, 5> steps{"lock of take_free", "lock of give_back", "reset of RECENT", "end of CLAIMS",
                                                            "ids of their own"};
 
     using Guard = std::lock_guard<explored::Mutex>;
@@ -50,19 +50,25 @@ struct RustSlots : rl::test_suite<RustSlots, 2> {
         size_t index;
     };
 
-    // What a thread has: LAST and CLAIMS.
-    struct Thread {
+    // A place of RECENT.
+    struct Recent {
         size_t id = 0, index = 0;
+    };
+
+    // What a thread has: RECENT and CLAIMS.
+    struct Thread {
+        std::array<Recent, 2> recent{};
         std::vector<Claim> claims{};
         bool has_ended = false;
 
         std::optional<size_t> index_of(Slots &slots) {
-            if (id == slots.id) {                                         //| if id == self.id {
-                return index;                                             //| Some(index)
+            const Recent seen = recent[slots.id % 2];                     //| let recent = RECENT.with(|recent| recent[place_of(self.id)].get());
+            if (seen.id == slots.id) {                                    //| if recent.id == self.id {
+                return seen.index;                                        //| Some(recent.index)
             }
             const std::optional<size_t> found = find(slots);
             if (found) {
-                id = slots.id, index = *found;                            //| LAST.set((self.id, index));
+                recent[slots.id % 2] = {slots.id, *found};                //| RECENT.with(|recent| recent[place_of(self.id)].set(Recent { id: self.id, index }));
             }
             return found;
         }
@@ -71,22 +77,22 @@ struct RustSlots : rl::test_suite<RustSlots, 2> {
                 return std::nullopt;
             }
             for (const Claim &claim : claims) {
-                if (claim.slots->id == slots.id) {                        //| if let Some(claim) = claims.iter().find(|claim| claim.id == slots.id) {
+                if (claim.slots->id == slots.id) {                        //| if let Some(claim) = claims.get(&slots.id) {
                     return claim.index;                                   //| return Some(claim.index);
                 }
             }
             const std::optional<size_t> taken = slots.take_free();        //| let index = slots.take_free()?;
             if (taken) {
-                claims.push_back({&slots, *taken});                       //| claims.push(Claim { id: slots.id, index, slots: home });
+                claims.push_back({&slots, *taken});                       //| claims.insert(slots.id, Claim { index, slots: home });
             }
             return taken;
         }
         void drop() {
             has_ended = !explored::without("end of CLAIMS");
-            if (!explored::without("reset of LAST")) {
-                id = 0;                                                   //| LAST.set((0, 0));
+            if (!explored::without("reset of RECENT")) {
+                recent = {};                                              //| RECENT.with(|recent| recent.iter().for_each(|place| place.set(Recent::NONE)));
             }
-            for (const Claim &claim : claims) {                           //| for claim in self.0.take() {
+            for (const Claim &claim : claims) {                           //| for claim in self.0.take().into_values() {
                 claim.slots->give_back(claim.index);                      //| slots.give_back(claim.index);
             }
             claims.clear();

@@ -110,8 +110,7 @@ template <class Key> inline constexpr bool is_string = std::is_same_v<Key, std::
 } // namespace inside
 
 // The hash of a map, unless the program gives it another: SipHash-1-3 of a string's letters, or of the bytes of any other key. With a secret it
-// returns two words. For a key whose type has up to 8 bytes they are a hash of 64 bits and the key itself, so no two such keys have the same pair.
-// For any other key they are a hash of 128 bits. With a seed it returns a hash of 64 bits: for hashes of yours. A key is
+// returns two words, a hash of 128 bits. With a seed it returns a hash of 64 bits: for hashes of yours. A key is
 // - a std::string or a std::string_view. A `const char *` as the key's type is a pointer: its address is the key, not its letters.
 // - an integer, an enum or a pointer, or a std::array of them.
 // - a trivially copyable struct without padding, whose bytes are its value. No float is: 0.0 and -0.0 are equal, but have other bytes.
@@ -119,13 +118,7 @@ template <class Key> inline constexpr bool is_string = std::is_same_v<Key, std::
 // Don't specialize it: a map takes its bits as they are. Give the map a hash type of yours instead.
 template <class Key> struct SipHash {
     HashPair operator()(const Key &key, const HashSecret &secret) const noexcept {
-        if constexpr (sizeof key <= sizeof(uint64_t)) {
-            HashPair pair{inside::sip_hash<1, 3>(std::addressof(key), sizeof key, secret), 0};
-            std::memcpy(&pair.second, std::addressof(key), sizeof key);
-            return pair;
-        } else {
-            return inside::sip_hash_pair<1, 3>(std::addressof(key), sizeof key, secret);
-        }
+        return inside::sip_hash_pair<1, 3>(std::addressof(key), sizeof key, secret);
     }
     uint64_t operator()(const Key &key, uint64_t seed) const noexcept {
         return inside::sip_hash<1, 3>(std::addressof(key), sizeof key, {seed, 0});
@@ -159,11 +152,15 @@ template <class Hash, class Key> inline constexpr bool gives_pair = std::is_invo
 template <class Hash, class Key> inline constexpr bool takes_seed = std::is_invocable_r_v<uint64_t, const Hash &, Key, uint64_t>;
 template <class Hash, class Key> inline constexpr bool hashes = gives_pair<Hash, Key> || takes_seed<Hash, Key>;
 
+// Whether a map takes a key for its own check word: if its bytes are all of it, fill a word at most, and no hash of the user's comes between.
+template <class Key, class Hash>
+inline constexpr bool is_own_word = std::is_same_v<Hash, SipHash<std::decay_t<Key>>> && sizeof(std::decay_t<Key>) <= sizeof(uint64_t);
+
 // How a call takes a key. A string that the hash takes as a view is never copied.
 template <class Key, class Hash>
 using Taken = std::conditional_t<is_string<Key> && hashes<Hash, std::string_view>, std::string_view, const Key &>;
 
-// What a map knows a key by: the two words of one hash, or two hashes with different seeds.
+// What a map knows a key by: the two words of one hash, or two hashes with different seeds, or a hash of 64 bits and the key itself.
 template <class Key, class Hash> class Identities {
   public:
     static constexpr bool never_throws = gives_pair<Hash, Key> ? std::is_nothrow_invocable_v<const Hash &, Key, const HashSecret &>
@@ -175,7 +172,11 @@ template <class Key, class Hash> class Identities {
     [[nodiscard]] bool draw() noexcept { return getrandom(&secret_, sizeof secret_, 0) == static_cast<ssize_t>(sizeof secret_); }
 
     Identity of(Key key) const noexcept(never_throws) {
-        if constexpr (gives_pair<Hash, Key>) {
+        if constexpr (is_own_word<Key, Hash>) {
+            Identity known{sip_hash<1, 3>(std::addressof(key), sizeof key, secret_), 0};
+            std::memcpy(&known.check, std::addressof(key), sizeof key);
+            return known;
+        } else if constexpr (gives_pair<Hash, Key>) {
             const HashPair pair = hash_(key, secret_);
             return {pair.first, pair.second};
         } else {

@@ -18,10 +18,11 @@
 // This header is plain C++ and is not proved. The index below it is: a lookup of a 64-bit number returns what was put under it last, at one moment
 // of the call, and never parts of two values.
 //
-// The map knows a key by 128 bits, made with a secret. Half of them are the key's number in the index. The others are a check word, which is stored
-// with the value. A lookup compares it, and a mismatch is a miss. By SipHash, the check word of a key whose type has up to 8 bytes, such as an integer,
-// is the key itself: two such keys are never confused. Any other key, such as a string of any length, has two hashes. Two of those are confused, as far
-// as is known, with a chance of 2^-128.
+// The map keeps and compares no keys. It knows a key by 128 bits, made with a secret. Half of them are the key's number in the index. The others are
+// a check word, which is stored with the value. A lookup compares it, and a mismatch is a miss. By default the check word of a key whose type has up
+// to 8 bytes, such as an integer, an enum, a pointer or a small struct, is the key itself: two such keys are never confused. Any other key, such as
+// a string of any length, has two hashes. Two of those are confused, as far as is known, with a chance of 2^-128. By a hash of yours, two keys are
+// confused if it gives them the same two words.
 //
 // A forked child finds the map closed: its lookups miss, its other calls return `closed`, and its destructor frees nothing. The child may open it, or
 // others, anew.
@@ -52,7 +53,7 @@ namespace cefrodil {
 template <class V> inline constexpr bool is_map_value = is_value<V> && words_of<V> <= 7 && std::is_copy_constructible_v<V> && !std::is_const_v<V>;
 
 // How a map is opened. A thread takes a pass at its first call, and gives it back at its end. One pass is shared behind a lock by all threads that
-// find no other: they are slower.
+// find no other: they are slower, and `shared_calls` counts their calls. Each thread that calls a map takes 4 kB more.
 struct MapOptions {
     uint32_t entries;       // 1 or more: the map has room for so many; `capacity` is more
     uint32_t shards = 16;   // a power of two, 1 to 256: so many threads can write at once
@@ -70,9 +71,10 @@ template <class V> struct Computed {
     bool computed; // by this call
 };
 
-// A map of K to V. A hash of yours is `HashPair operator()(const K &key, const HashSecret &secret) const`. Several threads call it at once. Two keys
-// are confused if both words agree, so they must be independent. SipHash's are for strings and for types of more than 8 bytes. The second word of a
-// smaller type is the key itself, so don't combine the pairs of two members: hash a struct of both. Here is a hash of a key's name:
+// A map of K to V. A hash of yours is `HashPair operator()(const K &key, const HashSecret &secret) const`. Several threads call it at once. It must
+// take in all by which keys differ: two keys with the same two words are one key to the map. A hash that std::unordered_map can do with may take in
+// less, such as a number that the key keeps of its name. The two words must be independent, as SipHash's are, for any type. To hash two members, hash
+// a struct of both. Here is a hash of a key's name:
 //     return cefrodil::SipHash<std::string_view>()(key.name, secret);
 // Or it has 64 bits: `uint64_t operator()(const K &key, uint64_t seed) const`. Then it is called twice, with two seeds, which must give independent
 // hashes.
@@ -200,6 +202,8 @@ template <class K, class V, class Hash = SipHash<K>> class map {
     uint64_t size() const noexcept { return inner_ ? inner_->table.turns().keys() : 0; }
     // How many keys all shards hold together. Each evicts for itself, so the first eviction comes before the map is full.
     uint64_t capacity() const noexcept { return inner_ ? inner_->table.turns().capacity() : 0; }
+    // How many calls of the index threads without a pass of their own made. They wait for each other. If there are many, open the map with more passes.
+    uint64_t shared_calls() const noexcept { return inner_ ? inner_->table.turns().shared_calls() : 0; }
     // What the calls of the index came to. A repeated call counts each time, and a call of the map may make several, so no exact hit rate follows:
     // for that, count the answers of your own calls.
     Meter meter() const noexcept { return inner_ ? inner_->table.turns().meter() : Meter(nullptr); }

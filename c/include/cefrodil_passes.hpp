@@ -7,12 +7,14 @@
 #include "cefrodil_forks.hpp"
 #include "cefrodil_threads.hpp"
 #include <algorithm>
+#include <array>
 #include <atomic>
 #include <chrono>
 #include <memory>
 #include <mutex>
 #include <numeric>
 #include <thread>
+#include <unordered_map>
 #include <utility>
 #include <vector>
 
@@ -66,20 +68,29 @@ template <class Parts> class FreePassesOf {
 
 using FreePasses = FreePassesOf<Threads>;
 
-// What a thread used last: a slot, and of which passes. The thread has a claim to these, so no others have their address. It has no destructor, so
-// it is there until the thread's very end.
+// The slots that a thread used lately, each at the place of its passes. The thread has a claim to these, so no others have their address. It has no
+// destructor, so it is there until the thread's very end.
 //
 // Each shared library that hides its symbols has its own copy of this and of the claims, and a thread has a pass by each copy. Numbers that each
 // copy counts for itself would not tell the passes apart. Addresses do.
-struct LastUsed {
-    const FreePasses *passes = nullptr;
-    void *slot = nullptr;
+struct RecentSlots {
+    struct Place {
+        const FreePasses *passes = nullptr;
+        void *slot = nullptr;
+    };
+    std::array<Place, 256> places{};
     bool has_ended = false;
 };
 
-inline LastUsed &last_used() noexcept {
-    static thread_local LastUsed last;
-    return last;
+inline RecentSlots &recent_slots() noexcept {
+    static thread_local RecentSlots recent;
+    return recent;
+}
+
+// Passes that are opened one after the other have different places, up to so many.
+inline uint8_t next_place() noexcept {
+    static std::atomic<uint8_t> next{0};
+    return next.fetch_add(1, std::memory_order_relaxed);
 }
 
 // The passes that a thread has.
@@ -87,7 +98,7 @@ class Claims {
   public:
     // After the destructor has run, the thread may still call: from the destructors of its other objects. Then there are no claims.
     static Claims *of_thread() noexcept {
-        if (last_used().has_ended) {
+        if (recent_slots().has_ended) {
             return nullptr;
         }
         static thread_local Claims claims;
@@ -96,13 +107,11 @@ class Claims {
 
     // The pass of these that the thread has, or takes now, or 0.
     size_t pass_of(const std::shared_ptr<FreePasses> &passes) noexcept {
-        for (const Claim &claim : claims_) {
-            if (claim.passes == passes) {
-                return claim.pass;
-            }
+        if (const auto claim = claims_.find(passes); claim != claims_.end()) {
+            return claim->second;
         }
         const size_t pass = passes->take();
-        if (pass != 0 && !has_memory([&] { add({passes, pass}); })) {
+        if (pass != 0 && !has_memory([&] { add(passes, pass); })) {
             passes->give(pass);
             return 0;
         }
@@ -110,30 +119,26 @@ class Claims {
     }
 
   private:
-    struct Claim {
-        std::shared_ptr<FreePasses> passes;
-        size_t pass;
-    };
-
-    Claims() noexcept = default;
+    Claims() noexcept {}
     ~Claims() {
-        last_used() = {nullptr, nullptr, true};
-        for (const Claim &claim : claims_) {
-            claim.passes->give(claim.pass);
+        recent_slots() = {{}, true};
+        for (const auto &[passes, pass] : claims_) {
+            passes->give(pass);
         }
     }
     Claims(const Claims &) = delete;
     Claims &operator=(const Claims &) = delete;
 
     // Claims to passes that have ended make room.
-    void add(Claim claim) {
-        last_used() = {};
-        const auto has_ended = [](const Claim &old) { return old.passes->have_ended(); };
-        claims_.erase(std::remove_if(claims_.begin(), claims_.end(), has_ended), claims_.end());
-        claims_.push_back(std::move(claim));
+    void add(const std::shared_ptr<FreePasses> &passes, size_t pass) {
+        recent_slots() = {};
+        for (auto claim = claims_.begin(); claim != claims_.end();) {
+            claim = claim->first->have_ended() ? claims_.erase(claim) : std::next(claim);
+        }
+        claims_.emplace(passes, pass);
     }
 
-    std::vector<Claim> claims_{};
+    std::unordered_map<std::shared_ptr<FreePasses>, size_t> claims_{};
 };
 
 // A pass with what its thread alone writes, in pairs of cache lines of its own.
@@ -198,16 +203,20 @@ template <size_t Words> class Passes {
         const Slot<Words> *const slot = own_slot();
         return slot != nullptr ? static_cast<size_t>(slot - slots_.get()) : 0;
     }
+    // How many calls the shared pass made.
+    uint64_t shared_calls() const noexcept { return shared_calls_.load(std::memory_order_relaxed); }
     const Pass<Words> &shared() const noexcept { return slots_[0].pass; }
 
   private:
     template <class Call> [[gnu::cold]] [[gnu::noinline]] auto call_shared(Call &made) noexcept {
         const std::lock_guard<std::mutex> guard(sharing_);
+        // Relaxed: a number says nothing of other memory.
+        shared_calls_.fetch_add(1, std::memory_order_relaxed);
         return made(slots_[0]);
     }
     Slot<Words> *own_slot() noexcept {
-        const LastUsed &last = last_used();
-        return last.passes == free_.get() ? static_cast<Slot<Words> *>(last.slot) : find_slot();
+        const RecentSlots::Place &recent = recent_slots().places[place_];
+        return recent.passes == free_.get() ? static_cast<Slot<Words> *>(recent.slot) : find_slot();
     }
     [[gnu::cold]] [[gnu::noinline]] Slot<Words> *find_slot() noexcept {
         Claims *const claims = Claims::of_thread();
@@ -215,14 +224,16 @@ template <size_t Words> class Passes {
         if (pass == 0) {
             return nullptr;
         }
-        last_used() = {free_.get(), &slots_[pass], false};
+        recent_slots().places[place_] = {free_.get(), &slots_[pass]};
         return &slots_[pass];
     }
 
     std::unique_ptr<Slot<Words>[]> slots_{};
     size_t count_ = 0;
     std::shared_ptr<FreePasses> free_{};
+    const uint8_t place_ = next_place();
     std::mutex sharing_{};
+    std::atomic<uint64_t> shared_calls_{0};
 };
 
 // From this repetition on, a call sleeps before it is repeated.
@@ -315,6 +326,7 @@ template <size_t Words> class Turns {
     uint64_t keys() const noexcept { return static_cast<uint64_t>(std::max<int64_t>(0, passes_.keys())); }
     uint64_t capacity() const noexcept { return capacity_; }
     Meter meter() const noexcept { return passes_.shared().meter(); }
+    uint64_t shared_calls() const noexcept { return passes_.shared_calls(); }
 
   private:
     static bool is_disturbed(Status status) noexcept { return status == Status::busy || status == Status::held; }

@@ -1,5 +1,5 @@
 // A map knows a key by two words. By default they are a SipHash-1-3 of 128 bits; for a key of up to 8 bytes, one of 64 bits and the key itself. The
-// secret is drawn at the opening.
+// secret is drawn at the opening. A hash of the user's has the two words of SipHash for a key of any size.
 #include "cefrodil_map.hpp"
 #include "must.h"
 #include "sip_vectors.h"
@@ -53,14 +53,38 @@ static void sip_hashes() {
     MUST(cefrodil::SipHash<std::string>()(three, number) == 0xb0dc73387a51665c);
 }
 
-// A key of up to 8 bytes is its own check word.
+struct Halves {
+    uint32_t high, low;
+};
+enum class Colour : uint16_t { red = 0x0100 };
+
+// The two words by which a map without a hash of the user's knows a key, if the kernel gives this secret.
+template <class Key> static HashPair known_by(const Key &key) {
+    cefrodil::inside::Identities<const Key &, cefrodil::SipHash<Key>> identities({});
+    kernel = known_numbers;
+    MUST(identities.draw());
+    kernel = random_numbers;
+    const auto known = identities.of(key);
+    return {known.index, known.check};
+}
+
+// A key of up to 8 bytes is its own check word, to a map that has no other hash. A larger one is not.
 static void small_keys() {
     const uint64_t number = 0x0706050403020100;
-    MUST(is_row(cefrodil::SipHash<uint64_t>()(number, {0, 0}), {sip_1_3[8], number}));
-    MUST(is_row(cefrodil::SipHash<uint64_t>()(number, {number, 0}), {0x5124317f8cfc24cb, number}));
-    MUST(is_row(cefrodil::SipHash<uint16_t>()(0x0100, {0, 0}), {sip_1_3[2], 0x0100}));
-    MUST(is_row(cefrodil::SipHash<std::array<char, 3>>()({0, 1, 2}, {0, 0}), {sip_1_3[3], 0x020100}));
-    MUST(cefrodil::SipHash<int>()(-1, numbered).second == 0xffffffff);
+    const auto hash = [](const void *key, size_t size) { return cefrodil::inside::sip_hash<1, 3>(key, size, numbered); };
+    MUST(is_row(known_by(number), {hash(&number, 8), number}) && is_row(known_by(uint16_t(0x0100)), {hash(&number, 2), 0x0100}));
+    MUST(is_row(known_by(std::array<char, 3>{0, 1, 2}), {hash(&number, 3), 0x020100}));
+    MUST(known_by(-1).second == 0xffffffff && known_by(Colour::red).second == 0x0100 && known_by(&drawn).second == reinterpret_cast<uintptr_t>(&drawn));
+    MUST(is_row(known_by(Halves{0x03020100, 0x07060504}), {hash(&number, 8), number}));
+    MUST(is_row(known_by(std::array<uint64_t, 2>{number, 0x0f0e0d0c0b0a0908}), sip_1_3_128[16]));
+}
+
+// What a hash of the user's calls takes no number for itself.
+static void hashes_of_small_keys() {
+    const uint64_t number = 0x0706050403020100;
+    MUST(is_row(cefrodil::SipHash<uint64_t>()(number, numbered), sip_1_3_128[8]));
+    MUST(is_row(cefrodil::SipHash<uint16_t>()(0x0100, numbered), sip_1_3_128[2]));
+    MUST(is_row(cefrodil::SipHash<std::array<char, 3>>()({0, 1, 2}, numbered), sip_1_3_128[3]));
 }
 
 // Hashes that tell what they were asked with. One has 128 bits, and one has 64.
@@ -145,6 +169,7 @@ static void openings() {
 int main() {
     sip_hashes();
     small_keys();
+    hashes_of_small_keys();
     secrets<TellingPair>(1);
     secrets<TellingSeed>(2);
     default_hashes();

@@ -70,6 +70,43 @@ static void passes() {
     MUST(at_once == 0 && own == 0 && two.call(is_own));
 }
 
+// A thread has a pass of each of its maps, though they are more than it has places for those that it used lately. Claims to maps that have ended
+// make room.
+static void passes_of_many_maps() {
+    constexpr size_t count = 600;
+    std::vector<Numbers> all(count);
+    const auto use_each = [&](uint64_t key) {
+        for (size_t n = 0; n < 3 * count; n++) {
+            Numbers &numbers = all[n % count];
+            MUST(surely([&] { return numbers.insert_or_assign(key, n).status; }) == Status::ok && numbers.find(key) == n);
+        }
+    };
+    const auto are_own = [&] { return std::all_of(all.begin(), all.end(), [](const Numbers &numbers) { return numbers.shared_calls() == 0; }); };
+    for (int round = 0; round < 2; round++) {
+        for (Numbers &numbers : all) {
+            MUST(numbers.close() != Status::held && numbers.open({10, 1, 3}) == Status::ok);
+        }
+        use_each(3);
+        std::thread([&] { use_each(4); }).join();
+        std::thread([&] { use_each(5); }).join();
+        MUST(are_own() && std::all_of(all.begin(), all.end(), [](const Numbers &numbers) { return numbers.size() == 3; }));
+    }
+}
+
+// Calls by the shared pass are counted, and others are not.
+static void shared_calls() {
+    Numbers numbers, alone;
+    MUST(numbers.shared_calls() == 0 && numbers.open({100, 1, 2}) == Status::ok && alone.open({100, 1, 1}) == Status::ok);
+    const auto calls = [](Numbers &called) {
+        const uint64_t before = called.shared_calls();
+        MUST(called.insert_or_assign(1, 10).status == Status::ok && called.find(1) == 10u);
+        return called.shared_calls() - before;
+    };
+    MUST(calls(numbers) == 0 && calls(alone) == 2);
+    std::thread([&] { MUST(calls(numbers) == 2 && calls(alone) == 2); }).join();
+    MUST(calls(numbers) == 0 && numbers.shared_calls() == 2);
+}
+
 // No two threads have the same pass, in whatever order passes come back.
 static void passes_in_any_order() {
     cefrodil::inside::FreePasses passes(4);
@@ -500,6 +537,8 @@ int main(int argc, char **argv) {
     passes();
     passes_in_any_order();
     passes_at_the_end();
+    passes_of_many_maps();
+    shared_calls();
     values(8);
     values(2);
     updates(8);

@@ -8,6 +8,7 @@ use crate::pass::AnyPass;
 use crate::print::Printer;
 use crate::settings::Settings;
 use crate::slots::Slots;
+use crate::tiers::Tiers;
 use crate::wait::TRIES;
 use crate::words::{Layout, MOST};
 use cefrodil::Shape;
@@ -59,9 +60,8 @@ impl<K: ?Sized, V, S> Builder<K, V, S> {
 
     /// What hashes the keys. Each key is hashed twice, with different prefixes. Two keys with the same two hashes are one key to the map, so
     /// all 64 bits must be well spread. If an enemy may choose keys, take a keyed hasher. The default is SipHash-1-3, with a secret by std's
-    /// `RandomState`. It hashes each key once, to 128 bits. If a key's `Hash` writes one integer of up to 64 bits and nothing else, as those of
-    /// an integer, a `char` and a struct of one integer do, the map keeps that integer instead of a second hash. Two such integers are never
-    /// confused.
+    /// `RandomState`. It hashes each key once, to 128 bits. If `K` is an integer of std of up to 64 bits, also a `NonZero` one, a `char` or a
+    /// `bool`, the map keeps the number instead of a second hash. Two such numbers are never confused.
     pub fn hasher<T>(self, hasher: T) -> Builder<K, V, T> {
         Builder { settings: self.settings.hasher(hasher), entries: PhantomData }
     }
@@ -87,6 +87,16 @@ impl<K: ?Sized, V, S> Builder<K, V, S> {
         self.settings.life = Some(life);
         self
     }
+
+    /// Puts new keys into a small table, with a tenth of the entries. A key that is found there moves to the main table. So keys that are used
+    /// once evict none that are used often, and more lookups hit, most of all where many keys are used once or in scans.
+    ///
+    /// A lookup that misses the main table looks into the small one, too. If it finds the key there, it moves it: that is a write, for which
+    /// another entry may be evicted. A write of a key looks into both tables. The default is one table.
+    pub fn small_table(mut self) -> Self {
+        self.settings.small_table = true;
+        self
+    }
 }
 
 impl<K: ?Sized, V: Copy + Send + Sync + 'static, S: BuildHasher> Builder<K, V, S> {
@@ -103,19 +113,34 @@ impl<K: ?Sized, V: Copy + Send + Sync + 'static, S: BuildHasher> Builder<K, V, S
     /// Opens the map with shards of this shape, and calls that try so often.
     pub(crate) fn open_shaped(self, shape: &Shape, shards: u32, tries: u32) -> Result<Map<K, V, S>, OpenError> {
         const { assert!(Layout::Plain.width::<V>() <= MOST, "a value has at most 56 bytes") };
-        let count = self.settings.passes();
+        let width = Layout::of(self.settings.life).width::<V>();
+        let mut passes = AnyPass::open(width, shape, shards, self.settings.passes()).map_err(OpenError::of)?;
+        let mut capacity = passes[0].capacity();
+        let slots = Arc::new(Slots::new(passes));
+        let mut tiers = None;
+        if self.settings.small_table {
+            let mut small = self.small_passes(width)?;
+            capacity += small[0].capacity();
+            tiers = Some(Tiers::new(Arc::clone(&slots), small, capacity));
+        }
         let Settings { hasher, once, life, .. } = self.settings;
-        let width = Layout::of(life).width::<V>();
-        let mut passes = AnyPass::open(width, shape, shards, count).map_err(OpenError::of)?;
         Ok(Map::of(Inner {
-            capacity: passes[0].capacity(),
-            slots: Arc::new(Slots::new(passes)),
+            capacity,
+            slots,
+            tiers,
             flights: Flights::new(),
             clock: Clock::new(),
             printer: if once { Printer::once(hasher) } else { Printer::twice(hasher) },
             life,
             tries,
         }))
+    }
+}
+
+impl<K: ?Sized, V, S> Builder<K, V, S> {
+    fn small_passes(&self, width: usize) -> Result<Vec<AnyPass>, OpenError> {
+        let (shape, shards) = self.settings.small_shape()?;
+        AnyPass::open(width, &shape, shards, self.settings.passes()).map_err(OpenError::of)
     }
 }
 

@@ -3,6 +3,7 @@ use crate::error::ClearError;
 use crate::map::Map;
 use crate::pass::AnyPass;
 use crate::stats::Kind;
+use crate::tiers::SmallPass;
 use crate::wait::LISTS;
 use cefrodil::Removal;
 
@@ -32,8 +33,11 @@ impl<K: ?Sized, V: Copy, S> Map<K, V, S> {
         let slots = &self.inner.slots;
         self.inner.flights.detach_all();
         let remove_all = || -> Result<(), ClearError> {
-            for key in slots.in_turn(lists, || slots.call(AnyPass::keys)).map_err(ClearError::of_list)? {
-                let removed = slots.in_turn(tries, || slots.call(|pass| pass.remove(key)));
+            for key in self.keys(lists, tries)? {
+                let removed = slots.in_turn(tries, || match &self.inner.tiers {
+                    Some(tiers) => tiers.remove(key),
+                    None => slots.call(|pass| pass.remove(key)),
+                });
                 if let Removal::Removed { .. } = removed.map_err(ClearError::of_removal)? {
                     slots.count(Kind::Removed);
                 }
@@ -41,5 +45,16 @@ impl<K: ?Sized, V: Copy, S> Map<K, V, S> {
             Ok(())
         };
         remove_all().inspect_err(|_| slots.count(Kind::Refused))
+    }
+
+    // Of the small table first: from there a key goes to the main one. One that was on its way has come there, too, when that is listed.
+    fn keys(&self, lists: u32, tries: u32) -> Result<Vec<u64>, ClearError> {
+        let mut keys = Vec::new();
+        if let Some(tiers) = &self.inner.tiers {
+            keys = self.inner.slots.in_turn(lists, || tiers.small().call(SmallPass::keys)).map_err(ClearError::of_list)?;
+            tiers.wait_for_moves(tries).map_err(ClearError::of_list)?;
+        }
+        keys.extend(self.inner.slots.in_turn(lists, || self.inner.slots.call(AnyPass::keys)).map_err(ClearError::of_list)?);
+        Ok(keys)
     }
 }

@@ -79,7 +79,7 @@ impl<K: ?Sized, V: Copy + Send + Sync + 'static, S: BuildHasher> Map<K, V, S> {
     }
 }
 
-impl<V: Copy, S: BuildHasher> Inner<V, S> {
+impl<K: ?Sized, V: Copy, S: BuildHasher> Inner<K, V, S> {
     // A lookup that isn't counted.
     fn find(&self, print: Print, tries: u32) -> Option<V> {
         match self.look(print, tries)? {

@@ -72,7 +72,7 @@ pub enum UpdateError {
     Insert(InsertError),
 }
 
-/// Why the map was not cleared. Entries may be left: call again, or don't rely on the map.
+/// Why the entries were not listed or removed. By `clear` some may be left: call again, or don't rely on the map.
 #[derive(Clone, Copy, Debug, PartialEq, Eq, Hash)]
 #[non_exhaustive]
 pub enum ClearError {

@@ -53,8 +53,9 @@ pub(crate) struct Leader<'a, V: Copy> {
     flight: Arc<Flight<V>>,
 }
 
-// Differs for any two threads that live at the same time.
-fn this_thread() -> usize {
+/// Differs for any two threads that live at the same time.
+#[inline]
+pub(crate) fn this_thread() -> usize {
     thread_local!(static PLACE: u8 = const { 0 });
     PLACE.with(|place| ptr::from_ref(place) as usize)
 }

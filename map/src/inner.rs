@@ -7,6 +7,7 @@ use crate::pass::{AnyPass, MANY};
 use crate::print::{Print, Printer};
 use crate::slots::Slots;
 use crate::stats::Kind;
+use crate::tiers::{Miss, Tiers, OF_SMALL};
 use crate::wait::LOOKS;
 use crate::words::{check, deadline, Entry, Layout, Seen, Words};
 use cefrodil::{PutIfError, Reply, TurnError};
@@ -14,11 +15,14 @@ use std::hash::{BuildHasher, Hash};
 use std::sync::Arc;
 use std::time::Duration;
 
-pub(crate) struct Inner<V, S> {
+pub(crate) struct Inner<K: ?Sized, V, S> {
+    /// Passes of the main table.
     pub slots: Arc<Slots<AnyPass>>,
+    /// With a small table: both of them.
+    pub tiers: Option<Tiers>,
     pub flights: Flights<V>,
     pub clock: Clock,
-    pub printer: Printer<S>,
+    pub printer: Printer<K, S>,
     /// The time to live of what is put. Without one, entries have no deadline.
     pub life: Option<Duration>,
     pub capacity: usize,
@@ -37,7 +41,7 @@ pub(crate) enum Found<V> {
     Absent,
 }
 
-impl<V: Copy, S: BuildHasher> Inner<V, S> {
+impl<K: ?Sized, V: Copy, S: BuildHasher> Inner<K, V, S> {
     #[inline]
     pub fn print<Q: Hash + ?Sized>(&self, key: &Q) -> Print {
         self.printer.print(key)
@@ -66,7 +70,49 @@ impl<V: Copy, S: BuildHasher> Inner<V, S> {
     /// Looks the key up. `None`: each try was busy. It isn't counted.
     pub fn look(&self, print: Print, tries: u32) -> Option<Found<V>> {
         let look = |pass: &mut AnyPass| AnyPass::get::<V, _>(pass, print.key, self.layout(), |seen| self.found(print, seen));
-        self.slots.call(look).or_else(|| self.look_again(print, tries - 1))
+        let found = self.slots.call(look).or_else(|| self.look_again(print, tries - 1))?;
+        self.look_further(print, found, tries)
+    }
+
+    // What there is of the key, if this was found in the main table.
+    fn look_further(&self, print: Print, found: Found<V>, tries: u32) -> Option<Found<V>> {
+        match found {
+            Found::Absent => self.look_after(print, self.miss(print), tries),
+            found => Some(found),
+        }
+    }
+
+    #[inline]
+    fn miss(&self, print: Print) -> Miss {
+        self.tiers.as_ref().map_or(Miss::Yes, |tiers| tiers.miss(print.key))
+    }
+
+    // What there is of a key that the main table didn't have, after this miss.
+    fn look_after(&self, print: Print, miss: Miss, tries: u32) -> Option<Found<V>> {
+        match (&self.tiers, miss) {
+            (Some(tiers), Miss::No) => self.slots.within(tries, || self.found(print, Seen::of(&mut tiers.look_small(print.key)))),
+            (Some(_), Miss::Moved) => self.look_again(print, tries),
+            _ => Some(Found::Absent),
+        }
+    }
+
+    /// Whether no table has the key, after a lookup that missed it. `None`: other threads disturbed each try.
+    pub fn lacks(&self, print: Print, tries: u32) -> Option<bool> {
+        match &self.tiers {
+            Some(tiers) => self.slots.within(tries, || tiers.lacks(print.key)),
+            None => Some(true),
+        }
+    }
+
+    /// Moves the key to the main table if it was found in the small one. Returns whether it may have moved.
+    pub fn promote(&self, print: Print, found: Option<&Found<V>>, tries: u32) -> bool {
+        match (&self.tiers, found) {
+            (Some(tiers), Some(Found::Live(_, since))) if since & OF_SMALL != 0 => {
+                tiers.promote(print.key, tries);
+                true
+            }
+            _ => false,
+        }
     }
 
     #[cold]
@@ -109,17 +155,18 @@ impl<V: Copy, S: BuildHasher> Inner<V, S> {
     fn get_laid<const TIMED: bool, R>(&self, print: Print, tries: u32, told: impl FnOnce(Result<Option<V>, GetError>) -> R) -> R {
         let layout = if TIMED { Layout::Timed } else { Layout::Plain };
         let Some((pass, counts)) = self.slots.own() else {
-            return told(self.counted(self.look(print, tries)));
+            return told(self.used(print, self.look(print, tries), tries));
         };
         AnyPass::get::<V, _>(pass, print.key, layout, |seen| match seen {
             Seen::Entry(words, _) if check(words) == print.check && !self.clock.has_passed(deadline(words, layout)) => {
                 counts.add_alone(Kind::Hit);
                 told(Ok(Some(Entry::of(words, layout).value)))
             }
-            Seen::Absent => {
+            Seen::Absent if self.tiers.is_none() => {
                 counts.add_alone(Kind::Miss);
                 told(Ok(None))
             }
+            Seen::Absent => told(self.get_young(print, tries)),
             other => told(self.get_again(print, other, tries)),
         })
     }
@@ -127,7 +174,26 @@ impl<V: Copy, S: BuildHasher> Inner<V, S> {
     // Counts what the first of so many tries saw, or looks again.
     #[cold]
     fn get_again(&self, print: Print, first: Seen, tries: u32) -> Result<Option<V>, GetError> {
-        self.counted(self.found(print, first).or_else(|| self.look_again(print, tries - 1)))
+        let found = self.found(print, first).or_else(|| self.look_again(print, tries - 1));
+        self.used(print, found.and_then(|found| self.look_further(print, found, tries)), tries)
+    }
+
+    // What the small table has of a key that the main one didn't have.
+    #[cold]
+    fn get_young(&self, print: Print, tries: u32) -> Result<Option<V>, GetError> {
+        match self.miss(print) {
+            Miss::Yes => {
+                self.slots.count(Kind::Miss);
+                Ok(None)
+            }
+            miss => self.used(print, self.look_after(print, miss, tries), tries),
+        }
+    }
+
+    // Counts a lookup, and moves the key if it was found in the small table.
+    fn used(&self, print: Print, found: Option<Found<V>>, tries: u32) -> Result<Option<V>, GetError> {
+        self.promote(print, found.as_ref(), tries);
+        self.counted(found)
     }
 
     /// Looks up to `MANY` keys up by one call of the index, and counts each. A key that is busy is looked up again by itself.
@@ -138,8 +204,27 @@ impl<V: Copy, S: BuildHasher> Inner<V, S> {
         self.slots.call(|pass| pass.get_many(keys, replies));
         values.extend(prints.iter().zip(replies).map(|(print, reply)| {
             let found = self.found(*print, Seen::of(reply)).or_else(|| self.look_again(*print, self.looks() - 1));
-            self.counted(found).unwrap_or(None)
+            match found {
+                // The small table is looked at right after the main one, and not after other keys.
+                Some(Found::Absent) if self.tiers.is_some() => self.get(*print, self.looks(), |told| told).unwrap_or(None),
+                found => self.counted(found).unwrap_or(None),
+            }
         }));
+    }
+
+    /// Looks the key up, which is no use of it, and counts nothing.
+    pub fn peek(&self, print: Print, tries: u32) -> Result<Option<V>, GetError> {
+        let found = self.slots.within(tries, || {
+            let mut reply = match &self.tiers {
+                Some(tiers) => tiers.peek(print.key),
+                None => self.slots.call(|pass| pass.peek(print.key)),
+            };
+            self.found(print, Seen::of(&mut reply))
+        });
+        match found.ok_or(GetError::Busy)? {
+            Found::Live(entry, _) => Ok(Some(entry.value)),
+            Found::Expired(_) | Found::Other(_) | Found::Absent => Ok(None),
+        }
     }
 
     fn counted(&self, found: Option<Found<V>>) -> Result<Option<V>, GetError> {
@@ -179,7 +264,11 @@ impl<V: Copy, S: BuildHasher> Inner<V, S> {
         let print = self.print(key);
         let words = self.words(print, value, self.deadline(life));
         self.flights.detach(print);
-        match self.slots.in_turn(tries, || self.slots.call(|pass| pass.put(print.key, &words))) {
+        let put = self.slots.in_turn(tries, || match &self.tiers {
+            Some(tiers) => tiers.put(print.key, &words),
+            None => self.slots.call(|pass| pass.put(print.key, &words)),
+        });
+        match put {
             Ok(put) => Ok(self.slots.count_put(put)),
             Err(why) => Err(self.refused(InsertError::of(why))),
         }
@@ -192,10 +281,19 @@ impl<V: Copy, S: BuildHasher> Inner<V, S> {
             let (value, since) = match self.look(print, tries) {
                 Some(Found::Live(entry, since)) => (Some(entry.value), since),
                 Some(Found::Expired(since)) => (None, since),
-                Some(Found::Absent | Found::Other(_)) => return Ok(None),
+                Some(Found::Other(_)) => return Ok(None),
+                Some(Found::Absent) => match self.lacks(print, tries) {
+                    Some(true) => return Ok(None),
+                    Some(false) => continue,
+                    None => return Err(self.refused(RemoveError::Held)),
+                },
                 None => return Err(self.refused(RemoveError::Busy)),
             };
-            match self.slots.in_turn(tries, || self.slots.call(|pass| pass.take_if(print.key, since))) {
+            let taken = self.slots.in_turn(tries, || match &self.tiers {
+                Some(tiers) => tiers.take_if(print.key, since),
+                None => self.slots.call(|pass| pass.take_if(print.key, since)).map(|taken| taken.at),
+            });
+            match taken {
                 Ok(_) => {
                     self.slots.count(Kind::Removed);
                     return Ok(value);

@@ -9,14 +9,17 @@ use std::borrow::Borrow;
 use std::collections::hash_map::RandomState;
 use std::fmt::{self, Debug, Formatter};
 use std::hash::{BuildHasher, Hash};
-use std::marker::PhantomData;
 use std::sync::Arc;
 use std::time::Duration;
 
-/// A bounded cache from keys `K` to copies of `V`, for any number of threads. A clone is the same map.
+/// A bounded cache from keys `K`, whose `Hash` must write all that their `Eq` compares, to copies of `V`, for any number of threads.
 ///
-/// A key is hashed and not kept, so each call borrows it, and `K` may be unsized: `Map<str, u64>` works. A value has at most 56 bytes, or
-/// 48 in a map with a time to live; a larger one doesn't compile:
+/// The map keeps and compares no keys. Two keys that write the same when they are hashed are one key to it, though they differ. A derived
+/// `Hash` writes all. std's `Path` and `TypeId` don't: `/a` and `a` write the same. Nor does a type that writes a hash of its own. For such
+/// keys take an `ObjectMap`, of the feature `objects`: it compares keys.
+///
+/// A clone is the same map. Each call borrows its key, and `K` may be unsized: `Map<str, u64>` works. A value has at most 56 bytes, or 48 in
+/// a map with a time to live; a larger one doesn't compile:
 ///
 /// ```compile_fail,E0080
 /// let _ = cefrodil_map::Map::<u64, [u8; 57]>::new(100);
@@ -41,8 +44,7 @@ use std::time::Duration;
 /// [`contains_key`]: Map::contains_key
 /// [`get_or_insert_with`]: Map::get_or_insert_with
 pub struct Map<K: ?Sized, V, S = RandomState> {
-    pub(crate) inner: Arc<Inner<V, S>>,
-    keys: PhantomData<fn(&K)>,
+    pub(crate) inner: Arc<Inner<K, V, S>>,
 }
 
 /// What a successful `insert` did.
@@ -116,6 +118,19 @@ impl<K: ?Sized, V: Copy + Send + Sync + 'static, S: BuildHasher> Map<K, V, S> {
         let mut values = Vec::with_capacity(prints.len());
         prints.chunks(MANY).for_each(|prints| self.inner.get_many(prints, &mut values));
         values
+    }
+
+    /// The key's value, which doesn't count as used: it is evicted as if nobody had looked. [`stats`](Map::stats) doesn't count the call. It takes
+    /// the turn at the key's shard, as a write does.
+    ///
+    /// # Errors
+    ///
+    /// [`GetError::Busy`]: other threads had the turn at each try.
+    pub fn peek<Q: Hash + ?Sized>(&self, key: &Q) -> Result<Option<V>, GetError>
+    where
+        K: Borrow<Q>,
+    {
+        self.inner.peek(self.inner.print(key), self.inner.tries)
     }
 
     /// Whether the key has a value, which then counts as used lately.
@@ -200,8 +215,8 @@ impl<K: ?Sized, V: Copy + Send + Sync + 'static, S: BuildHasher> Map<K, V, S> {
 }
 
 impl<K: ?Sized, V, S> Map<K, V, S> {
-    pub(crate) fn of(inner: Inner<V, S>) -> Map<K, V, S> {
-        Map { inner: Arc::new(inner), keys: PhantomData }
+    pub(crate) fn of(inner: Inner<K, V, S>) -> Map<K, V, S> {
+        Map { inner: Arc::new(inner) }
     }
 
     /// The most entries that the map holds: what was asked for, or more. Shards fill unevenly, so it may evict before it has so many.
@@ -225,13 +240,17 @@ impl<K: ?Sized, V, S> Map<K, V, S> {
     /// What the calls of all threads came to.
     #[must_use]
     pub fn stats(&self) -> Stats {
-        self.inner.slots.stats()
+        let mut stats = self.inner.slots.stats();
+        if let Some(tiers) = &self.inner.tiers {
+            stats.shared += tiers.small().stats().shared;
+        }
+        stats
     }
 }
 
 impl<K: ?Sized, V, S> Clone for Map<K, V, S> {
     fn clone(&self) -> Map<K, V, S> {
-        Map { inner: Arc::clone(&self.inner), keys: PhantomData }
+        Map { inner: Arc::clone(&self.inner) }
     }
 }
 

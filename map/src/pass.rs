@@ -91,6 +91,20 @@ impl AnyPass {
         any!(self, pass => wide_reply(pass.get_or_desk(key)))
     }
 
+    /// Looks the key up in a turn, which is no use of it. `Busy`: the try did not win.
+    pub fn peek(&mut self, key: u64) -> Reply<MOST> {
+        any!(self, pass => pass.try_peek(key).map_or(Reply::Busy, wide_reply))
+    }
+
+    /// Whether the key is there. `None`: the lookup was busy.
+    pub fn has(&mut self, key: u64) -> Option<bool> {
+        any!(self, pass => match pass.get_or_desk(key) {
+            Reply::Found { .. } => Some(true),
+            Reply::Absent { .. } => Some(false),
+            Reply::Busy => None,
+        })
+    }
+
     pub fn put(&mut self, key: u64, words: &Words) -> Result<Put, TurnError<PutError>> {
         any!(self, pass => pass.try_put(key, narrow(words)))
     }

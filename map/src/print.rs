@@ -1,6 +1,8 @@
 //! The two words by which the map knows a key.
+use crate::number::is_number;
 use crate::sip::{Secret, Sip};
 use std::hash::{BuildHasher, Hash, Hasher};
+use std::marker::PhantomData;
 
 /// A key's two words. The map keeps no keys, so two keys with the same print are one key to it.
 #[derive(Clone, Copy, Debug, PartialEq, Eq)]
@@ -19,29 +21,31 @@ impl Print {
     }
 }
 
-/// How keys are hashed.
-pub(crate) struct Printer<S> {
+/// How keys of the type `K` are hashed.
+pub(crate) struct Printer<K: ?Sized, S> {
     hasher: S,
     // With a secret, keys are hashed by this crate's SipHash, and not by `hasher`.
     secret: Option<Secret>,
+    keys: PhantomData<fn(&K)>,
 }
 
 // What is hashed before the key, or for a word of a secret. The two must differ.
 const KEY: u64 = 0;
 const CHECK: u64 = 1;
 
-impl<S: BuildHasher> Printer<S> {
+impl<K: ?Sized, S: BuildHasher> Printer<K, S> {
     /// Hashes a key once, by SipHash-1-3. The hasher must be keyed, as std's is: it makes the secret.
-    pub fn once(hasher: S) -> Printer<S> {
+    pub fn once(hasher: S) -> Printer<K, S> {
         let secret = Some(Secret(hasher.hash_one(KEY), hasher.hash_one(CHECK)));
-        Printer { hasher, secret }
+        Printer { hasher, secret, keys: PhantomData }
     }
 
     /// Hashes a key twice, after different words.
-    pub fn twice(hasher: S) -> Printer<S> {
-        Printer { hasher, secret: None }
+    pub fn twice(hasher: S) -> Printer<K, S> {
+        Printer { hasher, secret: None, keys: PhantomData }
     }
 
+    /// The print of a key, or of what a key is borrowed as. Both are hashed alike, and `K` alone says how.
     #[inline(always)]
     pub fn print<Q: Hash + ?Sized>(&self, key: &Q) -> Print {
         let Some(secret) = self.secret else {
@@ -49,12 +53,15 @@ impl<S: BuildHasher> Printer<S> {
         };
         let mut state = PrintHasher::new(secret);
         key.hash(&mut state);
-        state.print()
+        if is_number::<K>() {
+            state.number_print()
+        } else {
+            state.print()
+        }
     }
 }
 
-/// Makes the print of what it is given. A single number of up to 64 bits is its own check word, so no two numbers have the same print. Of
-/// anything else, the print is a SipHash of 128 bits.
+/// Makes the print of what it is given.
 #[derive(Clone)]
 pub(crate) struct PrintHasher {
     secret: Secret,
@@ -73,14 +80,21 @@ impl PrintHasher {
         PrintHasher { secret, sip: Sip::new(secret), parts: 0, number: 0, size: 0 }
     }
 
+    /// The SipHash of 128 bits of all that was given.
     #[inline(always)]
     pub fn print(self) -> Print {
+        let (key, check) = self.sip.pair();
+        Print { key, check }
+    }
+
+    /// The print of a key that is a number of up to 64 bits. The number is its own check word, so no two numbers have the same print.
+    #[inline(always)]
+    pub fn number_print(self) -> Print {
         if self.parts == 1 {
             // The same number in another size has the same check word, so the key differs.
             return Print { key: self.secret.hash(self.number) ^ (8 - self.size) as u64, check: self.number };
         }
-        let (key, check) = self.sip.pair();
-        Print { key, check }
+        self.print()
     }
 
     // Takes a number of up to 8 bytes.
@@ -99,7 +113,7 @@ impl PrintHasher {
     }
 }
 
-/// Each call gives `sip` the bytes that std's SipHash takes. The print of a single number is not made from them.
+/// Each call gives `sip` the bytes that std's SipHash takes. `number_print` of a single number is not made from them.
 impl Hasher for PrintHasher {
     #[inline(always)]
     fn write(&mut self, bytes: &[u8]) {

@@ -20,6 +20,9 @@ const SMALL: u32 = 256;
 const STRIPES: u32 = 4096;
 const STRIPES_OF_A_SHARD: u32 = 64;
 
+/// A small table holds so great a part of the entries.
+const SMALL_PART: usize = 10;
+
 pub(crate) struct Settings<S> {
     pub capacity: usize,
     pub shards: Option<u32>,
@@ -28,24 +31,48 @@ pub(crate) struct Settings<S> {
     /// Whether a key is hashed once for its two words: not by a hasher of the user's.
     pub once: bool,
     pub life: Option<Duration>,
+    /// Whether new keys go to a small table first.
+    pub small_table: bool,
 }
 
 impl Settings<RandomState> {
     pub fn new(capacity: usize) -> Settings<RandomState> {
-        Settings { capacity, shards: None, threads: THREADS, hasher: RandomState::new(), once: true, life: None }
+        Settings {
+            capacity,
+            shards: None,
+            threads: THREADS,
+            hasher: RandomState::new(),
+            once: true,
+            life: None,
+            small_table: false,
+        }
     }
 }
 
 impl<S> Settings<S> {
     pub fn hasher<T>(self, hasher: T) -> Settings<T> {
-        let Settings { capacity, shards, threads, life, .. } = self;
-        Settings { capacity, shards, threads, hasher, once: false, life }
+        let Settings { capacity, shards, threads, life, small_table, .. } = self;
+        Settings { capacity, shards, threads, hasher, once: false, life, small_table }
     }
 
-    /// How many shards to open, and the shape of each.
+    /// How many shards to open, and the shape of each. With a small table, it holds a part of the entries.
     pub fn shape(&self) -> Result<(Shape, u32), OpenError> {
-        let shards = self.shards.unwrap_or_else(|| shards_for(self.capacity));
-        let capacity = u32::try_from(self.capacity).unwrap_or(u32::MAX);
+        let capacity = if self.small_table { self.capacity.saturating_sub(self.small_capacity()).max(1) } else { self.capacity };
+        self.shape_for(self.capacity.min(capacity), self.shards.unwrap_or_else(|| shards_for(capacity)))
+    }
+
+    /// Those of the small table.
+    pub fn small_shape(&self) -> Result<(Shape, u32), OpenError> {
+        let capacity = self.small_capacity();
+        self.shape_for(capacity, shards_for(capacity))
+    }
+
+    fn small_capacity(&self) -> usize {
+        (self.capacity / SMALL_PART).max(1)
+    }
+
+    fn shape_for(&self, capacity: usize, shards: u32) -> Result<(Shape, u32), OpenError> {
+        let capacity = u32::try_from(capacity).unwrap_or(u32::MAX);
         let shape = if shards == 1 { Shape::for_items(capacity) } else { Shape::for_shards(capacity, shards) };
         let mut shape = shape.map_err(OpenError::of)?;
         if shape.items < SMALL {

@@ -8,6 +8,8 @@ use crate::stats::{Counts, Kind, Stats};
 use crate::wait::{self, SLEEPS_FROM};
 use cefrodil::{Put, TurnError};
 use std::cell::{Cell, RefCell, RefMut};
+use std::collections::HashMap;
+use std::hash::{BuildHasherDefault, Hasher};
 use std::iter::once;
 use std::panic::RefUnwindSafe;
 use std::process;
@@ -39,7 +41,7 @@ struct Slot<P> {
 // SAFETY: `counts` is `Sync`, so this is about `pass`. Only `Slots::own` touches it, and only in the slot that the calling thread has
 // claimed (`mine`). A `RefMut` stays in its thread, and each call of the map drops its own before it returns. At most one thread has
 // claimed a slot: its index begins in `free`, `take_free` takes it out for the thread that claims it, and it goes back at that thread's
-// end (`Claims::drop`). The thread doesn't use it again: by then `LAST` is reset, and `CLAIMS` can not be reached any more. `LAST` is never
+// end (`Claims::drop`). The thread doesn't use it again: by then `RECENT` is reset, and `CLAIMS` can not be reached any more. `RECENT` is never
 // of another map, since ids differ. The mutex of `free` orders what two threads do with a slot one after the other, and the pass may move
 // to another thread (`Send`).
 unsafe impl<P: Send> Sync for Slot<P> {}
@@ -157,9 +159,9 @@ impl<P: 'static> Slots<P> {
     /// The index of that slot. No two threads have the same one at a time.
     #[inline]
     pub fn index(self: &Arc<Self>) -> Option<usize> {
-        let (id, index) = LAST.get();
-        if id == self.id {
-            Some(index)
+        let recent = RECENT.with(|recent| recent[place_of(self.id)].get());
+        if recent.id == self.id {
+            Some(recent.index)
         } else {
             self.find()
         }
@@ -169,7 +171,7 @@ impl<P: 'static> Slots<P> {
     fn find(self: &Arc<Self>) -> Option<usize> {
         // An error: the thread is ending, and has given its slots back.
         let index = CLAIMS.try_with(|claims| claims.find(self)).ok()??;
-        LAST.set((self.id, index));
+        RECENT.with(|recent| recent[place_of(self.id)].set(Recent { id: self.id, index }));
         Some(index)
     }
 }
@@ -209,42 +211,84 @@ impl<P> Slot<P> {
     }
 }
 
+/// A map, and the index of the slot there that the thread has claimed.
+#[derive(Clone, Copy)]
+struct Recent {
+    id: u64,
+    index: usize,
+}
+
+impl Recent {
+    /// No map has this id.
+    const NONE: Recent = Recent { id: 0, index: 0 };
+}
+
+/// Maps that are opened one after the other have different places, up to so many.
+const PLACES: usize = 256;
+
+#[inline]
+fn place_of(id: u64) -> usize {
+    id as usize % PLACES
+}
+
 /// A slot that this thread has claimed.
 struct Claim {
-    id: u64,
     index: usize,
     slots: Weak<dyn Home>,
 }
 
-/// All slots that this thread has claimed, of any map.
-struct Claims(RefCell<Vec<Claim>>);
+/// All slots that this thread has claimed, by the ids of their maps.
+#[derive(Default)]
+struct Claims(RefCell<HashMap<u64, Claim, BuildHasherDefault<IdHasher>>>);
+
+/// Spreads ids, which come one after the other.
+#[derive(Default)]
+struct IdHasher(u64);
+
+impl Hasher for IdHasher {
+    fn write(&mut self, _: &[u8]) {
+        unreachable!("an id is a number of 64 bits")
+    }
+
+    #[inline]
+    fn write_u64(&mut self, id: u64) {
+        // An odd number whose bits look random: 2^64 by the golden ratio.
+        self.0 = id.wrapping_mul(0x9e37_79b9_7f4a_7c15);
+    }
+
+    #[inline]
+    fn finish(&self) -> u64 {
+        self.0
+    }
+}
 
 thread_local! {
-    // The map that the thread used last, and its slot there. No map has the id 0.
-    static LAST: Cell<(u64, usize)> = const { Cell::new((0, 0)) };
-    static CLAIMS: Claims = const { Claims(RefCell::new(Vec::new())) };
+    // Maps that the thread used lately, each at the place of its id.
+    static RECENT: [Cell<Recent>; PLACES] = const { [const { Cell::new(Recent::NONE) }; PLACES] };
+    static CLAIMS: Claims = Claims::default();
 }
 
 impl Claims {
+    #[inline]
     fn find<P: 'static>(&self, slots: &Arc<Slots<P>>) -> Option<usize> {
         let mut claims = self.0.try_borrow_mut().ok()?;
-        if let Some(claim) = claims.iter().find(|claim| claim.id == slots.id) {
+        if let Some(claim) = claims.get(&slots.id) {
             return Some(claim.index);
         }
         let index = slots.take_free()?;
         // Claims of maps that are gone.
-        claims.retain(|claim| claim.slots.strong_count() > 0);
+        claims.retain(|_, claim| claim.slots.strong_count() > 0);
         // In two steps, since only a `Weak` of a known type becomes one of any type.
         let home: Weak<Slots<P>> = Arc::downgrade(slots);
-        claims.push(Claim { id: slots.id, index, slots: home });
+        claims.insert(slots.id, Claim { index, slots: home });
         Some(index)
     }
 }
 
 impl Drop for Claims {
     fn drop(&mut self) {
-        LAST.set((0, 0));
-        for claim in self.0.take() {
+        RECENT.with(|recent| recent.iter().for_each(|place| place.set(Recent::NONE)));
+        for claim in self.0.take().into_values() {
             if let Some(slots) = claim.slots.upgrade() {
                 slots.give_back(claim.index);
             }

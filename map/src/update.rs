@@ -4,6 +4,7 @@ use crate::inner::{Found, Inner};
 use crate::map::Map;
 use crate::print::Print;
 use crate::stats::Kind;
+use crate::wait::LOOKS;
 use crate::words::Words;
 use cefrodil::{PutIfAbsentError, PutIfError, TurnError};
 use std::borrow::Borrow;
@@ -93,7 +94,7 @@ impl<K: ?Sized, V: Copy + Send + Sync + 'static, S: BuildHasher> Map<K, V, S> {
     }
 }
 
-impl<V: Copy, S: BuildHasher> Inner<V, S> {
+impl<K: ?Sized, V: Copy, S: BuildHasher> Inner<K, V, S> {
     fn update<Q: Hash + ?Sized>(&self, key: &Q, tries: u32, mut change: impl FnMut(Option<V>) -> V) -> Result<V, UpdateError> {
         let new = self.change_detached(self.print(key), tries, None, |old| Some(change(old)))?;
         Ok(new.expect("`change` always gives a value"))
@@ -125,10 +126,18 @@ impl<V: Copy, S: BuildHasher> Inner<V, S> {
         mut change: impl FnMut(Option<V>) -> Option<V>,
     ) -> Result<Option<V>, UpdateError> {
         for _ in 0..tries {
-            let (old, since) = match self.look(print, tries).ok_or(UpdateError::Busy)? {
+            let mut found = self.look(print, tries);
+            if self.promote(print, found.as_ref(), tries.min(LOOKS)) {
+                found = self.look(print, tries);
+            }
+            let (old, since) = match found.ok_or(UpdateError::Busy)? {
                 Found::Live(entry, since) => (Some(entry), Some(since)),
                 Found::Expired(since) | Found::Other(since) => (None, Some(since)),
-                Found::Absent => (None, None),
+                Found::Absent => match self.lacks(print, tries) {
+                    Some(true) => (None, None),
+                    Some(false) => continue,
+                    None => return Err(InsertError::Held.into()),
+                },
             };
             let Some(new) = change(old.map(|entry| entry.value)) else { return Ok(None) };
             let deadline = match (anew, old) {
@@ -145,7 +154,11 @@ impl<V: Copy, S: BuildHasher> Inner<V, S> {
     // Puts the words if the key's last put was at the moment `since`, or if the key is absent. `false`: another thread was first.
     fn put_over(&self, print: Print, since: Option<u64>, words: &Words, tries: u32) -> Result<bool, InsertError> {
         let Some(since) = since else { return self.put_absent(print, words, tries) };
-        match self.slots.in_turn(tries, || self.slots.call(|pass| pass.put_if(print.key, since, words))) {
+        let put = self.slots.in_turn(tries, || match &self.tiers {
+            Some(tiers) => tiers.put_if(print.key, since, words),
+            None => self.slots.call(|pass| pass.put_if(print.key, since, words)),
+        });
+        match put {
             Ok(_) => {
                 self.slots.count(Kind::Renewed);
                 Ok(true)
@@ -157,7 +170,11 @@ impl<V: Copy, S: BuildHasher> Inner<V, S> {
     }
 
     fn put_absent(&self, print: Print, words: &Words, tries: u32) -> Result<bool, InsertError> {
-        match self.slots.in_turn(tries, || self.slots.call(|pass| pass.put_if_absent(print.key, words))) {
+        let put = self.slots.in_turn(tries, || match &self.tiers {
+            Some(tiers) => tiers.put_if_absent(print.key, words),
+            None => self.slots.call(|pass| pass.put_if_absent(print.key, words)),
+        });
+        match put {
             Ok(put) => {
                 self.slots.count_put(put);
                 Ok(true)

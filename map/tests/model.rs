@@ -102,6 +102,11 @@ fn write(map: &Map<u64, u64>, model: &mut Model, key: u64, number: u64, kind: u6
     }
 }
 
+// Twice, since with a small table the first lookup of a key may evict another one.
+fn look_at_all(map: &Map<u64, u64>, model: &mut Model) {
+    (0..2 * KEYS).map(|number| number % KEYS).for_each(|key| model.looked(key, map.get(&key)));
+}
+
 fn agrees(map: &Map<u64, u64>, evicts: bool) {
     let (mut model, mut seed) = (Model::default(), 88_172_645_463_325_252);
     for number in 0..CALLS {
@@ -111,7 +116,7 @@ fn agrees(map: &Map<u64, u64>, evicts: bool) {
             _ => write(map, &mut model, key, number, kind - 7),
         }
         if number % 7_919 == 0 {
-            (0..KEYS).for_each(|key| model.looked(key, map.get(&key)));
+            look_at_all(map, &mut model);
             assert_eq!(map.len(), model.values.len());
             map.clear().unwrap();
             model.values.clear();
@@ -119,7 +124,7 @@ fn agrees(map: &Map<u64, u64>, evicts: bool) {
             model.misses += KEYS;
         }
     }
-    (0..KEYS).for_each(|key| model.looked(key, map.get(&key)));
+    look_at_all(map, &mut model);
     let stats = map.stats();
     assert_eq!((map.len(), stats.evicted), (model.values.len(), model.lost));
     assert_eq!((stats.hits, stats.misses, stats.renewed), (model.hits, model.misses, model.renewed));
@@ -145,6 +150,18 @@ fn small_shards_agree_with_a_model() {
 #[test]
 fn a_large_map_agrees_with_a_model() {
     agrees(&Map::new(10_000).unwrap(), false);
+    agrees(&Map::builder(10_000).small_table().open().unwrap(), false);
+}
+
+#[test]
+fn maps_with_a_small_table_agree_with_a_model() {
+    for (capacity, most) in [(1, 2), (10, 10), (200, 200)] {
+        let map = Map::builder(capacity).small_table().open().unwrap();
+        assert_eq!(map.capacity(), most);
+        agrees(&map, true);
+    }
+    agrees(&Map::builder(100).shards(4).small_table().open().unwrap(), true);
+    agrees(&Map::builder(200).small_table().time_to_live(std::time::Duration::MAX).open().unwrap(), true);
 }
 
 #[test]

@@ -44,6 +44,26 @@ fn a_thread_without_a_pass_takes_one_when_it_is_free() {
     assert_eq!((map.get(&1), map.stats().shared), (Some(1), shared));
 }
 
+// There are more maps than a thread has places for those that it used lately.
+#[test]
+fn a_thread_has_a_pass_of_each_of_many_maps() {
+    let maps: Vec<_> = (0..600).map(|_| Map::<u64, u64>::builder(10).threads(2).open().unwrap()).collect();
+    let use_each = |key: u64| {
+        for (map, value) in maps.iter().cycle().zip(0..3 * maps.len() as u64) {
+            map.insert(&key, value).unwrap();
+            assert_eq!(map.get(&key), Some(value));
+        }
+    };
+    thread::scope(|threads| {
+        threads.spawn(|| use_each(1));
+        threads.spawn(|| use_each(2));
+    });
+    assert!(maps.iter().all(|map| (map.stats().shared, map.stats().hits, map.len()) == (0, 6, 2)));
+    // The threads have given their passes back.
+    use_each(3);
+    assert!(maps.iter().all(|map| map.stats().shared == 0));
+}
+
 #[test]
 fn a_map_may_have_the_shared_pass_alone() {
     const ROUNDS: u64 = 5_000;

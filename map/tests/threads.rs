@@ -3,7 +3,7 @@ use cefrodil_map::{GetError, InsertError, Map, RemoveError, UpdateError};
 use std::hint::spin_loop;
 use std::panic::UnwindSafe;
 use std::sync::atomic::{AtomicBool, AtomicU64, Ordering::SeqCst};
-use std::sync::Barrier;
+use std::sync::{Barrier, Mutex};
 use std::thread;
 use std::time::{Duration, Instant};
 
@@ -112,6 +112,20 @@ fn nor_beside_evictions() {
 }
 
 #[test]
+fn nor_beside_moves_from_a_small_table() {
+    let map = Map::builder(300).shards(2).threads(THREADS as usize).small_table().open().unwrap();
+    in_threads(|thread| no_value_is_wrong(&map, 1_000, 15_000, thread + 1));
+    let stats = map.stats();
+    assert!(stats.evicted > 0 && stats.shared == 0 && stats.collided == 0, "{stats:?}");
+    assert!(map.len() <= map.capacity());
+    // A lookup may evict another key, so the first time counts for nothing. A key that a single try moved may be in both tables, and count twice.
+    let there = || (0..1_000).filter(|key| map.contains_key(key)).count();
+    assert!(there() > 200 && there() <= map.len());
+    map.clear().unwrap();
+    assert_eq!((map.len(), there()), (0, 0));
+}
+
+#[test]
 fn forty_threads_share_four_passes() {
     const MANY: usize = 40;
     let map = Map::builder(1_000).threads(3).open().unwrap();
@@ -159,6 +173,37 @@ fn no_lookup_is_older_than_a_write_that_has_returned() {
     assert_eq!(map.stats().evicted, 0);
 }
 
+// Each thread writes keys of its own, removes them, and looks up those of others. Other keys keep the main table full, so all go through the small
+// one and move when they are found.
+#[test]
+fn nor_beside_moves() {
+    const KEYS: u64 = 4;
+    const ROUNDS: u64 = 3_000;
+    let map = Map::<(u64, u64), u64>::builder(60).small_table().open().unwrap();
+    // Numbers of writes that have returned: an even one put its number, and an odd one removed what was there.
+    let written: [[AtomicU64; KEYS as usize]; THREADS as usize] = Default::default();
+    let found: Vec<AtomicU64> = (0..THREADS).map(|_| AtomicU64::new(0)).collect();
+    in_threads(|thread| {
+        let mut seed = thread + 1;
+        for number in 1..ROUNDS {
+            let key = next(&mut seed) % KEYS;
+            match number % 2 {
+                0 => _ = map.insert(&(thread, key), number).unwrap(),
+                _ => _ = map.remove(&(thread, key)).unwrap(),
+            }
+            written[thread as usize][key as usize].store(number, SeqCst);
+            let (other, key) = (next(&mut seed) % THREADS, next(&mut seed) % KEYS);
+            let last = written[other as usize][key as usize].load(SeqCst);
+            if let Some(value) = map.get(&(other, key)) {
+                assert!(value >= last, "{value} after {last}");
+                found[thread as usize].fetch_add(1, SeqCst);
+            }
+            map.insert(&(thread, KEYS + number), 0).unwrap();
+        }
+    });
+    assert!(found.iter().all(|found| found.load(SeqCst) > 100), "{found:?}");
+}
+
 #[test]
 fn no_update_is_lost() {
     const KEYS: u64 = 3;
@@ -175,6 +220,34 @@ fn no_update_is_lost() {
     });
     let sum: u64 = (0..KEYS).filter_map(|key| map.get(&key)).sum();
     assert_eq!((sum, map.stats().evicted), (THREADS * UPDATES, 0));
+}
+
+// A counter that was evicted begins anew, with a number of its own. No two updates make the same of it.
+#[test]
+fn no_update_is_lost_beside_moves() {
+    const KEYS: u64 = 6;
+    const UPDATES: u64 = 6_000;
+    let map = Map::<u64, (u64, u64)>::builder(40).small_table().open().unwrap();
+    let (beginnings, all) = (AtomicU64::new(0), Mutex::new(Vec::new()));
+    in_threads(|thread| {
+        let (mut seed, mut made) = (thread + 1, Vec::new());
+        for number in 0..UPDATES {
+            let key = next(&mut seed) % KEYS;
+            let count = map.update(&key, |old| match old {
+                Some((beginning, count)) => (beginning, count + 1),
+                None => (beginnings.fetch_add(1, SeqCst), 0),
+            });
+            made.push((key, count.unwrap()));
+            map.insert(&(1_000 * (thread + 1) + number % 500), (0, 0)).unwrap();
+            let _ = map.get(&(next(&mut seed) % KEYS));
+        }
+        all.lock().unwrap().extend(made);
+    });
+    let mut all = all.into_inner().unwrap();
+    all.sort_unstable();
+    assert!(all.windows(2).all(|pair| pair[0] != pair[1]));
+    let longest = all.iter().map(|(_, (_, count))| *count).max();
+    assert!(longest > Some(10), "{longest:?}");
 }
 
 // Ends other threads, also if an assertion fails.

@@ -28,22 +28,13 @@ at_desk_sync V = search (sendable, crosses, desk_sync, reader_sync) depth 30
 pass_send : (V : RattleType) → IsSend (pass.the_field V).row
 pass_send V = search (sendable, crosses, cache_send, cache_sync, at_desk_send, at_desk_sync, reader_send) depth 30
 
-reader_holder_side_send : (V : RattleType) → IsSend (holder.the_field V).row
-holder_side_send V = search (sendable, crosses, shards_send, shards_sync, holder_send) depth 30
-
-side_send : (V : RattleType) → IsSend (reader.the_field V).row
+reader_side_send : (V : RattleType) → IsSend (reader.the_field V).row
 reader_side_send V = search (sendable, crosses, cache_send, cache_sync, reader_send) depth 30
 
-writer_holder_side_send : (V : RattleType) → IsSend (holder.the_field V).row
-holder_side_send V = search (sendable, crosses, shards_send, shards_sync, holder_send) depth 30
-
-side_send : (V : RattleType) → IsSend (writer.the_field V).row
+writer_side_send : (V : RattleType) → IsSend (writer.the_field V).row
 writer_side_send V = search (sendable, crosses, cache_send, cache_sync, writer_send, reader_send) depth 30
 
-shard_holder_side_send : (V : RattleType) → IsSend (holder.the_field V).row
-holder_side_send V = search (sendable, crosses, shards_send, shards_sync, holder_send) depth 30
-
-side_send : (V : RattleType) → IsSend (shard.the_field V).row
+shard_side_send : (V : RattleType) → IsSend (shard.the_field V).row
 shard_side_send V = search (sendable, crosses, shards_send, shards_sync, shard_pass_send) depth 30
 
 holder_side_send : (V : RattleType) → IsSend (holder.the_field V).row

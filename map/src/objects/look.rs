@@ -93,6 +93,35 @@ where
         }
     }
 
+    /// A clone of the key's value, which doesn't count as used: it is evicted as if nobody had looked. [`stats`](Self::stats) doesn't count the
+    /// call. It takes the turn at the key's shard, as a write does.
+    ///
+    /// # Errors
+    ///
+    /// [`GetError::Busy`]: other threads had the turn at each try.
+    pub fn peek<Q: Hash + Eq + ?Sized>(&self, key: &Q) -> Result<Option<V>, GetError>
+    where
+        K: Borrow<Q>,
+        V: Clone,
+    {
+        self.peek_with(key, V::clone)
+    }
+
+    /// Like [`peek`](Self::peek). Calls `look` with the key's value, and returns what it returns.
+    ///
+    /// # Errors
+    ///
+    /// As [`peek`](Self::peek).
+    pub fn peek_with<Q: Hash + Eq + ?Sized, R>(&self, key: &Q, look: impl FnOnce(&V) -> R) -> Result<Option<R>, GetError>
+    where
+        K: Borrow<Q>,
+    {
+        let inner = &self.inner;
+        let pinned = inner.pin();
+        let state = pinned.peek(inner.hash(key), key, inner.tries).ok_or(GetError::Busy)?;
+        Ok(state.value().map(look).found())
+    }
+
     /// Whether the key has a value, which then counts as used lately.
     #[must_use]
     pub fn contains_key<Q: Hash + Eq + ?Sized>(&self, key: &Q) -> bool

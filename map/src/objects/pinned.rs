@@ -83,6 +83,14 @@ impl<O: Held, S> Pinned<'_, O, S> {
         self.state_or_look(hash, key, self.inner.slots.call(|pass| pass.get(hash)), tries)
     }
 
+    /// Looks the key up under its hash in a turn, which is no use of it. `None`: no try won.
+    pub fn peek<Q: ?Sized>(&self, hash: u64, key: &Q, tries: u32) -> Option<State<'_, O>>
+    where
+        O: Keyed<Q>,
+    {
+        self.state(self.inner.slots.within(tries, || self.inner.slots.call(|pass| pass.try_peek(hash)))?, key)
+    }
+
     /// What the reply of a first try says; if it is busy, the key is looked up again. This must have been pinned before that try.
     #[inline]
     pub fn state_or_look<Q: ?Sized>(&self, hash: u64, key: &Q, first: Reply<1>, tries: u32) -> Option<State<'_, O>>
@@ -141,6 +149,12 @@ impl<O: Held, S> Pinned<'_, O, S> {
         } else {
             State::Live(seen)
         })
+    }
+
+    /// The object of this word if it has not expired.
+    pub fn live_object(&self, word: u64) -> Option<&O> {
+        let object = self.object(word);
+        (!self.inner.clock.has_passed(object.deadline())).then_some(object)
     }
 
     /// The word is one that the index returned to this call after it was pinned, or one that this call puts.

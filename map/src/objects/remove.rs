@@ -18,8 +18,9 @@ where
     V: Send + Sync + 'static,
     S: BuildHasher,
 {
-    /// Removes the key's value. Returns whether it had one. Once this has returned, no later lookup finds that value, nor one that
-    /// [`get_or_insert_with`](Self::get_or_insert_with) began to compute before this call.
+    /// Removes the key's value and returns a clone of it. Once this has returned, no later lookup finds that value, nor one that
+    /// [`get_or_insert_with`](Self::get_or_insert_with) began to compute before this call. `Ok(None)`: the key had none. If a clone costs much,
+    /// take [`remove_with`](Self::remove_with).
     ///
     /// Where a removal must take effect (a logout), call again until it is `Ok`. Until then refuse the key by a set of your own that each
     /// lookup checks.
@@ -27,11 +28,12 @@ where
     /// # Errors
     ///
     /// [`RemoveError`]: the value may still be there.
-    pub fn remove<Q: Hash + Eq + ?Sized>(&self, key: &Q) -> Result<bool, RemoveError>
+    pub fn remove<Q: Hash + Eq + ?Sized>(&self, key: &Q) -> Result<Option<V>, RemoveError>
     where
         K: Borrow<Q>,
+        V: Clone,
     {
-        Ok(self.remove_with(key, |_| ())?.found().is_some())
+        Ok(self.remove_with(key, V::clone)?.found())
     }
 
     /// Like [`remove`](Self::remove). Calls `look` with the value that was removed, and returns what it returns, with the moments. An

@@ -1,4 +1,4 @@
-//! Removals of many objects.
+//! Calls for all objects.
 use super::builder::Reason;
 use super::map::ObjectMap;
 use crate::error::ClearError;
@@ -30,6 +30,31 @@ impl<K, V, S> ObjectMap<K, V, S> {
         // They waited for this call, which was pinned.
         self.inner.free(self.inner.epochs.free_now());
         removed
+    }
+
+    /// Calls `look` with each key and its value, in no order. None of them counts as used. An entry that other threads put or remove meanwhile is
+    /// among them or not, and one whose value they replace is so with the old value or the new one.
+    ///
+    /// It lists all entries first, so it takes memory for as many as the map can hold. No object that leaves the map is freed before the call
+    /// ends.
+    ///
+    /// ```
+    /// let names = cefrodil_map::ObjectMap::<String, u32>::new(100)?;
+    /// names.insert("ann".into(), 41)?;
+    /// let mut all = Vec::new();
+    /// names.for_each(|name, age| all.push(format!("{name}: {age}")))?;
+    /// assert_eq!(all, ["ann: 41"]);
+    /// # Ok::<(), Box<dyn std::error::Error>>(())
+    /// ```
+    ///
+    /// # Errors
+    ///
+    /// [`ClearError`]: `look` was not called.
+    pub fn for_each(&self, mut look: impl FnMut(&K, &V)) -> Result<(), ClearError> {
+        let pinned = self.inner.pin();
+        let entries = self.list()?;
+        entries.iter().filter_map(|(_, [word])| pinned.live_object(*word)).for_each(|object| look(&object.key, &object.value));
+        Ok(())
     }
 
     fn clear_all(&self) -> Result<(), ClearError> {

@@ -1,7 +1,7 @@
 //! Calls of a map while another thread has the turn. Each tries as often as it may, says that it was held, and has changed nothing.
 use super::turns::{before_calls, calls, Turn};
 use crate::pass::AnyPass;
-use crate::{ClearError, InsertError, Map, RemoveError, UpdateError};
+use crate::{ClearError, GetError, InsertError, Map, RemoveError, UpdateError};
 use cefrodil::Shape;
 use std::cell::RefCell;
 use std::rc::Rc;
@@ -40,6 +40,7 @@ fn a_write_tries_so_often_and_changes_nothing() {
     assert_eq!(calls(|| map.modify_for(&1, LIFE, |_| 11)), (1 + TRIES, Err(UPDATE_HELD)));
     assert_eq!(calls(|| map.remove(&1)), (1 + TRIES, Err(RemoveError::Held)));
     assert_eq!((map.stats().refused, map.get(&1), map.get(&2), map.len()), (8, Some(10), None, 1));
+    assert_eq!(calls(|| map.peek(&1)), (TRIES, Err(GetError::Busy)));
     drop(turn);
     assert_eq!((map.insert(&2, 20).is_ok(), map.remove(&1)), (true, Ok(Some(10))));
 }

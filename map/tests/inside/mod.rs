@@ -23,6 +23,7 @@ mod prints;
 mod shapes;
 mod slots;
 mod stalled;
+mod tiers;
 mod timed;
 mod turns;
 mod waiting;

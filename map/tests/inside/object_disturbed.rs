@@ -34,8 +34,8 @@ fn a_lookup_that_stays_busy_says_so_and_is_counted() {
         assert!(matches!(taken, Err(IfError::Changed { .. } | IfError::Busy)), "{taken:?}");
         let removed = map.remove(&1);
         match removed {
-            Ok(was_there) => {
-                assert!(was_there);
+            Ok(value) => {
+                assert_eq!(value, Some(10));
                 while map.insert(1, 10).is_err() {}
             }
             Err(why) => assert!(matches!(why, RemoveError::Busy | RemoveError::Held), "{why:?}"),
@@ -114,7 +114,7 @@ fn a_call_that_tries_more_often_finds_its_key() {
         assert_eq!(map.insert_if_absent(1, 11).unwrap_err().why, AbsentError::Present { since });
         assert!(map.modify(&1, |old| *old).unwrap().is_some_and(|put| put.at > since));
         assert!(map.update(1, |old| *old.unwrap()).is_ok());
-        assert!(map.remove(&1) == Ok(true) && map.insert(1, 10).is_ok());
+        assert!(map.remove(&1) == Ok(Some(10)) && map.insert(1, 10).is_ok());
         // A single try is disturbed now and then.
         [map.inner.slots.call(|pass| pass.get(hash)) == Reply::Busy]
     });

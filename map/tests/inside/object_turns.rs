@@ -49,7 +49,7 @@ fn a_write_that_is_held_tries_so_often_and_changes_nothing() {
     assert_eq!(calls(|| map.remove_expired()), (100, Err(ClearError::Held)));
     assert_eq!((map.stats().refused, map.get(&1), map.get(&2), map.len()), (15, Some(10), None, 1));
     drop(turn);
-    assert_eq!((map.insert(2, 20).is_ok(), map.remove(&1)), (true, Ok(true)));
+    assert_eq!((map.insert(2, 20).is_ok(), map.remove(&1)), (true, Ok(Some(10))));
 }
 
 #[test]
@@ -98,7 +98,7 @@ fn beside_puts<T>(map: &Numbers, life: Option<Duration>, times: u32, call: impl 
 // Makes the call. After its first lookup the key 1 is removed.
 fn beside_a_removal<T>(map: &Numbers, call: impl FnOnce() -> T) -> T {
     let other = map.clone();
-    before_calls(1, 1, move || assert_eq!(other.remove(&1), Ok(true)));
+    before_calls(1, 1, move || assert!(other.remove(&1).is_ok_and(|value| value.is_some())));
     calls(call).1
 }
 
@@ -197,7 +197,7 @@ fn a_clear_counts_what_it_removed_itself() {
         let (map, _) = open();
         (2..=10).for_each(|key| assert!(map.insert(key, key).is_ok()));
         let other = map.clone();
-        before_calls(1, 1, move || (1..=removed).for_each(|key| assert_eq!(other.remove(&key), Ok(true))));
+        before_calls(1, 1, move || (1..=removed).for_each(|key| assert!(other.remove(&key).is_ok_and(|value| value.is_some()))));
         assert_eq!(calls(|| map.clear()).1, Ok(()));
         assert_eq!((map.len(), map.is_empty(), map.stats().removed), (0, true, 10));
     }

@@ -191,7 +191,7 @@ fn each_object_leaves_for_its_reason() {
     map.insert_for(4, text("b"), seconds(5)).unwrap();
     turn(&map, seconds(6));
     map.insert(3, text("c")).unwrap();
-    assert!(!map.remove(&4).unwrap());
+    assert!(map.remove(&4).unwrap().is_none());
     map.clear().unwrap();
     let replaced = [1, 3, 4].map(|key| (key, Reason::Replaced));
     let expected = [replaced[0], (2, Reason::Removed), replaced[1], replaced[2], (3, Reason::Expired), (4, Reason::Expired)];
@@ -316,7 +316,7 @@ fn a_map_without_changes_left_says_so() {
     assert_eq!(map.replace_if(1, 2, text("c"), None).unwrap_err().why, IfError::Spent);
     assert_eq!(map.modify(&1, |_| text("c")), Err(UpdateError::Insert(spent)));
     assert_eq!(map.update(2, |_| text("c")), Err(UpdateError::Insert(spent)));
-    assert_eq!((map.remove(&1), map.remove(&2)), (Err(RemoveError::Spent), Ok(false)));
+    assert_eq!((map.remove(&1), map.remove(&2)), (Err(RemoveError::Spent), Ok(None)));
     assert_eq!((map.remove_if(&1, 2), map.clear()), (Err(IfError::Spent), Err(ClearError::Spent)));
     assert_eq!((map.get(&1), map.free_unused(), map.stats().refused), (Some(text("b")), 0, 8));
     assert!(map.touch(&1, Duration::ZERO));
@@ -349,7 +349,7 @@ fn a_write_that_does_not_get_its_turn_says_so() {
         assert_eq!((map.get(&1), map.free_unused()), (Some(text("b")), 0));
         // These need no lock.
         assert_eq!(map.replace_if(1, 1, text("d"), None).unwrap().at, 2);
-        assert_eq!(map.remove(&1), Ok(true));
+        assert_eq!(map.remove(&1), Ok(Some(text("d"))));
     });
 }
 

@@ -1,4 +1,5 @@
 //! A key's two words: by default a number and its SipHash, or the two words of one SipHash; with a hasher of the user's own two hashes.
+use crate::number::is_number;
 use crate::print::{Print, PrintHasher, Printer};
 use crate::sip::{Secret, Sip};
 use crate::Map;
@@ -6,6 +7,7 @@ use std::cell::Cell;
 use std::collections::hash_map::{DefaultHasher, RandomState};
 use std::collections::HashSet;
 use std::hash::{BuildHasher, Hash, Hasher};
+use std::num::{NonZeroI64, NonZeroU32};
 
 thread_local!(static HASHED: Cell<u32> = const { Cell::new(0) });
 
@@ -41,7 +43,7 @@ fn secret_of(hasher: &RandomState) -> Secret {
 #[test]
 fn the_two_hashes_are_those_of_different_texts() {
     let hasher = RandomState::new();
-    let (once, twice) = (Printer::once(hasher.clone()), Printer::twice(hasher.clone()));
+    let (once, twice): (Printer<str, _>, Printer<str, _>) = (Printer::once(hasher.clone()), Printer::twice(hasher.clone()));
     for key in ["", "a", "seven l", "nine letters"] {
         let mut sip = Sip::new(secret_of(&hasher));
         sip.write(key.as_bytes());
@@ -136,11 +138,45 @@ fn one_number_is_its_own_check_word_beside_its_siphash() {
         of_std.write_u64(number);
         let mut state = PrintHasher::new(Secret(0, 0));
         state.write_u64(number);
-        assert_eq!(state.print(), Print { key: of_std.finish(), check: number });
+        assert_eq!(state.number_print(), Print { key: of_std.finish(), check: number });
     }
 }
 
-// A type may write numbers of several sizes, or a number in some cases and more in others.
+// The number of the print, as a key of the type `K` has it.
+fn check_of<K: Hash>(key: &K) -> u64 {
+    Printer::<K, _>::once(RandomState::new()).print(key).check
+}
+
+#[derive(Hash)]
+struct Newtype(u64);
+
+#[derive(Hash)]
+struct Borrowing<'a>(&'a u64);
+
+#[test]
+fn only_numbers_of_std_are_their_own_check_words() {
+    assert_eq!((check_of(&7_u64), check_of(&7_i8), check_of(&7_usize), check_of(&'a'), check_of(&true)), (7, 7, 7, 97, 1));
+    assert_eq!((check_of(&-1_i16), check_of(&NonZeroU32::MIN)), (0xffff, 1));
+    let seven = 7;
+    let others = [check_of(&Newtype(7)), check_of(&Borrowing(&seven)), check_of(&&seven), check_of(&(seven,)), check_of(&7_u128)];
+    assert_eq!(others.iter().filter(|check| **check == 7).count(), 0);
+}
+
+// The type of a number may have a lifetime in its name.
+fn is_number_of<K>(_: &K) -> bool {
+    is_number::<K>()
+}
+
+#[test]
+fn types_are_numbers_whatever_they_borrow() {
+    let seven = 7;
+    assert!(is_number_of(&seven) && !is_number_of(&&seven) && !is_number_of(&Borrowing(&seven)));
+    assert!(is_number::<NonZeroI64>() && is_number::<u8>() && is_number::<char>());
+    assert!(!is_number::<str>() && !is_number::<[u64]>() && !is_number::<dyn Fn()>() && !is_number::<()>());
+    assert!(!is_number::<Newtype>() && !is_number::<Option<u64>>() && !is_number::<u128>() && !is_number::<f64>());
+}
+
+// A key that writes another number, or bytes, has another print. So it is a miss at worst.
 #[test]
 fn numbers_of_all_sizes_and_pairs_of_numbers_have_prints_of_their_own() {
     let mut prints = HashSet::new();
@@ -157,7 +193,9 @@ fn numbers_of_all_sizes_and_pairs_of_numbers_have_prints_of_their_own() {
             &|state| (wide, !wide).hash(state),
         ];
         prints.extend(all.map(|write| {
-            let Print { key, check } = print_of(write);
+            let mut state = PrintHasher::new(SECRET);
+            write(&mut state);
+            let Print { key, check } = state.number_print();
             (key, check)
         }));
     }
@@ -167,7 +205,7 @@ fn numbers_of_all_sizes_and_pairs_of_numbers_have_prints_of_their_own() {
 // `None` and an empty list both write the number 0 of 64 bits: they are keys of different types.
 #[test]
 fn keys_that_write_other_numbers_or_more_have_prints_of_their_own() {
-    let once = Printer::once(RandomState::new());
+    let once = Printer::<Option<u64>, _>::once(RandomState::new());
     let (none, some) = (once.print(&None::<u64>), once.print(&Some(0_u64)));
     let (empty, listed) = (once.print::<[String]>(&[]), once.print(&[String::new()][..]));
     let prints =
@@ -179,12 +217,13 @@ fn keys_that_write_other_numbers_or_more_have_prints_of_their_own() {
 #[test]
 fn each_hash_depends_on_the_key() {
     const KEYS: u64 = 10_000;
-    for printer in [Printer::once(RandomState::new()), Printer::twice(RandomState::new())] {
+    for printer in [Printer::<String, _>::once(RandomState::new()), Printer::twice(RandomState::new())] {
         let prints: Vec<Print> = (0..KEYS).map(|key| printer.print(&key.to_string())).collect();
         let words: HashSet<u64> = prints.iter().flat_map(|print| [print.key, print.check]).collect();
         assert_eq!(words.len() as u64, 2 * KEYS);
     }
-    let (one, other) = (Printer::once(RandomState::new()), Printer::once(RandomState::new()));
+    let (one, other) = (Printer::<str, _>::once(RandomState::new()), Printer::<str, _>::once(RandomState::new()));
     assert!(one.print("1").key != other.print("1").key && one.print("1").check != other.print("1").check);
+    let (one, other) = (Printer::<i32, _>::once(RandomState::new()), Printer::<i32, _>::once(RandomState::new()));
     assert_ne!(one.print(&1).key, other.print(&1).key);
 }

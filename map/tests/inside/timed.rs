@@ -136,7 +136,7 @@ impl Timed for ObjectMap<u64, u64> {
             };
         }
         let seen = self.inner.pin().look(self.hash_of(&key), &key, 1).and_then(|state| state.value().found().copied());
-        assert_eq!(self.remove(&key), Ok(seen.is_some()));
+        assert_eq!(self.remove(&key), Ok(seen));
         seen
     }
 

@@ -59,7 +59,7 @@ fn the_later_key_replaces_the_earlier() {
 fn a_removal_takes_its_own_key_alone() {
     let (map, ledger) = (open(), Ledger::new(100));
     let since = map.put(2, ledger.make(2), None).unwrap().at;
-    assert!(!map.remove(&4).unwrap());
+    assert!(map.remove_with(&4, |_| ()).unwrap().found().is_none());
     assert!(matches!(map.remove_with(&4, |_| ()), Ok(Look::Absent { .. })));
     // The shard has changed since. The error has the moment of the answer.
     let at = map.put(3, ledger.make(3), None).unwrap().at;
@@ -68,7 +68,7 @@ fn a_removal_takes_its_own_key_alone() {
     assert!(!map.touch(&4, Duration::ZERO));
     assert!(map.modify(&4, |_| unreachable!("it is not there")).unwrap().is_none());
     assert_eq!((map.get_with(&2, |value| value.number), map.len()), (Some(0), 2));
-    assert!(map.remove(&2).unwrap());
+    assert!(map.remove_with(&2, |_| ()).unwrap().found().is_some());
     assert_eq!((map.free_unused(), ledger.dropped(), map.len()), (0, 1, 1));
 }
 

@@ -134,7 +134,7 @@ fn detaches_in(map: &Names, write: impl FnOnce(&Names), then: Option<&str>) {
 
 #[test]
 fn a_value_computed_before_a_write_is_not_put() {
-    detaches(|map| assert!(!map.remove("key").unwrap()), None);
+    detaches(|map| assert!(map.remove("key").unwrap().is_none()), None);
     detaches(|map| map.clear().unwrap(), None);
     detaches(|map| assert_eq!(map.insert(text("key"), text("a")).unwrap(), Inserted::New), Some("a"));
     detaches(|map| assert_eq!(map.insert_if_absent(text("key"), text("a")).unwrap(), Inserted::New), Some("a"));
@@ -143,7 +143,7 @@ fn a_value_computed_before_a_write_is_not_put() {
     detaches(
         |map| {
             map.insert(text("key"), text("a")).unwrap();
-            assert!(map.remove("key").unwrap());
+            assert!(map.remove("key").unwrap().is_some());
         },
         None,
     );
@@ -175,7 +175,7 @@ fn nor_one_computed_before_an_expired_value_is_removed() {
         let map = Names::new(100).unwrap();
         let since = map.put(text("key"), text("expired"), Some(Duration::ZERO)).unwrap().at;
         let remove = |map: &Names| match way {
-            0 => assert!(!map.remove("key").unwrap()),
+            0 => assert!(map.remove("key").unwrap().is_none()),
             1 => done(map.remove_if("key", since).unwrap()),
             _ => done(map.remove_stamped(map.hash_of("key"), since).unwrap()),
         };

@@ -54,7 +54,7 @@ fn leave(map: &Values, ledger: &'static Ledger, way: usize) {
     };
     match way {
         0 => done(map.insert(1, ledger.make(1)).unwrap()),
-        1 => assert!(map.remove(&1).unwrap()),
+        1 => assert!(map.remove_with(&1, |_| ()).unwrap().found().is_some()),
         2 => done(map.remove_if(&1, since()).unwrap()),
         3 => done(map.remove_stamped(map.hash_of(&1), since()).unwrap()),
         4 => done(map.replace_if(1, since(), ledger.make(1), None).unwrap()),

@@ -30,7 +30,7 @@ fn it_hears_of_each_object_once_beside_other_threads() {
                             let put = map.insert_if_absent(key, ledger.make(key));
                             refused.fetch_add(u64::from(put.is_err()), SeqCst);
                         }
-                        5 => done(map.remove(&key).unwrap()),
+                        5 => done(map.remove_with(&key, |_| ()).unwrap()),
                         _ => done(map.get_with(&key, |value| value.is_right(key))),
                     }
                 }
@@ -53,7 +53,7 @@ fn it_hears_also_if_the_hasher_is_chosen_after_it() {
     let hear = move |_: &u64, value: &u64, _| done(hears.fetch_add(*value, SeqCst));
     let map = ObjectMap::<u64, u64>::builder(100).listener(hear).hasher(RandomState::new()).open().unwrap();
     map.insert(1, 10).unwrap();
-    assert_eq!((map.remove(&1), heard.load(SeqCst)), (Ok(true), 10));
+    assert_eq!((map.remove(&1), heard.load(SeqCst)), (Ok(Some(10)), 10));
 }
 
 // The listener puts what was evicted into another map, and looks it up in the first.
@@ -67,7 +67,7 @@ fn it_may_call_the_map() {
         assert_eq!(map.contains_key(key), reason == Reason::Replaced);
         behind.insert(*key, *value).unwrap();
         if *key == 7 {
-            assert!(!map.remove(&7).unwrap() || reason == Reason::Replaced);
+            assert!(map.remove(&7).unwrap().is_none() || reason == Reason::Replaced);
             map.insert(1_007, *value).unwrap();
         }
     };
@@ -99,7 +99,7 @@ fn another_one_hears_of_each_object_when_it_is_freed() {
         .unwrap();
     (0..10).for_each(|key| done(map.insert(key, ledger.make(key)).unwrap()));
     map.get_with(&0, |_| {
-        (0..5).for_each(|key| assert!(map.remove(&key).unwrap()));
+        (0..5).for_each(|key| assert!(map.remove(&key).unwrap().is_some()));
         assert_eq!((left.load(SeqCst), map.free_unused(), freed.load(SeqCst)), (5, 5, 0), "they wait for this closure");
     });
     assert_eq!((map.free_unused(), freed.load(SeqCst), ledger.dropped()), (0, 5, 5));

@@ -1,6 +1,7 @@
 //! Maps of objects.
 mod bytes;
 mod collisions;
+mod each;
 #[path = "../ends/mod.rs"]
 mod ends;
 mod fills;

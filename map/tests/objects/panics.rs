@@ -158,7 +158,7 @@ fn so_does_a_panic_in_what_a_drop_panicked_with() {
     for key in 0..100 {
         map.insert(key % 10, Relentless).unwrap();
     }
-    assert!(map.remove(&1).unwrap());
+    assert!(map.remove_with(&1, |_| ()).unwrap().found().is_some());
     map.clear().unwrap();
     assert_eq!((map.free_unused(), map.len()), (0, 0));
     map.insert(1, Relentless).unwrap();

@@ -133,7 +133,7 @@ fn a_modification_does_not_bring_back_what_has_gone() {
         let map = open();
         map.insert(text("one"), text("a")).unwrap();
         let modified = modify(&map, &mut |old| {
-            assert!(map.remove("one").unwrap());
+            assert!(map.remove("one").unwrap().is_some());
             old.clone()
         });
         assert_eq!((modified, map.get("one")), (false, None));

@@ -1,0 +1,42 @@
+//! Which keys left a table lately, roughly, in four bits for each of its entries.
+use std::sync::atomic::{AtomicU16, Ordering::Relaxed};
+
+/// A tag of eight bits for each two entries, in rows of two. A key has one row. The next key there is put before it, and the second drives it out.
+/// So the sketch forgets keys, and with a chance of 2 in 255 it takes a key for one that left.
+pub(crate) struct Sketch(Box<[AtomicU16]>);
+
+const ENTRIES_OF_A_ROW: usize = 4;
+const BITS_OF_A_TAG: u32 = 8;
+
+// Relaxed: it says nothing of other memory. If two threads change a row at once, one change is lost.
+impl Sketch {
+    /// For a table of so many entries.
+    pub fn new(entries: usize) -> Sketch {
+        Sketch((0..entries.div_ceil(ENTRIES_OF_A_ROW)).map(|_| AtomicU16::new(0)).collect())
+    }
+
+    /// Notes a key.
+    pub fn note(&self, key: u64) {
+        let (row, tag) = self.place(key);
+        row.store(row.load(Relaxed) << BITS_OF_A_TAG | tag, Relaxed);
+    }
+
+    /// Whether the key is noted. It isn't afterwards.
+    pub fn take(&self, key: u64) -> bool {
+        let (row, tag) = self.place(key);
+        let tags = row.load(Relaxed).to_le_bytes();
+        let kept = tags.map(|other| if u16::from(other) == tag { 0 } else { other });
+        if kept != tags {
+            row.store(u16::from_le_bytes(kept), Relaxed);
+        }
+        kept != tags
+    }
+
+    // No key has the tag 0.
+    fn place(&self, key: u64) -> (&AtomicU16, u16) {
+        // An odd number whose bits look random: keys may be spread badly.
+        let mixed = (key ^ key >> 32).wrapping_mul(0x9e37_79b9_7f4a_7c15);
+        let row = ((u128::from(mixed) * self.0.len() as u128) >> 64) as usize;
+        (&self.0[row], 1 + (mixed as u16 >> 4) % 255)
+    }
+}

@@ -1,0 +1,309 @@
+//! A small table before the main one. A new key goes to the small one, and to the main one when it is found there. So keys that are used once
+//! evict no keys that are used often.
+//!
+//! All writes of a key have its lock. Lookups have none: they look into the main table first. SAFETY.md says why that suffices.
+use crate::moves::{Moves, Rest};
+use crate::pass::AnyPass;
+use crate::sketch::Sketch;
+use crate::slots::Slots;
+use crate::stats::Kind;
+use crate::wait::{in_turn, within};
+use crate::words::{Words, MOST};
+use cefrodil::{ListError, Put, PutError, PutIfAbsentError, PutIfError, Removal, Reply, Spent, TurnError};
+use std::sync::atomic::{AtomicBool, Ordering::Relaxed};
+use std::sync::{Arc, Mutex, MutexGuard, TryLockError};
+
+/// The moment of a put into the small table has this bit. No table counts so far.
+pub(crate) const OF_SMALL: u64 = 1 << 63;
+
+const LOCKS: usize = 64;
+
+pub(crate) struct Tiers {
+    main: Arc<Slots<AnyPass>>,
+    small: Arc<Slots<SmallPass>>,
+    // By the key.
+    locks: Box<[Lock]>,
+    // Keys that left the small table.
+    left: Sketch,
+    // The last put of a new key into the main table evicted another one, and none was removed there since. Relaxed: it is a guess.
+    is_full: AtomicBool,
+    moves: Moves,
+}
+
+/// A pass of the small table.
+pub(crate) struct SmallPass {
+    pass: AnyPass,
+    // Noted when a thread missed a key by this pass.
+    rest: Rest,
+}
+
+/// Some keys. Each lock is in a cache line of its own.
+#[derive(Default)]
+#[repr(align(64))]
+struct Lock(Mutex<()>);
+
+/// Whether a key that the main table didn't have is in no table.
+pub(crate) enum Miss {
+    Yes,
+    /// A key has moved meanwhile, perhaps this one. Then it is in the main table.
+    Moved,
+    /// The small table has the key, or the lookup was busy.
+    No,
+}
+
+/// Where a key is.
+enum Place {
+    Main,
+    Small,
+    Nowhere,
+}
+
+impl SmallPass {
+    /// The keys of the small table.
+    pub fn keys(&mut self) -> Result<Vec<u64>, TurnError<ListError>> {
+        self.pass.keys()
+    }
+
+    fn miss(&mut self, key: u64, moves: &Moves) -> Miss {
+        if self.pass.has(key) != Some(false) {
+            return Miss::No;
+        }
+        if self.rest.has_lasted(moves) {
+            Miss::Yes
+        } else {
+            Miss::Moved
+        }
+    }
+}
+
+impl Tiers {
+    /// Of these passes, and for so many entries in both tables.
+    pub fn new(main: Arc<Slots<AnyPass>>, small: Vec<AnyPass>, entries: usize) -> Tiers {
+        let small = small.into_iter().map(|pass| SmallPass { pass, rest: Rest::default() }).collect();
+        Tiers {
+            main,
+            small: Arc::new(Slots::new(small)),
+            locks: (0..LOCKS).map(|_| Lock::default()).collect(),
+            left: Sketch::new(entries),
+            is_full: AtomicBool::new(false),
+            moves: Moves::default(),
+        }
+    }
+
+    /// The passes of the small table.
+    pub fn small(&self) -> &Arc<Slots<SmallPass>> {
+        &self.small
+    }
+
+    /// Whether a key misses that the main table didn't have, as the last that this thread looked up.
+    #[inline]
+    pub fn miss(&self, key: u64) -> Miss {
+        match self.small.own() {
+            Some((mut small, _)) => small.miss(key, &self.moves),
+            None => self.miss_shared(key),
+        }
+    }
+
+    // Another thread may have noted a rest in the shared pass after this one had looked into the main table.
+    #[cold]
+    fn miss_shared(&self, key: u64) -> Miss {
+        match self.small.call(|small| small.pass.has(key)) {
+            Some(false) => Miss::Moved,
+            _ => Miss::No,
+        }
+    }
+
+    /// Looks such a key up, if it is no miss.
+    pub fn look_small(&self, key: u64) -> Reply<MOST> {
+        match self.small.call(|small| small.pass.get_or_desk(key)) {
+            Reply::Found { value, at, since } => Reply::Found { value, at, since: since | OF_SMALL },
+            // It may have moved.
+            Reply::Absent { .. } => self.main.call(|pass| pass.get_or_desk(key)),
+            Reply::Busy => Reply::Busy,
+        }
+    }
+
+    /// Looks a key up in both tables, in a turn at each, which is no use of it.
+    pub fn peek(&self, key: u64) -> Reply<MOST> {
+        let in_main = || self.main.call(|pass| pass.peek(key));
+        match in_main() {
+            Reply::Absent { .. } => match self.small.call(|small| small.pass.peek(key)) {
+                // It may have moved.
+                Reply::Absent { .. } => in_main(),
+                reply => reply,
+            },
+            reply => reply,
+        }
+    }
+
+    /// Moves a key that was found in the small table to the main one. If another thread writes there now, the next lookup that finds the key tries
+    /// it. If so many tries don't take the key out of the small table, both have it, with the same words.
+    pub fn promote(&self, key: u64, tries: u32) {
+        let Some(_locked) = self.lock(key) else { return };
+        let _moving = self.moves.begin();
+        let Reply::Found { value, since, .. } = self.small.call(|small| small.pass.get_or_desk(key)) else { return };
+        let is_new = match self.main.call(|pass| pass.put_if_absent(key, &value)) {
+            Ok(put) => {
+                if self.put_into_main(put) {
+                    self.main.count(Kind::Evicted);
+                }
+                true
+            }
+            // An earlier move could not take the key out of the small table.
+            Err(TurnError::Call(PutIfAbsentError::Present { .. })) => false,
+            Err(_) => return,
+        };
+        let taken = in_turn(tries, || self.small.call(|small| small.pass.take_if(key, since)));
+        match (is_new, taken.is_ok()) {
+            // There is one entry more, or the other one was counted when it was evicted.
+            (true, false) => self.main.count(Kind::Added),
+            (false, true) => self.main.count(Kind::Removed),
+            (true, true) | (false, false) => {}
+        }
+    }
+
+    pub fn put(&self, key: u64, words: &Words) -> Result<Put, TurnError<PutError>> {
+        let _locked = self.lock(key).ok_or(TurnError::Held)?;
+        match self.place(key).ok_or(TurnError::Held)? {
+            Place::Main => self.put_main(key, words),
+            Place::Small => self.put_small(key, words),
+            Place::Nowhere => self.admit(key, words),
+        }
+    }
+
+    pub fn put_if_absent(&self, key: u64, words: &Words) -> Result<Put, TurnError<PutIfAbsentError>> {
+        let _locked = self.lock(key).ok_or(TurnError::Held)?;
+        match self.place(key).ok_or(TurnError::Held)? {
+            Place::Main | Place::Small => Err(TurnError::Call(PutIfAbsentError::Present { since: 0 })),
+            Place::Nowhere => self.admit(key, words).map_err(|why| match why {
+                TurnError::Held => TurnError::Held,
+                TurnError::Call(why) => TurnError::Call(PutIfAbsentError::Put(why)),
+            }),
+        }
+    }
+
+    /// `since` is of `look_small`, or of the main table.
+    pub fn put_if(&self, key: u64, since: u64, words: &Words) -> Result<u64, TurnError<PutIfError>> {
+        self.change_if(key, since, |main| main.put_if(key, since, words), |small| small.put_if(key, since & !OF_SMALL, words))
+    }
+
+    /// `since` is of `look_small`, or of the main table.
+    pub fn take_if(&self, key: u64, since: u64) -> Result<u64, TurnError<PutIfError>> {
+        let taken = self.change_if(
+            key,
+            since,
+            |main| main.take_if(key, since).map(|taken| taken.at),
+            |small| small.take_if(key, since & !OF_SMALL).map(|taken| taken.at),
+        )?;
+        if since & OF_SMALL == 0 {
+            self.set_full(false);
+        }
+        Ok(taken)
+    }
+
+    // Makes the change in the table of which `since` is. If the key is elsewhere by now, or nowhere, it was changed.
+    fn change_if(
+        &self,
+        key: u64,
+        since: u64,
+        in_main: impl FnOnce(&mut AnyPass) -> Result<u64, TurnError<PutIfError>>,
+        in_small: impl FnOnce(&mut AnyPass) -> Result<u64, TurnError<PutIfError>>,
+    ) -> Result<u64, TurnError<PutIfError>> {
+        let _locked = self.lock(key).ok_or(TurnError::Held)?;
+        match self.place(key).ok_or(TurnError::Held)? {
+            Place::Main if since & OF_SMALL == 0 => self.main.call(in_main),
+            Place::Small if since & OF_SMALL != 0 => self.small.call(|small| in_small(&mut small.pass)),
+            _ => Err(TurnError::Call(PutIfError::Changed { since: 0 })),
+        }
+    }
+
+    /// Whether no table has the key. A lookup may miss it while it moves, if the small table evicts it meanwhile. So a write asks this, too. `None`:
+    /// other threads disturbed this.
+    pub fn lacks(&self, key: u64) -> Option<bool> {
+        let _locked = self.lock(key)?;
+        self.place(key).map(|place| matches!(place, Place::Nowhere))
+    }
+
+    /// Waits until the moves have ended that have begun before. A lock is tried so often.
+    pub fn wait_for_moves(&self, tries: u32) -> Result<(), TurnError<ListError>> {
+        (0..LOCKS as u64).try_for_each(|key| within(tries, || self.lock(key)).map(drop)).ok_or(TurnError::Held)
+    }
+
+    /// Removes the key from both tables.
+    pub fn remove(&self, key: u64) -> Result<Removal, TurnError<Spent>> {
+        let _locked = self.lock(key).ok_or(TurnError::Held)?;
+        match self.place(key).ok_or(TurnError::Held)? {
+            Place::Small => self.small.call(|small| small.pass.remove(key)),
+            Place::Main | Place::Nowhere => {
+                self.set_full(false);
+                self.main.call(|pass| pass.remove(key))
+            }
+        }
+    }
+
+    // The lock of a key, if no other thread has it. No code of the caller runs under it.
+    fn lock(&self, key: u64) -> Option<MutexGuard<'_, ()>> {
+        match self.locks[key as usize % LOCKS].0.try_lock() {
+            Ok(locked) => Some(locked),
+            Err(TryLockError::Poisoned(locked)) => Some(locked.into_inner()),
+            Err(TryLockError::WouldBlock) => None,
+        }
+    }
+
+    // Where the key is, for who has its lock. If it is in the main table, the small one has it no more. `None`: other threads disturbed this.
+    fn place(&self, key: u64) -> Option<Place> {
+        let in_main = self.main.call(|pass| pass.has(key))?;
+        let in_small = self.small.call(|small| small.pass.has(key))?;
+        if !in_main {
+            return Some(if in_small { Place::Small } else { Place::Nowhere });
+        }
+        if in_small {
+            // A move could not take it out.
+            if let Removal::Removed { .. } = self.small.call(|small| small.pass.remove(key)).ok()? {
+                self.main.count(Kind::Removed);
+            }
+        }
+        Some(Place::Main)
+    }
+
+    // Puts a new key.
+    fn admit(&self, key: u64, words: &Words) -> Result<Put, TurnError<PutError>> {
+        if !self.is_full.load(Relaxed) || self.left.take(key) {
+            return self.put_main(key, words);
+        }
+        match self.put_small(key, words) {
+            Err(TurnError::Call(PutError::NoPath | PutError::AllRecent)) => self.put_main(key, words),
+            put => put,
+        }
+    }
+
+    fn put_main(&self, key: u64, words: &Words) -> Result<Put, TurnError<PutError>> {
+        let put = self.main.call(|pass| pass.put(key, words))?;
+        self.put_into_main(put);
+        Ok(put)
+    }
+
+    // Notes what a put into the main table did. Returns whether it evicted a key.
+    fn put_into_main(&self, put: Put) -> bool {
+        let Put::Stored { evicted, .. } = put else { return false };
+        if evicted.is_some() {
+            self.set_full(true);
+        }
+        evicted.is_some()
+    }
+
+    fn put_small(&self, key: u64, words: &Words) -> Result<Put, TurnError<PutError>> {
+        let put = self.small.call(|small| small.pass.put(key, words))?;
+        if let Put::Stored { evicted: Some(evicted), .. } = put {
+            self.left.note(evicted);
+        }
+        Ok(put)
+    }
+
+    // Most calls find it as it is to be, and write nothing that other threads read.
+    fn set_full(&self, is_full: bool) {
+        if self.is_full.load(Relaxed) != is_full {
+            self.is_full.store(is_full, Relaxed);
+        }
+    }
+}

@@ -1,0 +1,472 @@
+//! A small table before the main one: which keys move, and that a move crosses no write and hides no key.
+use super::turns::{before_calls, calls, Turn};
+use crate::inner::Found;
+use crate::sketch::Sketch;
+use crate::tiers::{SmallPass, OF_SMALL};
+use crate::{ClearError, InsertError, Inserted, Map, RemoveError, UpdateError};
+use cefrodil::Reply;
+use std::cell::Cell;
+use std::collections::HashMap;
+use std::hash::{BuildHasherDefault, Hasher};
+use std::sync::mpsc::channel;
+use std::thread;
+use std::time::Duration;
+
+type Numbers = Map<u64, u64>;
+
+/// How often a call tries here.
+const TRIES: u32 = 5;
+
+const KEY: u64 = 1;
+
+// A map whose main table is full. It has places for 36 keys, and the small one for 4.
+fn open() -> Numbers {
+    open_for(64)
+}
+
+// As `open`, with a pass of their own for so many threads.
+fn open_for(threads: usize) -> Numbers {
+    let map = Map::builder(40).time_to_live(Duration::MAX).threads(threads).small_table();
+    let map = map.open_shaped(&cefrodil::Shape::for_items(36).unwrap(), 1, TRIES).unwrap();
+    (1_000..1_037).for_each(|key| _ = map.insert(&key, 0).unwrap());
+    assert_eq!((map.len(), map.stats().evicted), (36, 1));
+    map
+}
+
+// As `open`, with the key in the small table.
+fn with_young() -> Numbers {
+    let map = open();
+    map.insert(&KEY, 10).unwrap();
+    assert_eq!(place(&map, KEY), (false, true));
+    map
+}
+
+// Whether the main table has the key, and whether the small one has it.
+fn place(map: &Numbers, key: u64) -> (bool, bool) {
+    let (key, tiers) = (map.inner.print(&key).key, map.inner.tiers.as_ref().unwrap());
+    let in_main = matches!(map.inner.slots.call(|pass| pass.get_or_desk(key)), Reply::Found { .. });
+    (in_main, matches!(tiers.look_small(key), Reply::Found { since, .. } if since & OF_SMALL != 0))
+}
+
+fn hold_small(map: &Numbers) -> Turn {
+    Turn::begin(map.inner.tiers.as_ref().unwrap().small(), SmallPass::keys)
+}
+
+// Both tables have the key: a lookup moved it, and could not take it out of the small table.
+fn with_both() -> Numbers {
+    let map = with_young();
+    let turn = hold_small(&map);
+    assert_eq!(map.get(&KEY), Some(10));
+    drop(turn);
+    assert_eq!((place(&map, KEY), map.len()), ((true, true), 37));
+    map
+}
+
+#[test]
+fn a_new_key_moves_when_it_is_found() {
+    let map = with_young();
+    assert_eq!((map.get(&KEY), place(&map, KEY)), (Some(10), (true, false)));
+    assert_eq!((map.get(&KEY), map.len(), map.stats().evicted), (Some(10), 36, 2));
+}
+
+#[test]
+fn each_call_that_uses_a_value_moves_it() {
+    let uses: [fn(&Numbers); 6] = [
+        |map| assert_eq!(map.try_get(&KEY), Ok(Some(10))),
+        |map| assert!(map.contains_key(&KEY)),
+        |map| assert_eq!(map.get_many([&KEY]), [Some(10)]),
+        |map| assert_eq!(map.get_or_insert_with(&KEY, || 0), 10),
+        |map| assert_eq!(map.update(&KEY, |old| old.unwrap()), Ok(10)),
+        |map| assert_eq!(map.modify(&KEY, |old| old), Ok(Some(10))),
+    ];
+    for use_it in uses {
+        let map = with_young();
+        use_it(&map);
+        assert_eq!((place(&map, KEY), map.get(&KEY)), ((true, false), Some(10)));
+    }
+}
+
+#[test]
+fn a_key_that_left_the_small_table_comes_back_to_the_main_one() {
+    let map = with_young();
+    (2..6).for_each(|key| assert!(map.insert(&key, key).is_ok()));
+    assert_eq!(place(&map, KEY), (false, false));
+    assert_eq!(map.insert(&KEY, 11), Ok(Inserted::Evicted));
+    assert_eq!((place(&map, KEY), place(&map, 5)), ((true, false), (false, true)));
+}
+
+#[test]
+fn a_removal_from_the_main_table_makes_room_for_a_new_key() {
+    let map = open();
+    let there = (1_000..1_037).find(|key| map.contains_key(key)).unwrap();
+    assert_eq!(map.remove(&there), Ok(Some(0)));
+    assert_eq!((map.insert(&KEY, 10), place(&map, KEY)), (Ok(Inserted::New), (true, false)));
+    let map = open();
+    map.clear().unwrap();
+    assert_eq!((map.len(), map.insert(&2, 20), place(&map, 2)), (0, Ok(Inserted::New), (true, false)));
+}
+
+#[test]
+fn a_put_over_a_new_key_leaves_it_where_it_is() {
+    let map = with_young();
+    assert_eq!((map.insert(&KEY, 11), place(&map, KEY)), (Ok(Inserted::Renewed), (false, true)));
+    assert_eq!((map.remove(&KEY), place(&map, KEY), map.len()), (Ok(Some(11)), (false, false), 36));
+}
+
+// Another thread moves the key when the main table was looked at, and before the small one is.
+#[test]
+fn a_lookup_finds_a_key_that_moves_meanwhile() {
+    let looks: [fn(&Numbers) -> Option<u64>; 4] = [
+        |map| map.get(&KEY),
+        |map| map.get_many([&KEY])[0],
+        |map| map.modify(&KEY, |old| old).unwrap(),
+        |map| map.remove(&KEY).unwrap(),
+    ];
+    for (number, look) in looks.into_iter().enumerate() {
+        let map = with_young();
+        // Some moves are known to this thread before.
+        (0..number).for_each(|key| assert!(map.insert(&(50 + key as u64), 0).is_ok() && map.get(&(50 + key as u64)).is_some()));
+        map.insert(&KEY, 10).unwrap();
+        let other = map.clone();
+        // `get_many` looks at the small table after it has looked at the main one twice.
+        before_calls(if number == 1 { 2 } else { 1 }, 1, move || {
+            let other = other.clone();
+            assert_eq!(thread::spawn(move || other.get(&KEY)).join().unwrap(), Some(10));
+        });
+        assert_eq!(calls(|| look(&map)).1, Some(10), "look {number}");
+    }
+}
+
+#[test]
+fn a_peek_finds_a_key_in_both_tables_and_moves_none() {
+    let map = with_young();
+    assert_eq!((map.peek(&KEY), map.peek(&1_036), map.peek(&7)), (Ok(Some(10)), Ok(Some(0)), Ok(None)));
+    assert_eq!(place(&map, KEY), (false, true));
+    let other = map.clone();
+    before_calls(1, 1, move || {
+        let other = other.clone();
+        assert_eq!(thread::spawn(move || other.get(&KEY)).join().unwrap(), Some(10));
+    });
+    assert_eq!(calls(|| map.peek(&KEY)).1, Ok(Some(10)));
+}
+
+// The thread that moves the key, and notes that, ends. This one takes its pass over, and has looked into the main table before.
+#[test]
+fn a_lookup_finds_it_though_it_takes_over_a_pass_that_knows_of_the_move() {
+    let ((ready, is_ready), (go, goes)) = (channel(), channel());
+    let mover = thread::spawn(move || {
+        let map = open_for(1);
+        map.insert(&KEY, 10).unwrap();
+        ready.send(map.clone()).unwrap();
+        goes.recv().unwrap();
+        assert_eq!((map.get(&KEY), map.get(&7)), (Some(10), None));
+    });
+    let map: Numbers = is_ready.recv().unwrap();
+    let mover = Cell::new(Some(mover));
+    // It asks twice for a pass of its own before it looks into the main table by the shared one.
+    before_calls(2, 1, move || {
+        go.send(()).unwrap();
+        mover.take().unwrap().join().unwrap();
+    });
+    assert_eq!(calls(|| map.get(&KEY)).1, Some(10));
+}
+
+// Nor does it matter what others noted in the pass that all threads share.
+#[test]
+fn a_lookup_by_the_shared_pass_finds_a_key_that_moves_meanwhile() {
+    let map = open_for(0);
+    map.insert(&KEY, 10).unwrap();
+    let other = map.clone();
+    // It asks twice for a pass of its own before each call.
+    before_calls(3, 1, move || {
+        let map = other.clone();
+        thread::spawn(move || assert_eq!((map.get(&KEY), map.get(&7)), (Some(10), None))).join().unwrap();
+    });
+    assert_eq!(calls(|| map.get(&KEY)).1, Some(10));
+}
+
+// Another thread has put the key into the main table after this one looked there. Before it takes the key out of the small table, others evict it
+// there.
+#[test]
+fn a_lookup_finds_a_key_that_is_evicted_while_it_moves() {
+    let map = with_young();
+    (0..2).for_each(|_| assert_eq!(map.get(&7), None));
+    let ((evicted, is_evicted), (go, goes)) = (channel(), channel::<()>());
+    let other = map.clone();
+    let mover = move || {
+        let map = other.clone();
+        let evict = move || {
+            // Some of these have the lock of the key that moves.
+            (100..200).take_while(|_| place(&map, KEY).1).for_each(|key| _ = map.try_insert(&key, 0));
+            evicted.send(place(&map, KEY)).unwrap();
+            let _ = goes.recv();
+        };
+        let evict = Cell::new(Some(evict));
+        before_calls(5, 1, move || evict.take().unwrap()());
+        assert_eq!(calls(|| other.get(&KEY)).1, Some(10));
+    };
+    let mover = Cell::new(Some(mover));
+    before_calls(1, 1, move || {
+        thread::spawn(mover.take().unwrap());
+        assert_eq!(is_evicted.recv(), Ok((true, false)));
+    });
+    assert_eq!(calls(|| map.get(&KEY)).1, Some(10));
+    drop(go);
+}
+
+// A miss costs a third call only after a key has moved.
+#[test]
+fn a_miss_looks_at_each_table_once() {
+    let map = with_young();
+    assert_eq!(calls(|| map.get(&KEY)).1, Some(10));
+    assert_eq!(calls(|| map.get(&7)), (3, None));
+    assert_eq!(calls(|| map.get(&7)), (2, None));
+    assert_eq!(calls(|| map.get(&KEY)), (1, Some(10)));
+}
+
+// Before each call of the index that a move makes, another thread tries to write the key. It finds it at any time.
+#[test]
+fn no_write_comes_between_the_steps_of_a_move() {
+    // The lookup makes three calls, and so does the move.
+    for step in 3..6 {
+        let map = with_young();
+        let other = map.clone();
+        before_calls(step, 1, move || {
+            let map = other.clone();
+            let writes = move || (map.try_remove(&KEY), map.try_insert(&KEY, 11), map.try_update(&KEY, |_| 12), map.get(&KEY));
+            let held = (Err(RemoveError::Held), Err(InsertError::Held), Err(UpdateError::Insert(InsertError::Held)), Some(10));
+            assert_eq!(thread::spawn(writes).join().unwrap(), held);
+        });
+        assert_eq!(calls(|| map.get(&KEY)).1, Some(10));
+        assert_eq!((place(&map, KEY), map.remove(&KEY), map.get(&KEY)), ((true, false), Ok(Some(10)), None));
+    }
+}
+
+// The key is in no table while a move has it, since it is evicted from the small one. No removal takes that for its end.
+#[test]
+fn a_removal_waits_for_a_key_that_is_evicted_while_it_moves() {
+    let map = with_young();
+    let other = map.clone();
+    before_calls(4, 1, move || {
+        let map = other.clone();
+        let writes = move || {
+            // Some of these have the lock of the key that moves.
+            (100..200).take_while(|_| place(&map, KEY).1).for_each(|key| _ = map.try_insert(&key, 0));
+            assert_eq!((place(&map, KEY), map.get(&KEY)), ((false, false), None));
+            assert_eq!((map.try_remove(&KEY), map.try_clear()), (Err(RemoveError::Held), Err(ClearError::Held)));
+            assert_eq!(map.modify(&KEY, |old| old), Err(UpdateError::Insert(InsertError::Held)));
+            let put = map.try_update(&KEY, |old| old.unwrap_or(0));
+            assert_eq!(put, Err(UpdateError::Insert(InsertError::Held)));
+        };
+        thread::spawn(writes).join().unwrap();
+    });
+    assert_eq!(calls(|| map.get(&KEY)).1, Some(10));
+    // The first lookup of a key may evict another one.
+    let there = || (1_000..1_037).chain(100..200).chain([KEY]).filter(|key| map.contains_key(key)).count();
+    assert_eq!((there() >= 36, there(), place(&map, KEY)), (true, map.len(), (true, false)));
+    assert_eq!((map.remove(&KEY), map.get(&KEY)), (Ok(Some(10)), None));
+}
+
+// Before each call of the index that a write makes, another thread finds the key, and tries to move it.
+#[test]
+fn no_move_comes_between_the_steps_of_a_write() {
+    let writes: [fn(&Numbers) -> bool; 4] = [
+        |map| map.insert(&KEY, 11).is_ok(),
+        |map| map.remove(&KEY) == Ok(Some(10)),
+        |map| map.update(&KEY, |_| 11) == Ok(11),
+        |map| map.clear().is_ok(),
+    ];
+    for (number, write) in writes.into_iter().enumerate() {
+        for step in 0..6 {
+            let map = with_young();
+            let (other, last) = (map.clone(), [Some(11), None, Some(11), None][number]);
+            before_calls(step, 1, move || {
+                let map = other.clone();
+                let found = thread::spawn(move || map.get(&KEY)).join().unwrap();
+                assert!(found == Some(10) || found == last);
+            });
+            let done = write(&map);
+            let reached = crate::slots::BEFORE_CALL.take().is_none();
+            assert!(done && (reached || step > 2), "write {number}, step {step}");
+            assert_eq!(map.get(&KEY), last, "write {number}, step {step}");
+            let (in_main, in_small) = place(&map, KEY);
+            assert!(!(in_main && in_small));
+        }
+    }
+}
+
+type Write = fn(&Numbers);
+
+// What is in both tables is one entry to all calls.
+#[test]
+fn a_write_leaves_no_older_copy() {
+    let writes: [(Write, Option<u64>, usize); 5] = [
+        (|map| assert_eq!(map.insert(&KEY, 11), Ok(Inserted::Renewed)), Some(11), 36),
+        (|map| assert_eq!(map.update(&KEY, |old| old.unwrap() + 1), Ok(11)), Some(11), 36),
+        (|map| assert_eq!(map.modify(&KEY, |old| old + 1), Ok(Some(11))), Some(11), 36),
+        (|map| assert_eq!(map.remove(&KEY), Ok(Some(10))), None, 35),
+        (|map| assert_eq!(map.clear(), Ok(())), None, 0),
+    ];
+    for (write, value, entries) in writes {
+        let map = with_both();
+        assert_eq!(map.get(&KEY), Some(10));
+        write(&map);
+        assert_eq!((map.get(&KEY), place(&map, KEY), map.len()), (value, (value.is_some(), false), entries));
+    }
+}
+
+#[test]
+fn a_write_that_cannot_remove_a_copy_changes_nothing() {
+    let map = with_both();
+    let turn = hold_small(&map);
+    assert_eq!(map.insert(&KEY, 11), Err(InsertError::Held));
+    assert_eq!(map.update(&KEY, |_| 11), Err(UpdateError::Insert(InsertError::Held)));
+    assert_eq!((map.remove(&KEY), map.get(&KEY)), (Err(RemoveError::Held), Some(10)));
+    drop(turn);
+    assert_eq!((map.remove(&KEY), map.get(&KEY), map.len()), (Ok(Some(10)), None, 35));
+}
+
+// A lookup sees the key in the small table while another thread moves it, and can't take it out. The lookup can.
+#[test]
+fn a_lookup_ends_a_move_that_another_began() {
+    let map = with_young();
+    let other = map.clone();
+    before_calls(1, 1, move || {
+        let turn = hold_small(&other);
+        let other = other.clone();
+        assert_eq!(thread::spawn(move || other.get(&KEY)).join().unwrap(), Some(10));
+        drop(turn);
+    });
+    assert_eq!(calls(|| map.get(&KEY)).1, Some(10));
+    assert_eq!((place(&map, KEY), map.len()), ((true, false), 36));
+}
+
+fn moment(map: &Numbers, key: u64) -> u64 {
+    match map.inner.look(map.inner.print(&key), 1) {
+        Some(Found::Live(_, since)) => since,
+        _ => panic!("key {key} is not there"),
+    }
+}
+
+// Each table counts its own moments. A key that was put into the small table is not taken for what was in the main one at the same moment.
+#[test]
+fn a_write_on_a_condition_tells_the_tables_apart() {
+    let map = with_young();
+    assert_eq!(map.get(&KEY), Some(10));
+    let since = moment(&map, KEY);
+    let write = || {
+        assert_eq!(map.remove(&KEY), Ok(Some(10)));
+        // The first of these takes the room in the main table.
+        (2..5).for_each(|key| assert!(map.insert(&key, 0).is_ok()));
+        while moment(&map, 4) & !OF_SMALL < since - 1 {
+            assert_eq!(map.insert(&4, 0), Ok(Inserted::Renewed));
+        }
+        assert!(map.insert(&KEY, 20).is_ok());
+        assert_eq!(moment(&map, KEY), since | OF_SMALL);
+    };
+    let mut seen = Vec::new();
+    let changed = map.update(&KEY, |old| {
+        if seen.is_empty() {
+            write();
+        }
+        seen.push(old);
+        old.unwrap() + 1
+    });
+    assert_eq!((changed, seen), (Ok(21), vec![Some(10), Some(20)]));
+}
+
+// A copy that is evicted, or found after the main table has evicted the key, is the same value.
+#[test]
+fn a_copy_goes_like_any_key() {
+    let map = with_both();
+    (2..8).for_each(|key| assert!(map.insert(&key, key).is_ok()));
+    assert_eq!((place(&map, KEY), map.get(&KEY), map.len()), ((true, false), Some(10), 40));
+}
+
+// A move takes the deadline along.
+#[test]
+fn what_moved_expires_when_it_would_have() {
+    let map = open();
+    map.insert_for(&KEY, 10, Duration::from_secs(5)).unwrap();
+    assert_eq!((map.get(&KEY), place(&map, KEY)), (Some(10), (true, false)));
+    map.inner.clock.turn(Duration::from_secs(6));
+    assert_eq!((map.get(&KEY), map.stats().expired), (None, 1));
+}
+
+// It is told apart from a miss, and doesn't move.
+#[test]
+fn what_has_expired_in_the_small_table_stays_there() {
+    let map = open();
+    map.insert_for(&KEY, 10, Duration::from_secs(5)).unwrap();
+    map.inner.clock.turn(Duration::from_secs(6));
+    assert_eq!((map.get(&KEY), map.stats().expired, place(&map, KEY)), (None, 1, (false, true)));
+    assert_eq!((map.update(&KEY, |old| old.unwrap_or(7)), map.get(&KEY)), (Ok(7), Some(7)));
+}
+
+/// Gives keys one of 50 numbers in the index, and themselves as check words.
+#[derive(Default)]
+struct Narrow(Vec<u64>);
+
+impl Hasher for Narrow {
+    fn write(&mut self, _: &[u8]) {
+        unreachable!("a key is a number")
+    }
+
+    fn write_u64(&mut self, number: u64) {
+        self.0.push(number);
+    }
+
+    fn finish(&self) -> u64 {
+        let [kind, key] = self.0[..] else { panic!("a key is hashed after a number") };
+        if kind == 0 {
+            key % 50
+        } else {
+            key
+        }
+    }
+}
+
+// Keys with the same number in the index drive each other out, in both tables. None has another one's value, or an older one.
+#[test]
+fn keys_that_meet_in_the_index_are_told_apart() {
+    let map = Map::<u64, u64>::builder(30).small_table().hasher(BuildHasherDefault::<Narrow>::default()).open().unwrap();
+    let (mut last, mut seed, mut found) = (HashMap::new(), 7_u64, 0);
+    for number in 0..30_000 {
+        seed = seed.wrapping_mul(0x5851_f42d_4c95_7f2d).wrapping_add(1);
+        let (key, kind) = ((seed >> 33) % 150, (seed >> 60) % 8);
+        let value = match kind {
+            0..=3 => map.get(&key),
+            4 => map.remove(&key).unwrap(),
+            5 => map.modify(&key, |old| old).unwrap(),
+            _ => None,
+        };
+        assert!(value.is_none() || value == last.get(&key).copied(), "key {key}");
+        found += u64::from(value.is_some());
+        match kind {
+            4 => _ = last.remove(&key),
+            6 => _ = (map.insert(&key, number).unwrap(), last.insert(key, number)),
+            7 => _ = (map.update(&key, |_| number).unwrap(), last.insert(key, number)),
+            _ => {}
+        }
+    }
+    assert!(found > 1_000 && map.stats().collided > 1_000, "{found}, {:?}", map.stats());
+    let there = || (0..150).filter(|key| map.contains_key(key)).count();
+    assert_eq!((there() > 0, there()), (true, map.len()));
+}
+
+#[test]
+fn a_sketch_notes_a_key_until_others_come() {
+    let sketch = Sketch::new(1_000);
+    let key = |number: u64| number.wrapping_mul(0x0123_4567_89ab_cdef);
+    assert!((0..1_000).filter(|number| sketch.take(key(*number))).count() == 0);
+    (0..100).for_each(|number| sketch.note(key(number)));
+    let noted = (0..100).filter(|number| sketch.take(key(*number))).count();
+    assert!(noted >= 90, "{noted} of 100");
+    assert_eq!((0..100).filter(|number| sketch.take(key(*number))).count(), 0);
+    (0..10_000).for_each(|number| sketch.note(key(number)));
+    let (late, early) = (
+        (9_500..10_000).filter(|number| sketch.take(key(*number))).count(),
+        (0..5_000).filter(|number| sketch.take(key(*number))).count(),
+    );
+    assert!(late > 250 && early < 100, "{late} late and {early} early keys");
+}

@@ -1,0 +1,76 @@
+//! A call with each key and its value.
+use crate::ledger::Ledger;
+use cefrodil_map::ObjectMap;
+use std::collections::HashMap;
+use std::panic::{catch_unwind, AssertUnwindSafe};
+use std::thread;
+use std::time::Duration;
+
+fn all(map: &ObjectMap<u64, String>) -> HashMap<u64, String> {
+    let (mut seen, mut calls) = (HashMap::new(), 0);
+    map.for_each(|key, value| {
+        calls += 1;
+        seen.insert(*key, value.clone());
+    })
+    .unwrap();
+    assert_eq!(seen.len(), calls);
+    seen
+}
+
+#[test]
+fn it_sees_each_entry_once() {
+    for shards in [1, 8] {
+        let map = ObjectMap::builder(1_000).shards(shards).open().unwrap();
+        assert!(all(&map).is_empty());
+        let mut put = HashMap::new();
+        for key in 0..500 {
+            map.insert(key, key.to_string()).unwrap();
+            put.insert(key, key.to_string());
+        }
+        (0..100).for_each(|key| assert_eq!(map.remove(&key), Ok(put.remove(&key))));
+        map.insert(100, "new".into()).unwrap();
+        put.insert(100, "new".into());
+        let before = map.stats();
+        assert_eq!((all(&map), map.stats()), (put, before));
+    }
+}
+
+#[test]
+fn it_sees_nothing_that_has_expired() {
+    let map = ObjectMap::new(100).unwrap();
+    map.insert(1, String::from("one")).unwrap();
+    map.insert_for(2, String::from("two"), Duration::ZERO).unwrap();
+    assert_eq!((all(&map), map.len()), (HashMap::from([(1, "one".into())]), 2));
+}
+
+// What it lists stays, though another thread removes it meanwhile, and is freed afterwards.
+#[test]
+fn no_object_is_freed_before_it_ends() {
+    const KEYS: u64 = 100;
+    let ledger = Ledger::new(1_000);
+    let map = ObjectMap::new(1_000).unwrap();
+    (0..KEYS).for_each(|key| _ = map.insert(key, ledger.make(key)).unwrap());
+    let mut seen = 0;
+    map.for_each(|key, value| {
+        if seen == 0 {
+            thread::scope(|threads| threads.spawn(|| map.clear().unwrap()).join().unwrap());
+            assert!(map.is_empty() && map.free_unused() == KEYS as usize);
+        }
+        value.is_right(*key);
+        seen += 1;
+    })
+    .unwrap();
+    assert_eq!((seen, ledger.dropped()), (KEYS, 0));
+    assert_eq!((map.free_unused(), ledger.dropped()), (0, KEYS));
+    ledger.each_once();
+}
+
+#[test]
+fn a_panic_ends_it() {
+    let ledger = Ledger::new(10);
+    let map = ObjectMap::new(100).unwrap();
+    map.insert(1, ledger.make(1)).unwrap();
+    assert!(catch_unwind(AssertUnwindSafe(|| map.for_each(|_, _| panic!("on purpose")))).is_err());
+    map.remove_with(&1, |_| ()).unwrap();
+    assert_eq!((map.free_unused(), ledger.dropped()), (0, 1));
+}

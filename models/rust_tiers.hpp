@@ -1,0 +1,127 @@
+// How a key moves from the small table of the crate `cefrodil-map` to the main one, line by line. .ci/models checks that each quoted line is still there.
+//| in map/src/tiers.rs
+//
+// One thread moves a key. Another one evicts what the small table has of it, may write it, and removes it. A third one looks it up twice. No lookup
+// finds an older value than was written before it, or any after the removal. None misses the key before it is evicted or removed.
+//
+// A table is one entry, and a call of the index one step of it. All steps are sequentially consistent, as those of the crate are.
+#ifndef RUST_TIERS_HPP
+#define RUST_TIERS_HPP
+
+#include "explored.hpp"
+
+struct RustTiers : rl::test_suite<RustTiers, 3> {
+    static constexpr unsigned interruptions = 2;
+    static constexpr std::array<std::string_view, 8> steps{
+        "lock of a move",         "lock of a write",   "removal of the copy",            "beginning of a move",
+        "put before the removal", "ends of all moves", "another look into the main one", "lock of a removal that finds nothing"};
+
+    using Guard = std::lock_guard<explored::Mutex>;
+    static constexpr std::memory_order all = std::memory_order_seq_cst;
+    static constexpr int none = 0;
+
+    // The words of the key in each table.
+    explored::Atomic<int> main{none}, small{1};
+    explored::Mutex key_lock{};
+    explored::Atomic<int> begun{0}, ended{0};
+    // What was written before. Whether an eviction or the removal has begun that may leave no value.
+    explored::Atomic<int> written{1}, leaves{0};
+
+    void move() {
+        const explored::Mutex::Off off("lock of a move");
+        const Guard guard(key_lock);                                  //| let Some(_locked) = self.lock(key) else { return };
+        if (!explored::without("beginning of a move")) {
+            begun.fetch_add(1, all);                                  //| let _moving = self.moves.begin();
+        }
+        const int words = small.load(all);
+        if (words == none) {
+            ended.fetch_add(1, all);
+            return;
+        }
+        const bool is_late = explored::without("put before the removal");
+        is_late ? void(small.compare_exchange(words, none, all)) : void();
+        main.compare_exchange(none, words, all);                      //| let is_new = match self.main.call(|pass| pass.put_if_absent(key, &value)) {
+        if (!is_late && rl::rand(2) == 0) { // or it can't
+            small.compare_exchange(words, none, all);                 //| let taken = in_turn(tries, || self.small.call(|small| small.pass.take_if(key, since)));
+        }
+        ended.fetch_add(1, all);
+    }
+
+    // From the small table. If the main table has the key, there is a value all the time.
+    void evict() {
+        if (main.load(all) == none) {
+            leaves.store(1, all);
+        }
+        small.exchange(none, all);
+    }
+    void write(int words) {
+        const explored::Mutex::Off off("lock of a write");
+        const Guard guard(key_lock);                                  //| let _locked = self.lock(key).ok_or(TurnError::Held)?;
+        const bool in_main = main.load(all) != none;                  //| let in_main = self.main.call(|pass| pass.has(key))?;
+        const bool in_small = small.load(all) != none;                //| let in_small = self.small.call(|small| small.pass.has(key))?;
+        if (in_main && in_small && !explored::without("removal of the copy")) {
+            small.store(none, all);                                   //| if let Removal::Removed { .. } = self.small.call(|small| small.pass.remove(key)).ok()? {
+        }
+        (in_main ? main : small).store(words, all);
+    }
+    void remove() {
+        leaves.store(1, all);
+        const bool is_absent = main.load(all) == none && small.load(all) == none && main.load(all) == none;
+        if (!is_absent || !explored::without("lock of a removal that finds nothing")) {
+            write(none); //| let _locked = self.lock(key)?;
+        }
+    }
+
+    // What a thread notes, and the lookups of that thread.
+    struct Reader {
+        int rest = -1; //| in map/src/moves.rs
+
+        bool has_lasted(RustTiers &tiers) {
+            const int now = tiers.begun.load(all);                    //| let begun = moves.begun.load(SeqCst);
+            if (rest == now) {                                        //| if self.moves == begun && self.thread == this_thread() {
+                return true;
+            }
+            const bool have_ended = tiers.ended.load(all) == now;     //| let have_ended = moves.ended.load(SeqCst) == begun;
+            rest = have_ended || explored::without("ends of all moves") ? now : -1;
+            return false;
+        }
+        int look_up(RustTiers &tiers) {
+            if (const int words = tiers.main.load(all); words != none) {
+                return words;
+            }
+            if (const int words = tiers.small.load(all); words != none) {
+                return words;
+            }
+            const bool is_sure = has_lasted(tiers) || explored::without("another look into the main one");
+            return is_sure ? none : tiers.main.load(all);
+        }
+    };
+
+    void look_up(Reader &reader) {
+        const int least = written.load(all);
+        const int words = reader.look_up(*this);
+        RL_ASSERT(words >= least || (words == none && leaves.load(all) != 0));
+    }
+
+    void thread(unsigned index) {
+        Reader reader;
+        if (index == 0) {
+            move();
+        } else if (index == 1) {
+            evict();
+            if (rl::rand(2) == 0) {
+                write(2);
+                written.store(2, all);
+                RL_ASSERT(reader.look_up(*this) == 2);
+            }
+            remove();
+            RL_ASSERT(reader.look_up(*this) == none);
+        } else {
+            reader.has_lasted(*this); // at the end of a lookup of another key
+            look_up(reader);
+            look_up(reader);
+        }
+    }
+};
+
+#endif
