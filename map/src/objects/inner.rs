@@ -116,6 +116,10 @@ impl<K, V, S> Drop for Left<'_, K, V, S> {
 impl<K, V, S> Drop for ObjectInner<K, V, S> {
     // No call runs any more. What is in the index is retired like what has left it, since nothing will look it up again.
     fn drop(&mut self) {
+        // In a forked child another thread may hold a lock or a turn for ever.
+        if !self.slots.are_of_this_process() {
+            return;
+        }
         let listed = self.slots.in_turn(LISTS, || self.slots.call(Pass::try_entries));
         for (_, [word]) in listed.into_iter().flatten() {
             self.free(self.epochs.retire(word));
