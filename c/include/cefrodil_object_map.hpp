@@ -145,29 +145,17 @@ template <class K, class V, class Hash = SipHash<K>, class Equal = std::equal_to
         if (!inner_) {
             return {Status::closed, function(), true};
         }
-        const inside::Identity known = inner_->identities.of(key);
         for (;;) {
             if (std::optional<V> found = find(key)) {
                 return {Status::ok, std::move(*found), false};
             }
-            inside::Flight flight(inner_->flights_of(known), known);
-            if (!flight.has_begun()) {
-                continue;
-            }
-            // Another flight may have ended between the lookup and the begin of this one.
-            if (std::optional<V> found = find(key)) {
-                return {Status::ok, std::move(*found), false};
-            }
-            V value = function();
-            Own object(new (std::nothrow) inside::Object<K, V>(key, static_cast<const V &>(value)));
             Changed put = Objects::refused(Status::no_memory);
-            // No code of the caller's runs under the lock of the flight.
-            const Status status = flight.land([&] {
-                put = object ? inner_->objects.put_absent(known.index, object) : put;
-                return put.status == Status::changed ? Status::present : put.status;
-            });
+            std::optional<Computed<V>> computed = compute(key, function, put);
+            // No listener and no destructor runs while others wait for the flight.
             static_cast<void>(inner_->objects.end(put));
-            return {status, std::move(value), true};
+            if (computed) {
+                return std::move(*computed);
+            }
         }
     }
 
@@ -187,6 +175,25 @@ template <class K, class V, class Hash = SipHash<K>, class Equal = std::equal_to
     Meter meter() const noexcept { return inner_ ? inner_->objects.turns().meter() : Meter(nullptr); }
 
   private:
+    // Computes the key's value, if no other call does so now, and puts it. None: another call did.
+    template <class Function> std::optional<Computed<V>> compute(Key key, Function &function, Changed &put) {
+        const inside::Identity known = inner_->identities.of(key);
+        inside::Flight flight(inner_->flights_of(known), known);
+        if (!flight.has_begun()) {
+            return std::nullopt;
+        }
+        // Another flight may have ended between the lookup and the begin of this one.
+        if (std::optional<V> found = find(key)) {
+            return Computed<V>{Status::ok, std::move(*found), false};
+        }
+        V value = function();
+        Own object(new (std::nothrow) inside::Object<K, V>(key, static_cast<const V &>(value)));
+        const Status status = flight.land([&] {
+            put = object ? inner_->objects.put_absent(known.index, object) : put;
+            return put.status == Status::changed ? Status::present : put.status;
+        });
+        return Computed<V>{status, std::move(value), true};
+    }
     // Makes an object, and puts it.
     template <class Value, class Put> Stored put(Key key, std::remove_reference_t<Value> &value, Put make) {
         if (!inner_) {

@@ -262,6 +262,24 @@ static void computed_once() {
     MUST(closed.find_or_compute(1, [] { return std::string("x"); }).status == Status::closed);
 }
 
+// A listener that hears of what a computed value evicted may compute that value's key.
+static void computed_by_a_listener() {
+    object_map<int, std::string> map;
+    int key = 0, heard = 0;
+    const auto hear = [&](const int &, const std::string &, Left why) {
+        if (why == Left::evicted && heard++ == 0) {
+            MUST(map.erase(key) == Status::ok);
+            MUST(map.find_or_compute(key, [] { return std::string("again"); }).status == Status::ok);
+        }
+    };
+    MUST(map.open({10, 1}, hear) == Status::ok);
+    while (heard == 0 && key < 1000) {
+        key++;
+        static_cast<void>(map.find_or_compute(key, [] { return std::string("first"); }));
+    }
+    MUST(heard == 1 && map.find(key) == "again");
+}
+
 // Of several threads that insert a key, one does.
 static void inserted_once(uint64_t keys) {
     object_map<uint64_t, Tracked> map;
@@ -329,6 +347,7 @@ int main(int argc, char **argv) {
     agrees_with_a_model(less);
     calls_within_calls();
     computed_once();
+    computed_by_a_listener();
     inserted_once(20000 / uint64_t(less));
     threads(less, {1000});
     threads(less, {60, 2, 3});

@@ -177,6 +177,11 @@ impl<P: 'static> Slots<P> {
 }
 
 impl<P> Slots<P> {
+    /// Whether this process opened the map, and not one from which it was forked.
+    pub fn are_of_this_process(&self) -> bool {
+        self.process == process::id()
+    }
+
     fn take_free(&self) -> Option<usize> {
         // Relaxed: a guess that saves the lock. If it is wrong, the thread's next call tries again, or finds the list empty.
         if self.free_count.load(Relaxed) == 0 {
@@ -196,7 +201,7 @@ trait Home {
 
 impl<P> Home for Slots<P> {
     fn give_back(&self, index: usize) {
-        if self.process != process::id() {
+        if !self.are_of_this_process() {
             return;
         }
         let mut free = lock(&self.free);

@@ -19,7 +19,8 @@ pub struct Counts {
     pub misses: u64,
     /// Lookups that were busy.
     pub busy: u64,
-    /// Writes, lists and peeks by a pass whose try for the turn did not win.
+    /// Writes, lists and peeks by a pass whose try for the turn did not win. If it grows while no write succeeds, a thread has stopped within
+    /// a write, and keeps the turn.
     pub held: u64,
     /// Puts that evicted another key.
     pub evictions: u64,

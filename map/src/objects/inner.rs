@@ -126,6 +126,10 @@ impl<O: Held, S> Drop for Left<'_, O, S> {
 impl<O: Held, S> Drop for ObjectInner<O, S> {
     // No call runs any more. What is in the index is retired like what has left it, since nothing will look it up again.
     fn drop(&mut self) {
+        // In a forked child another thread may hold a lock or a turn for ever.
+        if !self.slots.are_of_this_process() {
+            return;
+        }
         let listed = self.slots.in_turn(LISTS, || self.slots.call(Pass::try_entries));
         for (_, [word]) in listed.into_iter().flatten() {
             self.free(self.epochs.retire(word));
