@@ -99,7 +99,7 @@ fn another_one_hears_of_each_object_when_it_is_freed() {
         .unwrap();
     (0..10).for_each(|key| done(map.insert(key, ledger.make(key)).unwrap()));
     map.get_with(&0, |_| {
-        (0..5).for_each(|key| assert!(map.remove(&key).unwrap().is_some()));
+        (0..5).for_each(|key| assert!(map.remove_with(&key, |_| ()).unwrap().found().is_some()));
         assert_eq!((left.load(SeqCst), map.free_unused(), freed.load(SeqCst)), (5, 5, 0), "they wait for this closure");
     });
     assert_eq!((map.free_unused(), freed.load(SeqCst), ledger.dropped()), (0, 5, 5));
