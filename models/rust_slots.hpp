@@ -10,8 +10,8 @@
 
 struct RustSlots : rl::test_suite<RustSlots, 2> {
     static constexpr unsigned interruptions = 2;
-    static constexpr std::array<std::string_view, 5> steps{"lock of take_free", "lock of give_back", "reset of RECENT", "end of CLAIMS",
-                                                           "ids of their own"};
+    static constexpr std::array<std::string_view, 6> steps{"lock of take_free", "lock of give_back", "reset of LAST",
+                                                           "reset of RECENT",   "end of CLAIMS",     "ids of their own"};
 
     using Guard = std::lock_guard<explored::Mutex>;
 
@@ -50,20 +50,25 @@ struct RustSlots : rl::test_suite<RustSlots, 2> {
         size_t index;
     };
 
-    // A place of RECENT.
+    // What LAST has, and each place of RECENT.
     struct Recent {
         size_t id = 0, index = 0;
     };
 
-    // What a thread has: RECENT and CLAIMS.
+    // What a thread has: LAST, RECENT and CLAIMS.
     struct Thread {
+        Recent last{};
         std::array<Recent, 2> recent{};
         std::vector<Claim> claims{};
         bool has_ended = false;
 
         std::optional<size_t> index_of(Slots &slots) {
+            if (last.id == slots.id) {                                    //| if last.id == self.id {
+                return last.index;                                        //| Some(last.index)
+            }
             const Recent seen = recent[slots.id % 2];                     //| let recent = RECENT.with(|recent| recent[place_of(self.id)].get());
-            if (seen.id == slots.id) {                                    //| if recent.id == self.id {
+            if (seen.id == slots.id) {                                    //| if recent.id != self.id {
+                last = seen;                                              //| LAST.set(recent);
                 return seen.index;                                        //| Some(recent.index)
             }
             const std::optional<size_t> found = find(slots);
@@ -89,6 +94,9 @@ struct RustSlots : rl::test_suite<RustSlots, 2> {
         }
         void drop() {
             has_ended = !explored::without("end of CLAIMS");
+            if (!explored::without("reset of LAST")) {
+                last = {};                                                //| LAST.set(Recent::NONE);
+            }
             if (!explored::without("reset of RECENT")) {
                 recent = {};                                              //| RECENT.with(|recent| recent.iter().for_each(|place| place.set(Recent::NONE)));
             }
@@ -108,10 +116,13 @@ struct RustSlots : rl::test_suite<RustSlots, 2> {
     }
     void thread(unsigned index) {
         Thread own;
-        call(own, index == 0 ? one : other);
-        call(own, other);
+        Slots &first = index == 0 ? one : other, &second = index == 0 ? other : one;
+        call(own, first);
+        call(own, second);
+        call(own, second);
         own.drop();
-        call(own, other); // by a destructor that runs later
+        call(own, second); // by a destructor that runs later
+        call(own, first);
     }
     void after() { RL_ASSERT(one.free.size() == 1 && other.free.size() == 1); }
 };

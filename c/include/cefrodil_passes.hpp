@@ -68,7 +68,7 @@ template <class Parts> class FreePassesOf {
 
 using FreePasses = FreePassesOf<Threads>;
 
-// The slots that a thread used lately, each at the place of its passes. The thread has a claim to these, so no others have their address. It has no
+// The slots that a thread used lately: the last one, and each at the place of its passes. The thread has a claim to these, so no others have their address. It has no
 // destructor, so it is there until the thread's very end.
 //
 // Each shared library that hides its symbols has its own copy of this and of the claims, and a thread has a pass by each copy. Numbers that each
@@ -78,6 +78,7 @@ struct RecentSlots {
         const FreePasses *passes = nullptr;
         void *slot = nullptr;
     };
+    Place last{}; // By this a program with one map is quickest.
     std::array<Place, 256> places{};
     bool has_ended = false;
 };
@@ -121,7 +122,7 @@ class Claims {
   private:
     Claims() noexcept {}
     ~Claims() {
-        recent_slots() = {{}, true};
+        recent_slots() = {{}, {}, true};
         for (const auto &[passes, pass] : claims_) {
             passes->give(pass);
         }
@@ -215,10 +216,19 @@ template <size_t Words> class Passes {
         return made(slots_[0]);
     }
     Slot<Words> *own_slot() noexcept {
-        const RecentSlots::Place &recent = recent_slots().places[place_];
-        return recent.passes == free_.get() ? static_cast<Slot<Words> *>(recent.slot) : find_slot();
+        const RecentSlots::Place &last = recent_slots().last;
+        return last.passes == free_.get() ? static_cast<Slot<Words> *>(last.slot) : find_slot();
     }
-    [[gnu::cold]] [[gnu::noinline]] Slot<Words> *find_slot() noexcept {
+    [[gnu::noinline]] Slot<Words> *find_slot() noexcept {
+        RecentSlots &recent = recent_slots();
+        const RecentSlots::Place &place = recent.places[place_];
+        if (place.passes != free_.get()) {
+            return claim_slot();
+        }
+        recent.last = place;
+        return static_cast<Slot<Words> *>(place.slot);
+    }
+    [[gnu::cold]] [[gnu::noinline]] Slot<Words> *claim_slot() noexcept {
         Claims *const claims = Claims::of_thread();
         const size_t pass = claims != nullptr ? claims->pass_of(free_) : 0;
         if (pass == 0) {

@@ -264,10 +264,10 @@ impl<K: ?Sized, V: Copy, S: BuildHasher> Inner<K, V, S> {
         let print = self.print(key);
         let words = self.words(print, value, self.deadline(life));
         self.flights.detach(print);
-        let put = self.slots.in_turn(tries, || match &self.tiers {
-            Some(tiers) => tiers.put(print.key, &words),
-            None => self.slots.call(|pass| pass.put(print.key, &words)),
-        });
+        let put = match &self.tiers {
+            None => self.slots.in_turn(tries, || self.slots.call(|pass| pass.put(print.key, &words))),
+            Some(tiers) => tiers.put_within(tries, print.key, &words),
+        };
         match put {
             Ok(put) => Ok(self.slots.count_put(put)),
             Err(why) => Err(self.refused(InsertError::of(why))),

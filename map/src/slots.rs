@@ -41,8 +41,8 @@ struct Slot<P> {
 // SAFETY: `counts` is `Sync`, so this is about `pass`. Only `Slots::own` touches it, and only in the slot that the calling thread has
 // claimed (`mine`). A `RefMut` stays in its thread, and each call of the map drops its own before it returns. At most one thread has
 // claimed a slot: its index begins in `free`, `take_free` takes it out for the thread that claims it, and it goes back at that thread's
-// end (`Claims::drop`). The thread doesn't use it again: by then `RECENT` is reset, and `CLAIMS` can not be reached any more. `RECENT` is never
-// of another map, since ids differ. The mutex of `free` orders what two threads do with a slot one after the other, and the pass may move
+// end (`Claims::drop`). The thread doesn't use it again: by then `LAST` and `RECENT` are reset, and `CLAIMS` can not be reached any more. Neither
+// is ever of another map, since ids differ. The mutex of `free` orders what two threads do with a slot one after the other, and the pass may move
 // to another thread (`Send`).
 unsafe impl<P: Send> Sync for Slot<P> {}
 
@@ -159,16 +159,26 @@ impl<P: 'static> Slots<P> {
     /// The index of that slot. No two threads have the same one at a time.
     #[inline]
     pub fn index(self: &Arc<Self>) -> Option<usize> {
-        let recent = RECENT.with(|recent| recent[place_of(self.id)].get());
-        if recent.id == self.id {
-            Some(recent.index)
+        let last = LAST.get();
+        if last.id == self.id {
+            Some(last.index)
         } else {
             self.find()
         }
     }
 
-    #[cold]
+    #[inline(never)]
     fn find(self: &Arc<Self>) -> Option<usize> {
+        let recent = RECENT.with(|recent| recent[place_of(self.id)].get());
+        if recent.id != self.id {
+            return self.claim();
+        }
+        LAST.set(recent);
+        Some(recent.index)
+    }
+
+    #[cold]
+    fn claim(self: &Arc<Self>) -> Option<usize> {
         // An error: the thread is ending, and has given its slots back.
         let index = CLAIMS.try_with(|claims| claims.find(self)).ok()??;
         RECENT.with(|recent| recent[place_of(self.id)].set(Recent { id: self.id, index }));
@@ -268,6 +278,8 @@ impl Hasher for IdHasher {
 }
 
 thread_local! {
+    // The map that the thread used last. By this a program with one map is quickest.
+    static LAST: Cell<Recent> = const { Cell::new(Recent::NONE) };
     // Maps that the thread used lately, each at the place of its id.
     static RECENT: [Cell<Recent>; PLACES] = const { [const { Cell::new(Recent::NONE) }; PLACES] };
     static CLAIMS: Claims = Claims::default();
@@ -292,6 +304,7 @@ impl Claims {
 
 impl Drop for Claims {
     fn drop(&mut self) {
+        LAST.set(Recent::NONE);
         RECENT.with(|recent| recent.iter().for_each(|place| place.set(Recent::NONE)));
         for claim in self.0.take().into_values() {
             if let Some(slots) = claim.slots.upgrade() {

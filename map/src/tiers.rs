@@ -162,7 +162,13 @@ impl Tiers {
         }
     }
 
-    pub fn put(&self, key: u64, words: &Words) -> Result<Put, TurnError<PutError>> {
+    /// Tries so often. Not a part of its caller, which is shorter then for a map with one table.
+    #[inline(never)]
+    pub fn put_within(&self, tries: u32, key: u64, words: &Words) -> Result<Put, TurnError<PutError>> {
+        self.main.in_turn(tries, || self.put(key, words))
+    }
+
+    fn put(&self, key: u64, words: &Words) -> Result<Put, TurnError<PutError>> {
         let _locked = self.lock(key).ok_or(TurnError::Held)?;
         match self.place(key).ok_or(TurnError::Held)? {
             Place::Main => self.put_main(key, words),

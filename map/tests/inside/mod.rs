@@ -9,6 +9,7 @@ mod expiry;
 mod fills;
 mod flights;
 mod held;
+mod moves;
 #[cfg(feature = "objects")]
 mod object_disturbed;
 #[cfg(feature = "objects")]

@@ -1,23 +1,20 @@
-//! A small table before the main one: which keys move, and that a move crosses no write and hides no key.
+//! A small table before the main one: which keys go where, and what both tables have.
 use super::turns::{before_calls, calls, Turn};
-use crate::inner::Found;
 use crate::sketch::Sketch;
 use crate::tiers::{SmallPass, OF_SMALL};
-use crate::{ClearError, InsertError, Inserted, Map, RemoveError, UpdateError};
+use crate::{InsertError, Inserted, Map, RemoveError, UpdateError};
 use cefrodil::Reply;
-use std::cell::Cell;
 use std::collections::HashMap;
 use std::hash::{BuildHasherDefault, Hasher};
-use std::sync::mpsc::channel;
 use std::thread;
 use std::time::Duration;
 
-type Numbers = Map<u64, u64>;
+pub type Numbers = Map<u64, u64>;
 
 /// How often a call tries here.
 const TRIES: u32 = 5;
 
-const KEY: u64 = 1;
+pub const KEY: u64 = 1;
 
 // A map whose main table is full. It has places for 36 keys, and the small one for 4.
 fn open() -> Numbers {
@@ -25,7 +22,7 @@ fn open() -> Numbers {
 }
 
 // As `open`, with a pass of their own for so many threads.
-fn open_for(threads: usize) -> Numbers {
+pub fn open_for(threads: usize) -> Numbers {
     let map = Map::builder(40).time_to_live(Duration::MAX).threads(threads).small_table();
     let map = map.open_shaped(&cefrodil::Shape::for_items(36).unwrap(), 1, TRIES).unwrap();
     (1_000..1_037).for_each(|key| _ = map.insert(&key, 0).unwrap());
@@ -34,7 +31,7 @@ fn open_for(threads: usize) -> Numbers {
 }
 
 // As `open`, with the key in the small table.
-fn with_young() -> Numbers {
+pub fn with_young() -> Numbers {
     let map = open();
     map.insert(&KEY, 10).unwrap();
     assert_eq!(place(&map, KEY), (false, true));
@@ -42,13 +39,13 @@ fn with_young() -> Numbers {
 }
 
 // Whether the main table has the key, and whether the small one has it.
-fn place(map: &Numbers, key: u64) -> (bool, bool) {
+pub fn place(map: &Numbers, key: u64) -> (bool, bool) {
     let (key, tiers) = (map.inner.print(&key).key, map.inner.tiers.as_ref().unwrap());
     let in_main = matches!(map.inner.slots.call(|pass| pass.get_or_desk(key)), Reply::Found { .. });
     (in_main, matches!(tiers.look_small(key), Reply::Found { since, .. } if since & OF_SMALL != 0))
 }
 
-fn hold_small(map: &Numbers) -> Turn {
+pub fn hold_small(map: &Numbers) -> Turn {
     Turn::begin(map.inner.tiers.as_ref().unwrap().small(), SmallPass::keys)
 }
 
@@ -113,30 +110,6 @@ fn a_put_over_a_new_key_leaves_it_where_it_is() {
     assert_eq!((map.remove(&KEY), place(&map, KEY), map.len()), (Ok(Some(11)), (false, false), 36));
 }
 
-// Another thread moves the key when the main table was looked at, and before the small one is.
-#[test]
-fn a_lookup_finds_a_key_that_moves_meanwhile() {
-    let looks: [fn(&Numbers) -> Option<u64>; 4] = [
-        |map| map.get(&KEY),
-        |map| map.get_many([&KEY])[0],
-        |map| map.modify(&KEY, |old| old).unwrap(),
-        |map| map.remove(&KEY).unwrap(),
-    ];
-    for (number, look) in looks.into_iter().enumerate() {
-        let map = with_young();
-        // Some moves are known to this thread before.
-        (0..number).for_each(|key| assert!(map.insert(&(50 + key as u64), 0).is_ok() && map.get(&(50 + key as u64)).is_some()));
-        map.insert(&KEY, 10).unwrap();
-        let other = map.clone();
-        // `get_many` looks at the small table after it has looked at the main one twice.
-        before_calls(if number == 1 { 2 } else { 1 }, 1, move || {
-            let other = other.clone();
-            assert_eq!(thread::spawn(move || other.get(&KEY)).join().unwrap(), Some(10));
-        });
-        assert_eq!(calls(|| look(&map)).1, Some(10), "look {number}");
-    }
-}
-
 #[test]
 fn a_peek_finds_a_key_in_both_tables_and_moves_none() {
     let map = with_young();
@@ -150,70 +123,6 @@ fn a_peek_finds_a_key_in_both_tables_and_moves_none() {
     assert_eq!(calls(|| map.peek(&KEY)).1, Ok(Some(10)));
 }
 
-// The thread that moves the key, and notes that, ends. This one takes its pass over, and has looked into the main table before.
-#[test]
-fn a_lookup_finds_it_though_it_takes_over_a_pass_that_knows_of_the_move() {
-    let ((ready, is_ready), (go, goes)) = (channel(), channel());
-    let mover = thread::spawn(move || {
-        let map = open_for(1);
-        map.insert(&KEY, 10).unwrap();
-        ready.send(map.clone()).unwrap();
-        goes.recv().unwrap();
-        assert_eq!((map.get(&KEY), map.get(&7)), (Some(10), None));
-    });
-    let map: Numbers = is_ready.recv().unwrap();
-    let mover = Cell::new(Some(mover));
-    // It asks twice for a pass of its own before it looks into the main table by the shared one.
-    before_calls(2, 1, move || {
-        go.send(()).unwrap();
-        mover.take().unwrap().join().unwrap();
-    });
-    assert_eq!(calls(|| map.get(&KEY)).1, Some(10));
-}
-
-// Nor does it matter what others noted in the pass that all threads share.
-#[test]
-fn a_lookup_by_the_shared_pass_finds_a_key_that_moves_meanwhile() {
-    let map = open_for(0);
-    map.insert(&KEY, 10).unwrap();
-    let other = map.clone();
-    // It asks twice for a pass of its own before each call.
-    before_calls(3, 1, move || {
-        let map = other.clone();
-        thread::spawn(move || assert_eq!((map.get(&KEY), map.get(&7)), (Some(10), None))).join().unwrap();
-    });
-    assert_eq!(calls(|| map.get(&KEY)).1, Some(10));
-}
-
-// Another thread has put the key into the main table after this one looked there. Before it takes the key out of the small table, others evict it
-// there.
-#[test]
-fn a_lookup_finds_a_key_that_is_evicted_while_it_moves() {
-    let map = with_young();
-    (0..2).for_each(|_| assert_eq!(map.get(&7), None));
-    let ((evicted, is_evicted), (go, goes)) = (channel(), channel::<()>());
-    let other = map.clone();
-    let mover = move || {
-        let map = other.clone();
-        let evict = move || {
-            // Some of these have the lock of the key that moves.
-            (100..200).take_while(|_| place(&map, KEY).1).for_each(|key| _ = map.try_insert(&key, 0));
-            evicted.send(place(&map, KEY)).unwrap();
-            let _ = goes.recv();
-        };
-        let evict = Cell::new(Some(evict));
-        before_calls(5, 1, move || evict.take().unwrap()());
-        assert_eq!(calls(|| other.get(&KEY)).1, Some(10));
-    };
-    let mover = Cell::new(Some(mover));
-    before_calls(1, 1, move || {
-        thread::spawn(mover.take().unwrap());
-        assert_eq!(is_evicted.recv(), Ok((true, false)));
-    });
-    assert_eq!(calls(|| map.get(&KEY)).1, Some(10));
-    drop(go);
-}
-
 // A miss costs a third call only after a key has moved.
 #[test]
 fn a_miss_looks_at_each_table_once() {
@@ -222,77 +131,6 @@ fn a_miss_looks_at_each_table_once() {
     assert_eq!(calls(|| map.get(&7)), (3, None));
     assert_eq!(calls(|| map.get(&7)), (2, None));
     assert_eq!(calls(|| map.get(&KEY)), (1, Some(10)));
-}
-
-// Before each call of the index that a move makes, another thread tries to write the key. It finds it at any time.
-#[test]
-fn no_write_comes_between_the_steps_of_a_move() {
-    // The lookup makes three calls, and so does the move.
-    for step in 3..6 {
-        let map = with_young();
-        let other = map.clone();
-        before_calls(step, 1, move || {
-            let map = other.clone();
-            let writes = move || (map.try_remove(&KEY), map.try_insert(&KEY, 11), map.try_update(&KEY, |_| 12), map.get(&KEY));
-            let held = (Err(RemoveError::Held), Err(InsertError::Held), Err(UpdateError::Insert(InsertError::Held)), Some(10));
-            assert_eq!(thread::spawn(writes).join().unwrap(), held);
-        });
-        assert_eq!(calls(|| map.get(&KEY)).1, Some(10));
-        assert_eq!((place(&map, KEY), map.remove(&KEY), map.get(&KEY)), ((true, false), Ok(Some(10)), None));
-    }
-}
-
-// The key is in no table while a move has it, since it is evicted from the small one. No removal takes that for its end.
-#[test]
-fn a_removal_waits_for_a_key_that_is_evicted_while_it_moves() {
-    let map = with_young();
-    let other = map.clone();
-    before_calls(4, 1, move || {
-        let map = other.clone();
-        let writes = move || {
-            // Some of these have the lock of the key that moves.
-            (100..200).take_while(|_| place(&map, KEY).1).for_each(|key| _ = map.try_insert(&key, 0));
-            assert_eq!((place(&map, KEY), map.get(&KEY)), ((false, false), None));
-            assert_eq!((map.try_remove(&KEY), map.try_clear()), (Err(RemoveError::Held), Err(ClearError::Held)));
-            assert_eq!(map.modify(&KEY, |old| old), Err(UpdateError::Insert(InsertError::Held)));
-            let put = map.try_update(&KEY, |old| old.unwrap_or(0));
-            assert_eq!(put, Err(UpdateError::Insert(InsertError::Held)));
-        };
-        thread::spawn(writes).join().unwrap();
-    });
-    assert_eq!(calls(|| map.get(&KEY)).1, Some(10));
-    // The first lookup of a key may evict another one.
-    let there = || (1_000..1_037).chain(100..200).chain([KEY]).filter(|key| map.contains_key(key)).count();
-    assert_eq!((there() >= 36, there(), place(&map, KEY)), (true, map.len(), (true, false)));
-    assert_eq!((map.remove(&KEY), map.get(&KEY)), (Ok(Some(10)), None));
-}
-
-// Before each call of the index that a write makes, another thread finds the key, and tries to move it.
-#[test]
-fn no_move_comes_between_the_steps_of_a_write() {
-    let writes: [fn(&Numbers) -> bool; 4] = [
-        |map| map.insert(&KEY, 11).is_ok(),
-        |map| map.remove(&KEY) == Ok(Some(10)),
-        |map| map.update(&KEY, |_| 11) == Ok(11),
-        |map| map.clear().is_ok(),
-    ];
-    for (number, write) in writes.into_iter().enumerate() {
-        for step in 0..6 {
-            let map = with_young();
-            let (other, last) = (map.clone(), [Some(11), None, Some(11), None][number]);
-            before_calls(step, 1, move || {
-                let map = other.clone();
-                let found = thread::spawn(move || map.get(&KEY)).join().unwrap();
-                assert!(found == Some(10) || found == last);
-            });
-            let done = write(&map);
-            let reached = crate::slots::BEFORE_CALL.take().is_none();
-            assert!(done && (reached || step > 2), "write {number}, step {step}");
-            assert_eq!(map.get(&KEY), last, "write {number}, step {step}");
-            let (in_main, in_small) = place(&map, KEY);
-            assert!(!(in_main && in_small));
-        }
-    }
 }
 
 type Write = fn(&Numbers);
@@ -324,55 +162,6 @@ fn a_write_that_cannot_remove_a_copy_changes_nothing() {
     assert_eq!((map.remove(&KEY), map.get(&KEY)), (Err(RemoveError::Held), Some(10)));
     drop(turn);
     assert_eq!((map.remove(&KEY), map.get(&KEY), map.len()), (Ok(Some(10)), None, 35));
-}
-
-// A lookup sees the key in the small table while another thread moves it, and can't take it out. The lookup can.
-#[test]
-fn a_lookup_ends_a_move_that_another_began() {
-    let map = with_young();
-    let other = map.clone();
-    before_calls(1, 1, move || {
-        let turn = hold_small(&other);
-        let other = other.clone();
-        assert_eq!(thread::spawn(move || other.get(&KEY)).join().unwrap(), Some(10));
-        drop(turn);
-    });
-    assert_eq!(calls(|| map.get(&KEY)).1, Some(10));
-    assert_eq!((place(&map, KEY), map.len()), ((true, false), 36));
-}
-
-fn moment(map: &Numbers, key: u64) -> u64 {
-    match map.inner.look(map.inner.print(&key), 1) {
-        Some(Found::Live(_, since)) => since,
-        _ => panic!("key {key} is not there"),
-    }
-}
-
-// Each table counts its own moments. A key that was put into the small table is not taken for what was in the main one at the same moment.
-#[test]
-fn a_write_on_a_condition_tells_the_tables_apart() {
-    let map = with_young();
-    assert_eq!(map.get(&KEY), Some(10));
-    let since = moment(&map, KEY);
-    let write = || {
-        assert_eq!(map.remove(&KEY), Ok(Some(10)));
-        // The first of these takes the room in the main table.
-        (2..5).for_each(|key| assert!(map.insert(&key, 0).is_ok()));
-        while moment(&map, 4) & !OF_SMALL < since - 1 {
-            assert_eq!(map.insert(&4, 0), Ok(Inserted::Renewed));
-        }
-        assert!(map.insert(&KEY, 20).is_ok());
-        assert_eq!(moment(&map, KEY), since | OF_SMALL);
-    };
-    let mut seen = Vec::new();
-    let changed = map.update(&KEY, |old| {
-        if seen.is_empty() {
-            write();
-        }
-        seen.push(old);
-        old.unwrap() + 1
-    });
-    assert_eq!((changed, seen), (Ok(21), vec![Some(10), Some(20)]));
 }
 
 // A copy that is evicted, or found after the main table has evicted the key, is the same value.
