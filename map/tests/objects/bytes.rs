@@ -88,12 +88,12 @@ fn each_call_does_what_it_says() {
     let hash = map.hash_of(b"1");
     map.look_hash(hash, |look| assert!(matches!(look, Ok(Look::Found { result, .. }) if result.number == 12)));
     map.look_hash(!hash, |look| assert!(matches!(look, Ok(Look::Absent { .. }))));
-    let hits = map.stats().hits();
+    let hits = map.stats().hits;
     map.peek_hash(hash, |look| {
         assert!(matches!(look, Ok(Look::Found { result, since, .. }) if result.number == 12 && since == second))
     });
     map.peek_hash(!hash, |look| assert!(matches!(look, Ok(Look::Absent { .. }))));
-    assert_eq!(map.stats().hits(), hits, "it is not counted");
+    assert_eq!(map.stats().hits, hits, "it is not counted");
     assert!(matches!(map.remove_if(b"1", first), Err(IfError::Changed { .. })));
     assert!(map.remove_if(b"1", second).is_ok());
     assert_eq!(found(1), None);
