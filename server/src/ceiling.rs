@@ -1,6 +1,6 @@
 //! The memory of the process. If it exceeds a ceiling, items get less room: the allocator loses some of it, and how much depends on their sizes.
 use crate::allocator;
-use crate::complain::complain;
+use crate::complain::{complain_at_times, Last};
 use crate::room::Room;
 use std::fs::File;
 use std::io;
@@ -60,7 +60,8 @@ impl Ceiling {
         let Ok(_turn) = self.turn.try_lock() else { return };
         self.looked_at.store(room.taken(), Relaxed);
         if let Err(why) = self.look_in_turn(room, buffers) {
-            complain(format_args!("the server's memory can't be read: {why}"));
+            static LAST: Last = Last::new(None);
+            complain_at_times(&LAST, format_args!("the server's memory can't be read: {why}"));
         }
     }
 

@@ -95,10 +95,12 @@ impl Connection {
 
     /// Reads, carries commands out and sends answers, as far as that is possible at once and not too much.
     pub fn turn(&mut self, store: &Store) -> io::Result<Next> {
+        let before = self.seat.bytes();
         self.borrow_buffers();
         let next = self.rounds(store);
         self.return_buffers();
-        if self.seat.hold(self.input.bytes.capacity() + self.output.capacity()) {
+        self.seat.hold(self.capacity());
+        if self.seat.bytes() <= before || !self.seat.is_over() {
             return next;
         }
         store.counts.add(Count::NoBuffers);
@@ -109,6 +111,18 @@ impl Connection {
             let _ = self.stream.write(b"SERVER_ERROR out of memory reading request\r\n");
         }
         Ok(Next::Nothing)
+    }
+
+    fn capacity(&self) -> usize {
+        self.input.bytes.capacity() + self.output.capacity()
+    }
+
+    /// Counts large buffers also within a turn. Small ones are the worker's.
+    fn count_large(&mut self) {
+        let capacity = self.capacity();
+        if capacity > LARGE {
+            self.seat.hold(capacity);
+        }
     }
 
     fn borrow_buffers(&mut self) {
@@ -146,6 +160,7 @@ impl Connection {
             } else if !self.receive(store)? {
                 return Ok(Next::Event);
             }
+            self.count_large();
         }
         Ok(Next::Turn)
     }

@@ -10,10 +10,10 @@ const LOOKS: u32 = 1000;
 /// How often no item could be removed before there is no room. Other threads may be about to add to the queue.
 const FAILURES: u32 = 100;
 
-/// How often a command waits, and how long, until items are freed that have left: 20 ms at least. It sleeps, so that a thread that was stopped
-/// while it reads them gets the processor.
-const WAITS: u32 = 200;
-const WAIT: Duration = Duration::from_micros(100);
+/// How often a command waits, and how long, until items are freed that have left: a tenth of a second at least. It sleeps, so that a thread that
+/// was stopped while it reads them gets the processor.
+const WAITS: u32 = 500;
+const WAIT: Duration = Duration::from_micros(200);
 
 /// How many entries a command looks at, at most, if the queue is too long. A removal makes the queue too long by two entries.
 const TIDIED: u32 = 8;

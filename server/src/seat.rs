@@ -48,16 +48,23 @@ impl Seats {
 }
 
 impl Seat {
-    /// Notes what the client's buffers take from now on. Returns whether they may: not if they take more than before, and all together too
-    /// much.
-    pub fn hold(&mut self, bytes: usize) -> bool {
+    /// Notes what the client's buffers take from now on.
+    pub fn hold(&mut self, bytes: usize) {
         let (bytes, before) = (bytes as u64, self.bytes);
-        if bytes == before {
-            return true;
+        if bytes != before {
+            self.bytes = bytes;
+            self.seats.bytes.fetch_add(bytes.wrapping_sub(before), Relaxed);
         }
-        self.bytes = bytes;
-        self.seats.bytes.fetch_add(bytes.wrapping_sub(before), Relaxed);
-        bytes < before || self.seats.bytes() <= self.seats.most_bytes
+    }
+
+    /// What they take.
+    pub fn bytes(&self) -> u64 {
+        self.bytes
+    }
+
+    /// Whether the buffers of all clients take too much.
+    pub fn is_over(&self) -> bool {
+        self.seats.bytes() > self.seats.most_bytes
     }
 }
 

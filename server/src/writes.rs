@@ -37,8 +37,8 @@ impl Store {
     }
 
     fn set(&self, order: &Order, data: &[u8]) -> Result<Answer, Fault> {
-        let next = self.fresh(order, self.clock.now(), data);
-        let put = self.put(next, None, |item| self.index.put(item).map(Outcome::Done))?;
+        let born = self.clock.now();
+        let put = self.put(order.key, data.len(), None, || self.index.put(self.fresh(order, born, data)).map(Outcome::Done))?;
         Ok(put.map_or(Answer::NotStored, Answer::Done))
     }
 
@@ -88,9 +88,9 @@ impl Store {
             Found::Live(length, token) => Some(Kept { stamp: self.stamp(key, token), bytes: cost(key.len(), length) }),
             Found::Dead(_) | Found::Absent => None,
         };
-        self.put(next, kept, |item| match found {
-            Found::Live(_, token) | Found::Dead(token) => self.index.put_if(token, item),
-            Found::Absent => self.index.put_new(item),
+        self.put(key, next.value().len(), kept, || match found {
+            Found::Live(_, token) | Found::Dead(token) => self.index.put_if(token, next),
+            Found::Absent => self.index.put_new(next),
         })
     }
 
@@ -98,21 +98,22 @@ impl Store {
         Stamp { hash: self.index.hash_of(key), token }
     }
 
+    /// Makes room for an item with a value of this length, and puts it.
     fn put(
         &self,
-        next: NewItem,
+        key: &[u8],
+        length: usize,
         kept: Option<Kept>,
-        put: impl FnOnce(NewItem) -> Result<Outcome, Refused>,
+        put: impl FnOnce() -> Result<Outcome, Refused>,
     ) -> Result<Option<Token>, Fault> {
-        let (bytes, is_large) = (cost(next.key().len(), next.value().len()), next.value().len() >= LARGE);
-        let hash = self.index.hash_of(next.key());
+        let bytes = cost(key.len(), length);
         self.make_room(bytes, kept)?;
-        let outcome = put(next);
-        if is_large {
+        let outcome = put();
+        if length >= LARGE {
             self.index.sweep();
         }
         if let Ok(Outcome::Done(token)) = outcome {
-            self.enqueue(Stamp { hash, token });
+            self.enqueue(self.stamp(key, token));
             self.look_at_memory();
             return Ok(Some(token));
         }

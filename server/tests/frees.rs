@@ -9,9 +9,9 @@ use std::thread;
 
 const LIMIT: u64 = 1 << 20;
 
-fn store() -> Store {
+fn store(limit: u64) -> Store {
     let Ok(Asked::Serve(options)) = parse(["-t2".to_owned()]) else { panic!("these are options") };
-    let room = Arc::new(Room::new(LIMIT));
+    let room = Arc::new(Room::new(limit));
     let index = Objects::open(10_000, 2, &room, None).expect("there is memory");
     Store::new(Box::new(index), room, options)
 }
@@ -31,7 +31,7 @@ fn while_it_is_read(store: &Store, key: &[u8], meanwhile: impl Fn() + Sync) {
 
 #[test]
 fn an_item_is_counted_until_it_is_freed() {
-    let store = store();
+    let store = store(LIMIT);
     assert!(matches!(set(&store, b"key", 1_000), Ok(Answer::Done(_))));
     let bytes = store.room.used();
     while_it_is_read(&store, b"key", || {
@@ -45,7 +45,7 @@ fn an_item_is_counted_until_it_is_freed() {
 
 #[test]
 fn what_waits_for_a_reader_is_bounded() {
-    let store = store();
+    let store = store(LIMIT);
     assert!(matches!(set(&store, b"key", 1_000), Ok(Answer::Done(_))));
     for size in [1_000, 50_000] {
         while_it_is_read(&store, b"key", || {
@@ -70,4 +70,15 @@ fn what_waits_for_a_reader_is_bounded() {
         assert!(store.room.waiting() < LIMIT / 2);
     }
     assert_eq!(store.room.evicted(), 0, "no other item makes room for what waits");
+}
+
+#[test]
+fn few_large_items_wait_though_nobody_reads() {
+    let store = store(32 * LIMIT);
+    (0..31).for_each(|key: u8| assert!(matches!(set(&store, &[key], 1 << 20), Ok(Answer::Done(_)))));
+    for key in 0..20_000_u32 {
+        assert!(matches!(set(&store, &key.to_be_bytes(), 1_000), Ok(Answer::Done(_))));
+        assert!(store.room.waiting() <= 32 * LIMIT / 128 + (1 << 20) + 100, "{key} {}", store.room.waiting());
+    }
+    assert!(store.room.evicted() >= 20);
 }

@@ -1,5 +1,5 @@
 #!/usr/bin/env python3
-"""The memory of the process stays near -m, whatever sizes the values have had, and whatever clients do. Items that have expired go by themselves.
+"""The memory of the process stays near -m while the sizes of values change, and while clients leave values unfinished. Items that have expired go by themselves.
 
 usage: resident.py CEFRODILD
 """

@@ -123,17 +123,19 @@ fn so_many_seats() {
 }
 
 #[test]
-fn what_clients_hold_is_bounded() {
-    let seats = Seats::new(3, 100);
+fn what_clients_hold_is_counted() {
+    let seats = Seats::new(2, 100);
     let take = || seats.take().expect("a seat is free");
-    let (mut first, mut second, mut third) = (take(), take(), take());
-    assert!(first.hold(60) && second.hold(40));
-    assert_eq!(seats.bytes(), 100);
-    assert!(!third.hold(1), "it is one too many");
-    assert!(first.hold(59) && second.hold(40) && !second.hold(42) && second.hold(41), "less is always allowed");
-    assert_eq!(seats.bytes(), 101);
-    drop((second, third));
+    let (mut first, mut second) = (take(), take());
+    first.hold(60);
+    second.hold(40);
+    assert_eq!((seats.bytes(), first.bytes(), second.bytes(), first.is_over()), (100, 60, 40, false));
+    second.hold(41);
+    assert!(first.is_over() && second.is_over());
+    first.hold(59);
+    assert_eq!((seats.bytes(), second.is_over()), (100, false));
+    drop(second);
     assert_eq!(seats.bytes(), 59);
-    assert!(first.hold(0));
+    first.hold(0);
     assert_eq!(seats.bytes(), 0);
 }
