@@ -58,8 +58,9 @@ def unfinished_values(program):
             with contextlib.suppress(OSError):
                 client.sendall(b'set key 0 0 1048576\r\n' + part)
             assert ask(other, b'set k 0 0 1\r\nv\r\nget k\r\n', b'END\r\n') == b'STORED\r\nVALUE k 0 1\r\nv\r\nEND\r\n'
-        found = wait_for(other, lambda found: found[b'curr_connections'] < 30)
-        assert 0 < found[b'buffer_bytes'] <= most and found[b'connections_out_of_memory'] >= 30, found
+        # Within a turn a client may hold more.
+        found = wait_for(other, lambda found: found[b'curr_connections'] < 30 and 0 < found[b'buffer_bytes'] <= most)
+        assert found[b'connections_out_of_memory'] >= 30, found
         assert memory_of(server) - before < most + 8 * MEGABYTE, memory_of(server) - before
         stack.close()
         assert wait_for(other, lambda found: found[b'curr_connections'] == 1)[b'buffer_bytes'] == 0
