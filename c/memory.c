@@ -5,7 +5,8 @@
  * A block of at least 4,096 bytes begins 56 bytes after the start of a cache line. A table's slots begin at its word 1 + stripes, and
  * stripes are a power of two. So from 8 stripes on they begin on a cache line, and no bucket of four slots crosses one.
  * A block of at least 2 MB begins 56 bytes after a boundary of huge pages, and the huge pages that it fills are requested.
- * Blocks from 128 KB up to that are cut from regions of 32 MB, whose huge pages are requested. So the tables of many shards are on huge
+ * Blocks from 128 KB up to that are cut from regions of 32 MB, whose huge pages are requested. The bytes of a block that is given back are cut
+ * again if it is the last one, or the largest hole of its region: an opening gives as much back as it keeps. So the tables of many shards are on huge
  * pages too. The first huge page of the first region isn't: a program with little in its caches takes no more memory than it uses. A region
  * is freed with its last block. Any thread may allocate and free, and so may another copy of these functions in the same program, since
  * libraries that were built apart may pass a handle on.
@@ -46,6 +47,10 @@ struct region {
     atomic_size_t users;
     /* The block of malloc that holds the region. */
     void *around;
+    /* A hole below `used`: the bytes of a block that was given back, as far as they were not cut again. Only the copy that opened the region
+     * uses these words. */
+    char *hole;
+    size_t hole_bytes;
 };
 
 /* The region from which this copy cuts blocks, if it has one. */
@@ -133,7 +138,22 @@ static void begin_region(void) {
         leave(open_region);
     }
     open_region = (struct region *)first;
-    *open_region = (struct region){LINE, 1, block};
+    *open_region = (struct region){LINE, 1, block, NULL, 0};
+}
+
+/* So many bytes of the open region: those of its hole, or the next ones. NULL if it has too few. */
+static char *next_bytes(size_t bytes) {
+    if (bytes <= open_region->hole_bytes) {
+        char *first = open_region->hole;
+        open_region->hole += bytes;
+        open_region->hole_bytes -= bytes;
+        return first;
+    }
+    if (bytes > REGION - open_region->used) {
+        return NULL;
+    }
+    open_region->used += bytes;
+    return (char *)open_region + open_region->used - bytes;
 }
 
 /* A block of a region, or NULL without memory for one. */
@@ -144,27 +164,32 @@ static void *cut(size_t size) {
     if (open_region != NULL && open_region->users == 1) {
         /* Another copy gave back the last block. The load has seen its subtraction, so whatever used that block comes before what is cut now. */
         open_region->used = LINE;
+        open_region->hole_bytes = 0;
     }
-    if (open_region == NULL || bytes > REGION - open_region->used) {
+    if (open_region == NULL || (bytes > REGION - open_region->used && bytes > open_region->hole_bytes)) {
         begin_region();
     }
-    if (open_region != NULL && bytes <= REGION - open_region->used) {
-        at = (char *)open_region + open_region->used + BEHIND;
+    char *first = open_region == NULL ? NULL : next_bytes(bytes);
+    if (first != NULL) {
+        at = first + BEHIND;
         ((size_t *)at)[-2] = bytes;
         ((uintptr_t *)at)[-1] = (uintptr_t)open_region + 1;
-        open_region->used += bytes;
         open_region->users++;
     }
     pthread_mutex_unlock(&lock);
     return at;
 }
 
-/* Gives a block back to its region. The one that was cut last leaves its bytes to the next. */
+/* Gives a block back to its region. The last one leaves its bytes to the next. Another one leaves a hole, if that is the largest: no block in
+ * use ends above `used`, so the hole does neither. */
 static void give_back(struct region *region, const char *at) {
     const size_t bytes = ((const size_t *)at)[-2];
     pthread_mutex_lock(&lock);
     if (region == open_region && at - BEHIND + bytes == (char *)region + region->used) {
         region->used -= bytes;
+    } else if (region == open_region && bytes > region->hole_bytes) {
+        region->hole = (char *)at - BEHIND;
+        region->hole_bytes = bytes;
     }
     if (region == open_region && region->users == 2) {
         /* This is its last block. */

@@ -229,6 +229,30 @@ static void regions_go_with_their_blocks(void) {
     MUST(in_use == before);
 }
 
+/* Each of 60 openings makes a block and a copy of it, and gives the first one back: so they have room in two regions. A hole is cut in parts, too. */
+static void holes_are_cut_again(void) {
+    struct full first, fulls[60], parts[2];
+    long before = in_use;
+    regions_made = 0;
+    for (int n = 0; n < 60; n++) {
+        make(&first, 1 << 20, 8);
+        make(&fulls[n], 1 << 20, 8);
+        rattle_dealloc(first.at);
+    }
+    MUST(regions_made == 2);
+    make(&parts[0], 400 << 10, 8);
+    make(&parts[1], 500 << 10, 8);
+    MUST(parts[0].at == first.at && parts[1].at > first.at && parts[1].at + (500 << 10) <= first.at + (1 << 20) && regions_made == 2);
+    for (int n = 0; n < 60; n++) {
+        MUST(holds(&fulls[n], fulls[n].size));
+        rattle_dealloc(fulls[n].at);
+    }
+    MUST(holds(&parts[0], parts[0].size) && holds(&parts[1], parts[1].size));
+    rattle_dealloc(parts[0].at);
+    rattle_dealloc(parts[1].at);
+    MUST(in_use == before);
+}
+
 /* A block of 128 KB to 2 MB is cut from a region, which is freed with it. Any other has a block of malloc by itself. */
 static void sizes_of_blocks_of_regions(void) {
     const struct {
@@ -374,6 +398,7 @@ int main(void) {
     many_at_once();
     threads_at_once();
     regions_go_with_their_blocks();
+    holes_are_cut_again();
     sizes_of_blocks_of_regions();
     huge_pages_of_large_blocks();
     huge_pages_of_regions();
