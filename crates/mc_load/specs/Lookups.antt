@@ -6,9 +6,9 @@ use Rattle.mc_check.specs.declared.record.Record.{Record}
 use Rattle.mc_cache.specs.Turns.{HasLookedOrMet}
 use Rattle.mc_shards.specs.Sharded.{ArePassOf, ChangesAt, Sharded, shard_in}
 
--- a cache as one shard
+-- a cache as one shard; no worker takes its lock for long, so it is left out
 abbrev pub one_shard : Opening → Sharded
-one_shard o = record { shape = o.layout.shape; tables = o ∷ [] }
+one_shard o = record { shape = o.layout.shape; tables = o ∷ []; locks = [] }
 
 -- the key was looked up in its shard, with this reply; a lookup that was busy may have had the shard's turn
 abbrev pub HasLookedIn : (V : ℕ) → Sharded → ℕ → List ReaderRecord → List ReaderRecord → Reply V → Type 0
