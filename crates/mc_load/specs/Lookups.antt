@@ -6,7 +6,7 @@ use Rattle.mc_check.specs.declared.record.Record.{Record}
 use Rattle.mc_cache.specs.Turns.{HasLookedOrMet}
 use Rattle.mc_shards.specs.Sharded.{ArePassOf, ChangesAt, Sharded, shard_in}
 
--- a cache as one shard; no worker takes its lock for long, so it is left out
+-- a cache as one shard; nothing is said of its lock here, so none is listed
 abbrev pub one_shard : Opening → Sharded
 one_shard o = record { shape = o.layout.shape; tables = o ∷ []; locks = [] }
 
