@@ -286,51 +286,6 @@ template <size_t Words>
     return status;
 }
 
-namespace inside {
-
-// The statuses of entries: as the library writes them, and as Status.
-class EntryStatuses {
-  public:
-    explicit EntryStatuses(size_t count) noexcept : count_(count) {}
-    void allocate() {
-        raw_.resize(count_);
-        told_.resize(count_);
-    }
-    uint32_t *raw() noexcept { return raw_.data(); }
-    size_t count() const noexcept { return count_; }
-    void move_to(std::vector<Status> &statuses) noexcept {
-        for (size_t i = 0; i < count_; i++) {
-            told_[i] = static_cast<Status>(raw_[i]);
-        }
-        statuses = std::move(told_);
-    }
-
-  private:
-    size_t count_;
-    std::vector<uint32_t> raw_{};
-    std::vector<Status> told_{};
-};
-
-// Opens all of these, with entries. `statuses` gets the status of each entry.
-template <class Kind, class Open>
-Status open_all_with(std::vector<Kind> &all, size_t count, std::shared_ptr<Lines> &lines, size_t entries, std::vector<Status> &statuses,
-                     Open open) noexcept {
-    EntryStatuses told(entries);
-    const auto grow = [&] {
-        lines = lines_for(count);
-        told.allocate();
-    };
-    const Status status = open_all(all, count, lines, grow, [&](cefrodil_handle *raw, size_t many) {
-        return open(told.raw(), told.count(), raw, many);
-    });
-    if (status == Status::ok) {
-        told.move_to(statuses);
-    }
-    return status;
-}
-
-} // namespace inside
-
 // Opens a cache with entries, each its key and then its value, as Writer::entries lists them. `statuses` gets the status of each. Unless ok,
 // nothing changes.
 template <size_t Words>
