@@ -2,9 +2,10 @@
 #include "cefrodil.h"
 #include "must.h"
 #include <pthread.h>
+#include <sched.h>
 #include <stdatomic.h>
 
-enum { SHARDS = 4, KEYS = 64, ROUNDS = 20000, TRIERS = 2 };
+enum { SHARDS = 4, KEYS = 64, HOLDS = 2000, TRIERS = 2 };
 
 static cefrodil_handle passes[3 + TRIERS];
 
@@ -100,7 +101,7 @@ static void *looks(void *pass) {
     return rise ? pass : NULL;
 }
 
-// Holds again and again. Nobody changes anything between two calls of a holder.
+// Holds so many times. Nobody changes anything between two calls of a holder.
 static void beside_threads(void) {
     pthread_t threads[TRIERS + 1];
     cefrodil_reply reply;
@@ -110,13 +111,15 @@ static void beside_threads(void) {
         MUST(pthread_create(&threads[i], NULL, tries, &passes[3 + i]) == 0);
     }
     MUST(pthread_create(&threads[TRIERS], NULL, looks, &passes[1]) == 0);
-    for (uint64_t n = 1; n <= ROUNDS; n++) {
+    while (held < HOLDS) {
         if (cefrodil_hold(&passes[0]) != CEFRODIL_OK) {
+            // Another thread may have stopped within a turn, and needs this processor.
+            sched_yield();
             continue;
         }
         held++;
         MUST(cefrodil_moment(&passes[0], &first) == CEFRODIL_OK);
-        MUST(cefrodil_put(&passes[0], 1000, &n, 1, &reply) == CEFRODIL_OK);
+        MUST(cefrodil_put(&passes[0], 1000, &held, 1, &reply) == CEFRODIL_OK);
         MUST(cefrodil_entries(&passes[0], entries, 2 * (KEYS + 1), &count) == CEFRODIL_OK);
         MUST(cefrodil_len(&passes[0], &last) == CEFRODIL_OK && last == count);
         MUST(cefrodil_moment(&passes[0], &last) == CEFRODIL_OK && last == first + 1);
@@ -131,7 +134,6 @@ static void beside_threads(void) {
     MUST(pthread_join(threads[TRIERS], &rose) == 0 && rose != NULL);
     MUST(cefrodil_hold(&passes[0]) == CEFRODIL_OK);
     MUST(cefrodil_moment(&passes[0], &last) == CEFRODIL_OK && last == held + atomic_load(&won));
-    MUST(held > 0);
 }
 
 int main(void) {

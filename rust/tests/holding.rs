@@ -70,15 +70,18 @@ fn nobody_writes_between_two_calls_of_a_holder() {
                 }
             });
         }
-        for n in 0..5000 {
-            let Ok(mut writing) = mine.hold() else { continue };
+        while held < 1000 {
+            let Ok(mut writing) = mine.hold() else {
+                // Another thread may have stopped within a turn, and needs this processor.
+                thread::yield_now();
+                continue;
+            };
             let before = writing.moment();
-            writing.put(1000, &[n]).expect("there is room");
+            writing.put(1000, &[held]).expect("there is room");
             assert_eq!(writing.entries().expect("memory").len(), writing.len());
             assert_eq!(writing.moment(), before + 1);
             held += 1;
         }
         done.store(true, SeqCst);
     });
-    assert!(held > 0);
 }
