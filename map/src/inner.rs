@@ -87,7 +87,7 @@ impl<K: ?Sized, V: Copy, S: BuildHasher> Inner<K, V, S> {
         self.tiers.as_ref().map_or(Miss::Yes, |tiers| tiers.miss(print.key))
     }
 
-    // What there is of a key that the main table didn't have, after this miss.
+    // Looks in the small table for a key that the main table didn't have.
     fn look_after(&self, print: Print, miss: Miss, tries: u32) -> Option<Found<V>> {
         match (&self.tiers, miss) {
             (Some(tiers), Miss::No) => self.slots.within(tries, || self.found(print, Seen::of(&mut tiers.look_small(print.key)))),

@@ -3,6 +3,15 @@ use cefrodil::{Desk, HoldError, Put, Reply, Shape, Shards, TurnError};
 use std::sync::atomic::{AtomicBool, Ordering::SeqCst};
 use std::thread;
 
+/// Sets the flag when it is dropped.
+struct Ends<'a>(&'a AtomicBool);
+
+impl Drop for Ends<'_> {
+    fn drop(&mut self) {
+        self.0.store(true, SeqCst);
+    }
+}
+
 fn shards(passes: usize) -> Vec<cefrodil::Pass<'static, 1>> {
     Shards::open(&Shape::for_shards(1000, 4).expect("a shape"), 4, passes).expect("memory")
 }
@@ -59,6 +68,8 @@ fn nobody_writes_between_two_calls_of_a_holder() {
     let done = AtomicBool::new(false);
     let mut held = 0;
     thread::scope(|scope| {
+        // Also if an assertion fails here: the scope waits for the others.
+        let _ends = Ends(&done);
         for mut pass in passes {
             let done = &done;
             scope.spawn(move || {
@@ -82,6 +93,5 @@ fn nobody_writes_between_two_calls_of_a_holder() {
             assert_eq!(writing.moment(), before + 1);
             held += 1;
         }
-        done.store(true, SeqCst);
     });
 }

@@ -66,7 +66,7 @@ impl Ceiling {
     }
 
     fn look_in_turn(&self, room: &Room, buffers: u64) -> io::Result<()> {
-        // What waits to be freed has room of its own, and goes by itself.
+        // Items that wait to be freed have room of their own, and are freed without a cut of the limit.
         let apart = buffers + room.waiting();
         let mut taken = resident(&self.pages)?.saturating_sub(apart);
         if taken > self.bytes {

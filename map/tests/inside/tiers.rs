@@ -182,7 +182,7 @@ fn what_moved_expires_when_it_would_have() {
     assert_eq!((map.get(&KEY), map.stats().expired), (None, 1));
 }
 
-// It is told apart from a miss, and doesn't move.
+// The lookup counts as expired, not as a miss, and the entry isn't moved.
 #[test]
 fn what_has_expired_in_the_small_table_stays_there() {
     let map = open();
