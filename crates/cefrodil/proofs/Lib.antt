@@ -5,8 +5,4 @@ pub mod Loaded
 pub mod Gives
 pub mod ManyLookups
 pub mod ManyPuts
-pub mod OntoDesk
-pub mod Opened
-pub mod GivenSides
 pub mod Sent
-pub mod ShardFilling

@@ -5,30 +5,15 @@ use Rattle.std.proofs.lemmas.List.{get_or-set_same, get_or-set_other, length-set
 use Rattle.std.specs.List.{All, AllByRecursion, EachIndex, slice_index}
 use Rattle.std.proofs.lemmas.List.Elements.{All-from_recursion}
 use Rattle.mc_words.specs.declared.history.Change.{Change}
-use Rattle.mc_cache.specs.Plain.{TakesOrNames, history}
-use Rattle.mc_shared.specs.Records.{Opening, ReaderRecord}
+use Rattle.mc_cache.specs.Plain.{TakesOrNames}
+use Rattle.mc_shared.specs.Records.{ReaderRecord}
 use Rattle.mc_shards.specs.Loadings.{puts_of}
 use Rattle.mc_shards.specs.Sharded.{Sharded}
-use Rattle.mc_door.specs.Loading.{HaveSeenLoads, IsLoadedWriter, entries_in}
-use Rattle.mc_door.specs.Roles.{Role, Writes, Reads, Passes, Shares, Holds, Idle}
-use mathlib.Core.Bool.{cond, false}
-use mathlib.Core.Option.{some}
+use Rattle.mc_door.specs.Loading.{HaveSeenLoads, entries_in}
+use mathlib.Core.Bool.{cond}
 use lib.Dec.{eqb}
 use Rattle.mc_plan.specs.declared.answer.Why.{Why}
-use Rattle.mc_words.specs.declared.shape.Shape.{Shape}
-use Rattle.mc_shared.specs.Views.{layout_of}
-use Rattle.mc_door.specs.AnySides.{role_in, width_of}
-use Rattle.mc_door.specs.NewSides.{has_desk_in, opening_in, width_in}
-use Rattle.mc_door.specs.declared.any_side.AnySide.{AnySide}
-use Rattle.mc_door.specs.declared.rest.Rest.{Rest}
-use Rattle.cefrodil.specs.Loading.{AreEntries, AreLoaded, entry_status, left_status}
-use Rattle.cefrodil.specs.Open.{kept}
-use Rattle.cefrodil.specs.Openings.{IsNewAt, KeepsSpares}
-use Rattle.cefrodil.specs.RawShapes.{IsShapeOf}
-use Rattle.cefrodil.specs.declared.shape.RawShape.{RawShape}
-use Rattle.cefrodil.specs.declared.raw_handle.RawHandle.{RawHandle}
-use Rattle.cefrodil.proofs.Filling.{keeps}
-use Rattle.cefrodil.proofs.Opened.{all_at}
+use Rattle.cefrodil.specs.Loading.{entry_status, left_status}
 
 -- a status is written, and the others stay
 written : (statuses : List ℕ) (index i status other : ℕ) → get_or statuses i 0 ≡ other → index < length statuses → (index ≡ i) ⊎ (index ≡ i → ⊥)
@@ -58,33 +43,7 @@ length_of_entries V zero words = omega arith
 length_of_entries V (suc n) [] = omega arith
 length_of_entries V (suc n) (key ∷ words) = let h = length_of_entries V n (drop V words) in omega (arith, h)
 
-pub named_within : (V count : ℕ) (o : Opening) (words : List ℕ) (left : List (ℕ × Why)) (role : Role) → IsLoadedWriter V o (entries_in V count words) left role → All (λ l. l.0 < count) left
-named_within V count o words left (Writes w) loaded =
-    All-from_recursion (λ l. l.0 < count) left (named_after 0 count (entries_in V count words) (history V w) left loaded.plain (omega (arith, length_of_entries V count words)))
-named_within V count o words left (Reads r) loaded = absurd loaded
-named_within V count o words left (Passes r) loaded = absurd loaded
-named_within V count o words left (Shares s rs) loaded = absurd loaded
-named_within V count o words left (Holds s h) loaded = absurd loaded
-named_within V count o words left Idle loaded = absurd loaded
-
 pub named_of_shards : (V count : ℕ) (s : Sharded) (words : List ℕ) (left : List (ℕ × Why)) (passes : List (List ReaderRecord)) → HaveSeenLoads V s (entries_in V count words) left passes
     → All (λ l. l.0 < count) left
 named_of_shards V count s words left passes loads =
     All-from_recursion (λ l. l.0 < count) left (named_after 0 count (entries_in V count words) (puts_of {V = V} loads.plain.kept) left loads.plain.each (omega (arith, length_of_entries V count words)))
-
-pub are_loaded : (raw : RawShape) (words count : ℕ) (entries statuses : List ℕ) (writer : RawHandle) (readers : List RawHandle) (sh : Shape) (first : Rest) (held : AnySide) (left : List (ℕ × Why))
-    → IsShapeOf raw sh → (opening_in first).layout ≡ layout_of words sh → width_in first ≡ words → has_desk_in first ≡ false → length statuses ≡ count → AreEntries words (length entries) count
-    → kept writer ≡ some held → width_of held ≡ words → IsLoadedWriter words (opening_in first) (entries_in words count entries) left (role_in held)
-    → KeepsSpares (length readers) writer → All (IsNewAt (opening_in first) (has_desk_in first) (width_in first)) readers
-    → EachIndex statuses (λ i. slice_index statuses i ≡ entry_status left i) → AreLoaded raw words entries statuses writer readers
-are_loaded raw words count entries statuses writer readers sh first held left of layout wide none many fit is width loaded spares all told = record {
-  opening = opening_in first;
-  left = left;
-  shape = (sh, of, layout);
-  fits = subst (λ (n : ℕ). AreEntries words (length entries) n) (sym many) fit;
-  has_writer = keeps (λ h. (width_of h ≡ words) × IsLoadedWriter words (opening_in first) (entries_in words (length statuses) entries) left (role_in h)) (kept writer) held is
-      (width, subst (λ (n : ℕ). IsLoadedWriter words (opening_in first) (entries_in words n entries) left (role_in held)) (sym many) loaded);
-  has_spares = spares;
-  has_readers = all_at first false words readers none wide all;
-  told = told;
-}

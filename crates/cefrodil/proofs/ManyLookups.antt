@@ -14,8 +14,7 @@ use Rattle.cefrodil.specs.declared.many.RawAnswer.{RawAnswer}
 pub looked_one : (V : ℕ) (role role' : Role) (Same : Type 0) (key : ℕ) (old new : List ℕ) (told : Outcome) → length old ≡ V
     → GetTells V role role' Same key old new told → HasLooked V role role' key old new (answer_of told)
 looked_one V role role' Same key old new told long (inl told_so) = record { told = told_so.made; is = ap answer_of told_so.is; means = told_so.means }
-looked_one V role role' Same key old new told long (inr (inl kind)) = absurd (kind.1 tt)
-looked_one V role role' Same key old new told long (inr (inr width)) = absurd (width.2 long)
+looked_one V role role' Same key old new told long (inr width) = absurd (width.1 long)
 
 -- the first key's lookup, and then the others
 looked_first : (words : ℕ) (h next h' : Role) (key : ℕ) (keys old v new : List ℕ) (answer : RawAnswer) (more : List RawAnswer)

@@ -11,5 +11,4 @@ use Rattle.cefrodil.specs.Batches.{HasPutEntry}
 pub put_one : (V : ℕ) (role role' : Role) (Same : Type 0) (entry : ℕ × List ℕ) (told : Outcome) → (Same → role' ≡ role) → WriteTells V role role' Same entry.0 Put entry.1 told
     → HasPutEntry V entry role role' (put_answer told)
 put_one V role role' Same entry told stays (inl made) = record { told = told; is = refl; tells = inl made }
-put_one V role role' Same entry told stays (inr (inl kind)) = record { told = told; is = refl; tells = inr (inl (kind.0, kind.1, stays kind.2)) }
-put_one V role role' Same entry told stays (inr (inr width)) = record { told = told; is = refl; tells = inr (inr (width.0, width.1, width.2, stays width.3)) }
+put_one V role role' Same entry told stays (inr width) = record { told = told; is = refl; tells = inr (width.0, width.1, stays width.2) }

@@ -3,8 +3,8 @@ use Rattle.std.specs.Prelude.{ℕ, ◌≡◌, ◌⊎◌, ◌*◌, List, length}
 use mathlib.Core.Option.{Option}
 use Rattle.mc_cache.specs.Batches.{InOrder}
 use Rattle.mc_door.specs.AnySides.{role_in, width_of}
-use Rattle.mc_door.specs.Batches.{HavePutInTurns, entries_of, put_answer}
-use Rattle.mc_door.specs.Roles.{Role, Passes}
+use Rattle.mc_door.specs.Batches.{entries_of, put_answer}
+use Rattle.mc_door.specs.Roles.{Role}
 use Rattle.mc_door.specs.Writes.{WriteTells}
 use Rattle.mc_door.specs.declared.any_side.AnySide.{AnySide}
 use Rattle.mc_door.specs.declared.status.TheConstants.{OK, CLOSED}
@@ -20,11 +20,8 @@ pub record HasPutEntry (V : ℕ) (entry : ℕ × List ℕ) (role role' : Role) (
   pub is : answer ≡ put_answer told
   pub tells : WriteTells V role role' (role' ≡ role) entry.0 Put entry.1 told
 
--- by a pass at a desk one try for the turn for each group of the keys, in their order. By another side one put for each key, in their
--- order. Each key has its answer, and nothing else was done
+-- one put for each key, in their order, each with its answer, and nothing else
 abbrev pub HavePut : ℕ → Role → Role → List ℕ → List ℕ → List RawPut → Type 0
-HavePut V (Passes r) (Passes r') keys values answers = HavePutInTurns V r r' (entries_of V keys values) answers
-HavePut V (Passes r) role' keys values answers = ⊥
 HavePut V role role' keys values answers = InOrder (HasPutEntry V) (entries_of V keys values) role role' answers
 
 -- a put of each key was made, or nothing was done

@@ -3,7 +3,7 @@
 use Rattle.std.specs.Prelude.{ℕ, ◌≡◌, List}
 use mathlib.Core.Option.{Option, none, some}
 use Rattle.mc_door.specs.AnySides.{role_in, width_of}
-use Rattle.mc_door.specs.Means.{GetOrDeskTells, GetTells}
+use Rattle.mc_door.specs.Means.{GetOrTurnTells, GetTells}
 use Rattle.mc_door.specs.Peeks.{PeekTells}
 use Rattle.mc_door.specs.Roles.{Role}
 use Rattle.mc_door.specs.Swaps.{SwapTells}
@@ -28,8 +28,8 @@ TellsBy b b' Left Tells told = Gives b b' ((told ≡ plain CLOSED) × Left) (λ 
 abbrev pub GetGives : Option AnySide → Option AnySide → ℕ → List ℕ → List ℕ → Outcome → Type 0
 GetGives b b' key old new told = TellsBy b b' (new ≡ old) (λ V role role' Same told. GetTells V role role' Same key old new told) told
 
-abbrev pub GetOrDeskGives : Option AnySide → Option AnySide → ℕ → List ℕ → List ℕ → Outcome → Type 0
-GetOrDeskGives b b' key old new told = TellsBy b b' (new ≡ old) (λ V role role' Same told. GetOrDeskTells V role role' Same key old new told) told
+abbrev pub GetOrTurnGives : Option AnySide → Option AnySide → ℕ → List ℕ → List ℕ → Outcome → Type 0
+GetOrTurnGives b b' key old new told = TellsBy b b' (new ≡ old) (λ V role role' Same told. GetOrTurnTells V role role' Same key old new told) told
 
 abbrev pub PeekGives : Option AnySide → Option AnySide → ℕ → List ℕ → List ℕ → Outcome → Type 0
 PeekGives b b' key old new told = TellsBy b b' (new ≡ old) (λ V role role' Same told. PeekTells V role role' Same key old new told) told

@@ -7,11 +7,11 @@ use Rattle.mc_door.specs.declared.any_side.AnySide.{AnySide}
 use Rattle.mc_door.specs.declared.holding.HoldError.{HoldError}
 use Rattle.mc_door.specs.declared.holding.HoldError.TheVariants as why
 use Rattle.cefrodil.specs.Calls.{Gives}
-use Rattle.mc_door.specs.declared.status.TheConstants.{OK, CLOSED, HELD, KIND}
+use Rattle.mc_door.specs.declared.status.TheConstants.{OK, CLOSED, HELD, HOLDS, HOLDS_NOT}
 
 abbrev pub hold_told : Result (Unit {0}) HoldError → ℕ
 hold_told (Ok done) = OK
-hold_told (Err why.Kind) = KIND
+hold_told (Err why.Holds) = HOLDS
 hold_told (Err why.Held) = HELD
 
 -- every turn is held; or none is, and nothing has changed
@@ -26,7 +26,7 @@ HoldGives b b' status = Gives b b' (status ≡ CLOSED) (λ h h'. HasTriedToHold 
 
 abbrev pub release_told : Bool → ℕ
 release_told true = OK
-release_told false = KIND
+release_told false = HOLDS_NOT
 
 -- every turn is given back; or the handle held none, and nothing has changed
 pub record HasTriedToRelease (h h' : AnySide) (status : ℕ) : Type 0 where

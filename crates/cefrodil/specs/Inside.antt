@@ -1,4 +1,3 @@
-pub mod DeskStatuses
 pub mod Filling
 pub mod Lent
 pub mod LookedUp

@@ -2,14 +2,12 @@ pub mod Batches
 pub mod Calls
 pub mod Counts
 pub mod Kept
-pub mod Leaving
 pub mod Listing
 pub mod Loading
 pub mod Many
 pub mod Open
-pub mod OntoDesk
 pub mod Openings
 pub mod RawShapes
-pub mod ShardOpenings
+pub mod More
 pub mod Inside
 pub mod Holding

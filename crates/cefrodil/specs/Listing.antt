@@ -8,12 +8,11 @@ use Rattle.mc_door.specs.declared.any_side.AnySide.{AnySide}
 use Rattle.mc_door.specs.declared.listed.ListError.{ListError}
 use Rattle.mc_door.specs.declared.listed.ListError.TheVariants as why
 use Rattle.cefrodil.specs.Calls.{Gives}
-use Rattle.mc_door.specs.declared.status.TheConstants.{OK, CLOSED, COUNT, HELD, KIND, NO_MEMORY}
+use Rattle.mc_door.specs.declared.status.TheConstants.{OK, CLOSED, COUNT, HELD, NO_MEMORY}
 
 -- the status; and how many entries there are, if that is known
 abbrev pub TellsList : Result ℕ ListError → ℕ → ℕ → ℕ → Type 0
 TellsList (Ok many) old new status = (status ≡ OK) × (new ≡ many)
-TellsList (Err why.Kind) old new status = (status ≡ KIND) × (new ≡ old)
 TellsList (Err why.Held) old new status = (status ≡ HELD) × (new ≡ old)
 TellsList (Err (why.Count many)) old new status = (status ≡ COUNT) × (new ≡ many)
 TellsList (Err why.NoMemory) old new status = (status ≡ NO_MEMORY) × (new ≡ old)

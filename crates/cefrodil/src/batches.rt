@@ -1,9 +1,6 @@
 //! Puts of many keys in one call, as C makes it.
 ghost use Rattle.std.specs.Prelude.{◌≡◌, ◌*◌, length};
 ghost use Rattle.mc_door.specs.AnySides.{role_in, width_of};
-ghost use Rattle.mc_words.specs.Places.{IsWidth};
-ghost use Rattle.mc_cache.specs.Batches.{InOrder};
-ghost use Rattle.mc_door.specs.Batches.{entries_of};
 ghost use Rattle.mc_door.specs.Roles.{role_of};
 ghost use Rattle.cefrodil.specs.Batches.{HasPutEntry, HavePut, MeansPuts, PutsGive};
 ghost use Rattle.cefrodil.specs.Open.{kept};
@@ -24,7 +21,7 @@ fn put<const V: usize>(side: &mut Side<V>, key: u64, value: &[u64]) -> RawPut
 
 // Puts the keys one after the other. Before each group its words are loaded ahead.
 #[inline(never)]
-fn put_singly<const V: usize>(
+fn put_all<const V: usize>(
     side: &mut Side<V>,
     keys: &[u64],
     values: &[u64],
@@ -32,7 +29,7 @@ fn put_singly<const V: usize>(
 )
     requires answers { length answers.old ≡ length keys.now }
     requires values { length values.now ≡ length keys.now * V }
-    ensures { InOrder (HasPutEntry V) (entries_of V keys.now values.now) (role_of side.old) (role_of side.new) answers.new }
+    ensures { HavePut V (role_of side.old) (role_of side.new) keys.now values.now answers.new }
 {
     for index in 0..keys.len() {
         if index % GROUP == 0 {
@@ -40,22 +37,6 @@ fn put_singly<const V: usize>(
         }
         let start = index * V;
         answers[index] = put(side, keys[index], &values[start..start + V]);
-    }
-}
-
-// Puts the keys: by a pass at a desk each group in one turn, by another side one after the other.
-#[inline(always)]
-fn put_all<const V: usize>(side: &mut Side<V>, keys: &[u64], values: &[u64], answers: &mut [RawPut])
-    requires width { IsWidth V }
-    requires answers { length answers.old ≡ length keys.now }
-    requires values { length values.now ≡ length keys.now * V }
-    ensures { HavePut V (role_of side.old) (role_of side.new) keys.now values.now answers.new }
-{
-    match side {
-        Side::Pass(pass) => pass.put_many(keys, values, answers),
-        Side::Writer(_) | Side::Reader(_) | Side::Shard(_) | Side::Holder(_) | Side::Nothing => {
-            put_singly(side, keys, values, answers);
-        }
     }
 }
 
@@ -82,8 +63,7 @@ fn put_many(held: &mut AnySide, keys: &[u64], values: &[u64], answers: &mut [Raw
     OK
 }
 
-/// Puts each of the keys in order, by any handle, as `cefrodil_put` does. A pass at a desk tries once for the turn for each group of at
-/// most `GROUP` keys. The values are stored one after the other.
+/// Puts each of the keys in order, as `cefrodil_put` does. The values are stored one after the other.
 #[tactic(auto, using(crate::proofs::Gives::gives_open, crate::proofs::Gives::gives_closed))]
 #[unsafe(no_mangle)]
 pub extern "C" fn cefrodil_put_many(

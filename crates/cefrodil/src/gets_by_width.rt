@@ -8,8 +8,8 @@ use mc_door::{AnySide, RawReply};
 
 // Looks up by a handle whose values have this width. Any other handle is passed to `cefrodil_get`, which refuses it.
 macro_rules! get_at {
-    ($width:ident, $reader:ident, $key:ident, $value:ident, $reply:ident) => {
-        told_of_handle!($reader, $reply, held => match held {
+    ($width:ident, $handle:ident, $key:ident, $value:ident, $reply:ident) => {
+        told_of_handle!($handle, $reply, held => match held {
             AnySide::$width(side) => side.get($key, $value.as_mut_slice(), $reply),
             held => held.get($key, $value.as_mut_slice(), $reply),
         })
@@ -20,118 +20,118 @@ macro_rules! get_at {
 #[tactic(auto, using(crate::proofs::Gives::gives_open, crate::proofs::Gives::gives_closed))]
 #[unsafe(no_mangle)]
 pub extern "C" fn cefrodil_get_1(
-    reader: &mut RawHandle,
+    handle: &mut RawHandle,
     key: u64,
     value: &mut [u64; 1],
     reply: &mut RawReply,
 ) -> u32
-    ensures open { reader.new.live ≡ reader.old.live }
-    ensures told { GetGives (kept reader.old) (kept reader.new) key value.old value.new (record { status = result; reply = reply.new }) }
+    ensures open { handle.new.live ≡ handle.old.live }
+    ensures told { GetGives (kept handle.old) (kept handle.new) key value.old value.new (record { status = result; reply = reply.new }) }
 {
-    get_at!(One, reader, key, value, reply)
+    get_at!(One, handle, key, value, reply)
 }
 
 /// `cefrodil_get` for values of two words.
 #[tactic(auto, using(crate::proofs::Gives::gives_open, crate::proofs::Gives::gives_closed))]
 #[unsafe(no_mangle)]
 pub extern "C" fn cefrodil_get_2(
-    reader: &mut RawHandle,
+    handle: &mut RawHandle,
     key: u64,
     value: &mut [u64; 2],
     reply: &mut RawReply,
 ) -> u32
-    ensures open { reader.new.live ≡ reader.old.live }
-    ensures told { GetGives (kept reader.old) (kept reader.new) key value.old value.new (record { status = result; reply = reply.new }) }
+    ensures open { handle.new.live ≡ handle.old.live }
+    ensures told { GetGives (kept handle.old) (kept handle.new) key value.old value.new (record { status = result; reply = reply.new }) }
 {
-    get_at!(Two, reader, key, value, reply)
+    get_at!(Two, handle, key, value, reply)
 }
 
 /// `cefrodil_get` for values of three words.
 #[tactic(auto, using(crate::proofs::Gives::gives_open, crate::proofs::Gives::gives_closed))]
 #[unsafe(no_mangle)]
 pub extern "C" fn cefrodil_get_3(
-    reader: &mut RawHandle,
+    handle: &mut RawHandle,
     key: u64,
     value: &mut [u64; 3],
     reply: &mut RawReply,
 ) -> u32
-    ensures open { reader.new.live ≡ reader.old.live }
-    ensures told { GetGives (kept reader.old) (kept reader.new) key value.old value.new (record { status = result; reply = reply.new }) }
+    ensures open { handle.new.live ≡ handle.old.live }
+    ensures told { GetGives (kept handle.old) (kept handle.new) key value.old value.new (record { status = result; reply = reply.new }) }
 {
-    get_at!(Three, reader, key, value, reply)
+    get_at!(Three, handle, key, value, reply)
 }
 
 /// `cefrodil_get` for values of four words.
 #[tactic(auto, using(crate::proofs::Gives::gives_open, crate::proofs::Gives::gives_closed))]
 #[unsafe(no_mangle)]
 pub extern "C" fn cefrodil_get_4(
-    reader: &mut RawHandle,
+    handle: &mut RawHandle,
     key: u64,
     value: &mut [u64; 4],
     reply: &mut RawReply,
 ) -> u32
-    ensures open { reader.new.live ≡ reader.old.live }
-    ensures told { GetGives (kept reader.old) (kept reader.new) key value.old value.new (record { status = result; reply = reply.new }) }
+    ensures open { handle.new.live ≡ handle.old.live }
+    ensures told { GetGives (kept handle.old) (kept handle.new) key value.old value.new (record { status = result; reply = reply.new }) }
 {
-    get_at!(Four, reader, key, value, reply)
+    get_at!(Four, handle, key, value, reply)
 }
 
 /// `cefrodil_get` for values of five words.
 #[tactic(auto, using(crate::proofs::Gives::gives_open, crate::proofs::Gives::gives_closed))]
 #[unsafe(no_mangle)]
 pub extern "C" fn cefrodil_get_5(
-    reader: &mut RawHandle,
+    handle: &mut RawHandle,
     key: u64,
     value: &mut [u64; 5],
     reply: &mut RawReply,
 ) -> u32
-    ensures open { reader.new.live ≡ reader.old.live }
-    ensures told { GetGives (kept reader.old) (kept reader.new) key value.old value.new (record { status = result; reply = reply.new }) }
+    ensures open { handle.new.live ≡ handle.old.live }
+    ensures told { GetGives (kept handle.old) (kept handle.new) key value.old value.new (record { status = result; reply = reply.new }) }
 {
-    get_at!(Five, reader, key, value, reply)
+    get_at!(Five, handle, key, value, reply)
 }
 
 /// `cefrodil_get` for values of six words.
 #[tactic(auto, using(crate::proofs::Gives::gives_open, crate::proofs::Gives::gives_closed))]
 #[unsafe(no_mangle)]
 pub extern "C" fn cefrodil_get_6(
-    reader: &mut RawHandle,
+    handle: &mut RawHandle,
     key: u64,
     value: &mut [u64; 6],
     reply: &mut RawReply,
 ) -> u32
-    ensures open { reader.new.live ≡ reader.old.live }
-    ensures told { GetGives (kept reader.old) (kept reader.new) key value.old value.new (record { status = result; reply = reply.new }) }
+    ensures open { handle.new.live ≡ handle.old.live }
+    ensures told { GetGives (kept handle.old) (kept handle.new) key value.old value.new (record { status = result; reply = reply.new }) }
 {
-    get_at!(Six, reader, key, value, reply)
+    get_at!(Six, handle, key, value, reply)
 }
 
 /// `cefrodil_get` for values of seven words.
 #[tactic(auto, using(crate::proofs::Gives::gives_open, crate::proofs::Gives::gives_closed))]
 #[unsafe(no_mangle)]
 pub extern "C" fn cefrodil_get_7(
-    reader: &mut RawHandle,
+    handle: &mut RawHandle,
     key: u64,
     value: &mut [u64; 7],
     reply: &mut RawReply,
 ) -> u32
-    ensures open { reader.new.live ≡ reader.old.live }
-    ensures told { GetGives (kept reader.old) (kept reader.new) key value.old value.new (record { status = result; reply = reply.new }) }
+    ensures open { handle.new.live ≡ handle.old.live }
+    ensures told { GetGives (kept handle.old) (kept handle.new) key value.old value.new (record { status = result; reply = reply.new }) }
 {
-    get_at!(Seven, reader, key, value, reply)
+    get_at!(Seven, handle, key, value, reply)
 }
 
 /// `cefrodil_get` for values of eight words.
 #[tactic(auto, using(crate::proofs::Gives::gives_open, crate::proofs::Gives::gives_closed))]
 #[unsafe(no_mangle)]
 pub extern "C" fn cefrodil_get_8(
-    reader: &mut RawHandle,
+    handle: &mut RawHandle,
     key: u64,
     value: &mut [u64; 8],
     reply: &mut RawReply,
 ) -> u32
-    ensures open { reader.new.live ≡ reader.old.live }
-    ensures told { GetGives (kept reader.old) (kept reader.new) key value.old value.new (record { status = result; reply = reply.new }) }
+    ensures open { handle.new.live ≡ handle.old.live }
+    ensures told { GetGives (kept handle.old) (kept handle.new) key value.old value.new (record { status = result; reply = reply.new }) }
 {
-    get_at!(Eight, reader, key, value, reply)
+    get_at!(Eight, handle, key, value, reply)
 }

@@ -5,7 +5,7 @@ ghost use Rattle.cefrodil.specs.Open.{kept};
 
 use crate::raw_handle::RawHandle;
 use mc_door::ListError;
-use mc_door::status::{CLOSED, COUNT, HELD, KIND, NO_MEMORY, OK};
+use mc_door::status::{CLOSED, COUNT, HELD, NO_MEMORY, OK};
 use std::alloc::Global;
 
 // Writes how many entries there are, if that is known.
@@ -17,7 +17,6 @@ fn tell(listed: Result<usize, ListError>, count: &mut u64) -> u32
             *count = many as u64;
             OK
         }
-        Err(ListError::Kind) => KIND,
         Err(ListError::Held) => HELD,
         Err(ListError::Count(many)) => {
             *count = many as u64;
@@ -27,7 +26,7 @@ fn tell(listed: Result<usize, ListError>, count: &mut u64) -> u32
     }
 }
 
-/// Each key of the cache with its value, by the writer's handle or a pass, one entry after the other: its key, and then its value.
+/// Each key of the cache with its value, one entry after the other: its key, and then its value.
 #[tactic(auto, using(crate::proofs::Gives::gives_open, crate::proofs::Gives::gives_closed))]
 #[unsafe(no_mangle)]
 pub extern "C" fn cefrodil_entries(
@@ -46,7 +45,7 @@ pub extern "C" fn cefrodil_entries(
     tell(listed, count)
 }
 
-/// Each entry of the cache with its stamp, by the writer's handle or a pass at a desk: its key, its value, and then its stamp.
+/// Each entry of the cache with its stamp: its key, its value, and then its stamp. A handle that holds no turns takes them for this.
 #[tactic(auto, using(crate::proofs::Gives::gives_open, crate::proofs::Gives::gives_closed))]
 #[unsafe(no_mangle)]
 pub extern "C" fn cefrodil_stamped_entries(

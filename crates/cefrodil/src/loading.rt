@@ -5,7 +5,7 @@ ghost use Rattle.cefrodil.specs.Loading.{AreEntries, AreLoaded, RefusesWith, ent
 ghost use Rattle.cefrodil.specs.Openings.{IsClosed, RefusesAsked, RefusesHandles, RefusesOpen};
 ghost use Rattle.cefrodil.specs.RawShapes.{HasMix, IsShapeOf};
 
-use crate::opening::{MOST_WORDS, all_closed, asked, count_of, given_out, status_of};
+use crate::opening::{MOST_WORDS, all_closed, asked, close_all, count_of, fill, status_of};
 use crate::raw_handle::RawHandle;
 use crate::shape::RawShape;
 use mc_door::status::{COUNT, IN_USE, NO_ITEM, NO_MEMORY, NO_PATH, OK, SPENT};
@@ -31,7 +31,7 @@ fn are_entries(words: usize, entry_words: usize, count: usize) -> bool
 }
 
 // The requested shape, or the first fault before those that the cache reports.
-pub(crate) fn asked_with(
+fn asked_with(
     shape: &RawShape,
     words: usize,
     entry_words: usize,
@@ -46,7 +46,7 @@ pub(crate) fn asked_with(
     asked(shape, words)
 }
 
-pub(crate) fn tell_done(statuses: &mut [u32])
+fn tell_done(statuses: &mut [u32])
     ensures { All (λ status. status ≡ OK) statuses.new }
 {
     for status in statuses.iter_mut() {
@@ -55,7 +55,7 @@ pub(crate) fn tell_done(statuses: &mut [u32])
 }
 
 // The statuses of the entries that were left. The others are reported as done.
-pub(crate) fn tell_left(left: &[(usize, Why)], statuses: &mut [u32])
+fn tell_left(left: &[(usize, Why)], statuses: &mut [u32])
     requires done { All (λ status. status ≡ OK) statuses.old }
     requires named { All (λ l. l.0 < length statuses.old) left.now }
     ensures { EachIndex statuses.new (λ i. slice_index statuses.new i ≡ entry_status left.now i) }
@@ -67,19 +67,20 @@ pub(crate) fn tell_left(left: &[(usize, Why)], statuses: &mut [u32])
 }
 
 // The handles are closed.
+#[tactic(auto, using(crate::proofs::Filling::refused_so_many))]
 fn open_all_with(
     alloc: Global,
     shape: &RawShape,
+    shards: u32,
     words: usize,
     entries: &[u64],
     statuses: &mut [u32],
-    writer: &mut RawHandle,
-    readers: &mut [RawHandle],
+    handles: &mut [RawHandle],
 ) -> u32
-    requires { IsClosed writer.old × All IsClosed readers.old }
-    ensures opened { result ≡ OK → AreLoaded shape.now words entries.now statuses.new writer.new readers.new }
-    ensures refused { result ≢ OK → RefusesWith words (length entries.now) (length statuses.old) (RefusesOpen shape.now words (length readers.old)) result }
-    ensures closed { result ≢ OK → (statuses.new ≡ statuses.old) × (writer.new ≡ writer.old) × All IsClosed readers.new }
+    requires { All IsClosed handles.old }
+    ensures opened { result ≡ OK → AreLoaded shape.now shards words entries.now statuses.new handles.new }
+    ensures refused { result ≢ OK → RefusesWith words (length entries.now) (length statuses.old) (RefusesOpen shape.now shards words (length handles.old)) result }
+    ensures closed { result ≢ OK → (statuses.new ≡ statuses.old) × All IsClosed handles.new }
 {
     let shape = match asked_with(shape, words, entries.len(), statuses.len()) {
         Ok(shape) => shape,
@@ -89,44 +90,45 @@ fn open_all_with(
         alloc,
         shape,
         words,
-        count_of(readers.len()),
+        shards,
+        count_of(handles.len()),
         statuses.len(),
         entries,
     );
-    let (held, rest, left) = match opened {
+    let (rest, left) = match opened {
         Ok(opened) => opened,
         Err(why) => return status_of(why),
     };
-    let Some(held) = given_out(alloc, held, rest, readers) else {
+    if !fill(alloc, rest, handles) {
+        close_all(alloc, handles);
         return NO_MEMORY;
-    };
+    }
     tell_done(statuses);
     tell_left(left.as_slice(), statuses);
-    writer.put(held);
     OK
 }
 
-/// Opens a cache for values of `words` words, as `cefrodil_open` does, and puts the entries in order. No entry evicts another. `statuses`
-/// reports what became of each.
+/// Opens a cache as `cefrodil_open` does, and puts the entries in order, each in its key's shard. No entry evicts another. `statuses` reports
+/// what became of each.
 #[unsafe(no_mangle)]
 pub extern "C" fn cefrodil_open_with(
     alloc: Global,
     shape: &RawShape,
+    shards: u32,
     words: usize,
     entries: &[u64],
     statuses: &mut [u32],
-    writer: &mut RawHandle,
-    readers: &mut [RawHandle],
+    handles: &mut [RawHandle],
 ) -> u32
-    ensures opened { result ≡ OK → AreLoaded shape.now words entries.now statuses.new writer.new readers.new }
-    ensures refused { result ≢ OK → RefusesHandles (IsClosed writer.old × All IsClosed readers.old)
-        (RefusesWith words (length entries.now) (length statuses.old) (RefusesOpen shape.now words (length readers.old))) result }
+    ensures opened { result ≡ OK → AreLoaded shape.now shards words entries.now statuses.new handles.new }
+    ensures refused { result ≢ OK → RefusesHandles (All IsClosed handles.old)
+        (RefusesWith words (length entries.now) (length statuses.old) (RefusesOpen shape.now shards words (length handles.old))) result }
     ensures untold { result ≢ OK → statuses.new ≡ statuses.old }
-    ensures in_use { result ≡ IN_USE → (writer.new ≡ writer.old) × (readers.new ≡ readers.old) }
-    ensures closed { result ≢ OK → result ≢ IN_USE → IsClosed writer.new × All IsClosed readers.new }
+    ensures in_use { result ≡ IN_USE → handles.new ≡ handles.old }
+    ensures closed { result ≢ OK → result ≢ IN_USE → All IsClosed handles.new }
 {
-    if writer.is_live() || !all_closed(readers) {
+    if !all_closed(handles) {
         return IN_USE;
     }
-    open_all_with(alloc, shape, words, entries, statuses, writer, readers)
+    open_all_with(alloc, shape, shards, words, entries, statuses, handles)
 }

@@ -1,42 +1,42 @@
 //! Lookups, as C calls them.
 ghost use Rattle.std.specs.Prelude.{◌≡◌};
-ghost use Rattle.cefrodil.specs.Calls.{GetGives, GetOrDeskGives, PeekGives};
+ghost use Rattle.cefrodil.specs.Calls.{GetGives, GetOrTurnGives, PeekGives};
 ghost use Rattle.cefrodil.specs.Open.{kept};
 
 use crate::raw_handle::{RawHandle, told_of_handle};
 use mc_door::RawReply;
 
-/// Looks the key up, by any handle. The value is written only if the key was found.
+/// Looks the key up. The value is written only if the key was found.
 #[tactic(auto, using(crate::proofs::Gives::gives_open, crate::proofs::Gives::gives_closed))]
 #[unsafe(no_mangle)]
 pub extern "C" fn cefrodil_get(
-    reader: &mut RawHandle,
+    handle: &mut RawHandle,
     key: u64,
     value: &mut [u64],
     reply: &mut RawReply,
 ) -> u32
-    ensures open { reader.new.live ≡ reader.old.live }
-    ensures told { GetGives (kept reader.old) (kept reader.new) key value.old value.new (record { status = result; reply = reply.new }) }
+    ensures open { handle.new.live ≡ handle.old.live }
+    ensures told { GetGives (kept handle.old) (kept handle.new) key value.old value.new (record { status = result; reply = reply.new }) }
 {
-    told_of_handle!(reader, reply, held => held.get(key, value, reply))
+    told_of_handle!(handle, reply, held => held.get(key, value, reply))
 }
 
-/// Looks up by a pass. If the lookup is busy, tries once for the turn. With the turn, it always gets an answer.
+/// Looks the key up. If the lookup is busy, tries once for the turn of the key's shard. With the turn, it always gets an answer.
 #[tactic(auto, using(crate::proofs::Gives::gives_open, crate::proofs::Gives::gives_closed))]
 #[unsafe(no_mangle)]
-pub extern "C" fn cefrodil_get_or_desk(
-    pass: &mut RawHandle,
+pub extern "C" fn cefrodil_get_or_turn(
+    handle: &mut RawHandle,
     key: u64,
     value: &mut [u64],
     reply: &mut RawReply,
 ) -> u32
-    ensures open { pass.new.live ≡ pass.old.live }
-    ensures told { GetOrDeskGives (kept pass.old) (kept pass.new) key value.old value.new (record { status = result; reply = reply.new }) }
+    ensures open { handle.new.live ≡ handle.old.live }
+    ensures told { GetOrTurnGives (kept handle.old) (kept handle.new) key value.old value.new (record { status = result; reply = reply.new }) }
 {
-    told_of_handle!(pass, reply, held => held.get_or_desk(key, value, reply))
+    told_of_handle!(handle, reply, held => held.get_or_turn(key, value, reply))
 }
 
-/// What the map holds of the key now, by the writer's handle, or by a pass in a turn. It marks nothing.
+/// What the map holds of the key, by a handle that holds the turns, or in a turn. It marks nothing.
 #[tactic(auto, using(crate::proofs::Gives::gives_open, crate::proofs::Gives::gives_closed))]
 #[unsafe(no_mangle)]
 pub extern "C" fn cefrodil_peek(

@@ -85,20 +85,20 @@ fn get_many(held: &mut AnySide, keys: &[u64], values: &mut [u64], answers: &mut 
     OK
 }
 
-/// Looks up each of the keys in order, by any handle. The values are stored one after the other; each is written only if its key was found.
+/// Looks up each of the keys in order. The values are stored one after the other; each is written only if its key was found.
 #[tactic(auto, using(crate::proofs::Gives::gives_open, crate::proofs::Gives::gives_closed))]
 #[unsafe(no_mangle)]
 pub extern "C" fn cefrodil_get_many(
-    reader: &mut RawHandle,
+    handle: &mut RawHandle,
     keys: &[u64],
     values: &mut [u64],
     answers: &mut [RawAnswer],
 ) -> u32
-    ensures open { reader.new.live ≡ reader.old.live }
-    ensures told { ManyGive (kept reader.old) (kept reader.new) keys.now values.old values.new answers.old answers.new result }
+    ensures open { handle.new.live ≡ handle.old.live }
+    ensures told { ManyGive (kept handle.old) (kept handle.new) keys.now values.old values.new answers.old answers.new result }
 {
-    if !reader.live {
+    if !handle.live {
         return CLOSED;
     }
-    get_many(reader.handle.held(), keys, values, answers)
+    get_many(handle.handle.held(), keys, values, answers)
 }

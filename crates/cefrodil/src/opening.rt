@@ -1,23 +1,24 @@
 //! Handles are opened.
-ghost use Rattle.std.specs.Prelude.{◌≡◌, ◌≢◌, ◌↔◌, All, IfNone, IfSome, MatchResult, false, length, true};
+ghost use Rattle.std.specs.Prelude.{◌≡◌, ◌≢◌, ◌↔◌, All, IfSome, MatchResult, false, length, true};
 ghost use Rattle.mc_words.specs.Places.{IsWidth};
 ghost use Rattle.mc_words.specs.Readers.{HasReaders};
-ghost use Rattle.mc_door.specs.NewSides.{count_in, has_desk_in, opening_in, width_in};
-ghost use Rattle.cefrodil.specs.Openings.{AreOpened, ArePasses, IsClosed, IsNewAt, RefusesAsked, RefusesHandles, RefusesOpen, open_status};
+ghost use Rattle.mc_door.specs.NewPasses.{count_on, passes_on, shards_on, width_on};
+ghost use Rattle.cefrodil.specs.Openings.{AreOpened, IsClosed, IsPassAt, RefusesAsked, RefusesHandles, RefusesOpen, open_status, shards_status};
 ghost use Rattle.cefrodil.specs.RawShapes.{HasMix, IsShapeOf};
 
 use crate::raw_handle::RawHandle;
 use crate::shape::RawShape;
 use mc_door::status::{
-    BUCKETS, DEPTH, IN_USE, ITEMS, LIMIT, MIX, NO_MEMORY, OK, READERS, STRIPES, TRIES, WORDS,
+    BUCKETS, DEPTH, HANDLES, IN_USE, ITEMS, LIMIT, MIX, NO_MEMORY, OK, SHARDS, STRIPES, TRIES,
+    WORDS,
 };
-use mc_door::{AnySide, OpenError, Rest, Shape, ShapeError, open, open_desk};
+use mc_door::{OpenError, OpenShardsError, Rest, Shape, ShapeError, open};
 use std::alloc::Global;
 
 /// The most words of a value.
 pub(crate) const MOST_WORDS: usize = 8;
 
-pub(crate) fn status_of(why: OpenError) -> u32
+fn status_of_table(why: OpenError) -> u32
     ensures { result ≡ open_status why }
 {
     match why {
@@ -27,8 +28,17 @@ pub(crate) fn status_of(why: OpenError) -> u32
         OpenError::Shape(ShapeError::Depth) => DEPTH,
         OpenError::Shape(ShapeError::Tries) => TRIES,
         OpenError::Shape(ShapeError::Limit) => LIMIT,
-        OpenError::Readers => READERS,
+        OpenError::Readers => HANDLES,
         OpenError::NoMemory => NO_MEMORY,
+    }
+}
+
+pub(crate) fn status_of(why: OpenShardsError) -> u32
+    ensures { result ≡ shards_status why }
+{
+    match why {
+        OpenShardsError::Shards => SHARDS,
+        OpenShardsError::Open(why) => status_of_table(why),
     }
 }
 
@@ -62,11 +72,11 @@ pub(crate) fn boxed<T: Drop>(alloc: Global, value: T) -> Option<Box<T, Global>>
     }
 }
 
-// A side for each of the handles. `false` if there is no memory.
-#[tactic(auto, using(crate::proofs::Filling::all_filled))]
-fn fill(alloc: Global, mut rest: Rest, handles: &mut [RawHandle]) -> bool
-    requires { (count_in rest ≡ length handles.old) × All IsClosed handles.old }
-    ensures { result ≡ true → All (IsNewAt (opening_in rest) (has_desk_in rest) (width_in rest)) handles.new }
+// A pass for each of the handles. `false` if there is no memory.
+#[tactic(auto, using(crate::proofs::Filling::all_passes))]
+pub(crate) fn fill(alloc: Global, mut rest: Rest, handles: &mut [RawHandle]) -> bool
+    requires { (count_on rest ≡ length handles.old) × All IsClosed handles.old }
+    ensures { result ≡ true → All (IsPassAt (shards_on rest) (width_on rest) (passes_on rest)) handles.new }
 {
     for handle in handles.iter_mut() {
         let Ok(given) = rest.next() else {
@@ -81,25 +91,6 @@ fn fill(alloc: Global, mut rest: Rest, handles: &mut [RawHandle]) -> bool
         handle.put(held);
     }
     true
-}
-
-// The writer on the heap, and a reader in each of the handles, which are closed. None if there is no memory: then they are closed.
-pub(crate) fn given_out(
-    alloc: Global,
-    held: AnySide,
-    rest: Rest,
-    readers: &mut [RawHandle],
-) -> Option<Box<AnySide, Global>>
-    requires { (count_in rest ≡ length readers.old) × All IsClosed readers.old }
-    ensures given { IfSome result (λ b. (b.value ≡ held) × All (IsNewAt (opening_in rest) (has_desk_in rest) (width_in rest)) readers.new) }
-    ensures refused { IfNone result (All IsClosed readers.new) }
-{
-    let kept = boxed(alloc, held)?;
-    if !fill(alloc, rest, readers) {
-        close_all(alloc, readers);
-        return None;
-    }
-    Some(kept)
 }
 
 // The requested shape, or the first fault before those that the cache reports.
@@ -124,92 +115,50 @@ pub(crate) fn count_of(handles: usize) -> u32
 }
 
 // The handles are closed.
-#[tactic(auto, using(crate::proofs::Opened::are_opened, crate::proofs::Opened::refused_so_many))]
+#[tactic(auto, using(crate::proofs::Filling::refused_so_many))]
 fn open_all(
     alloc: Global,
     shape: &RawShape,
+    shards: u32,
     words: usize,
-    writer: &mut RawHandle,
-    readers: &mut [RawHandle],
+    handles: &mut [RawHandle],
 ) -> u32
-    requires { IsClosed writer.old × All IsClosed readers.old }
-    ensures opened { result ≡ OK → AreOpened shape.now words writer.new readers.new }
-    ensures refused { result ≢ OK → RefusesOpen shape.now words (length readers.old) result }
-    ensures closed { result ≢ OK → (writer.new ≡ writer.old) × All IsClosed readers.new }
+    requires { All IsClosed handles.old }
+    ensures opened { result ≡ OK → AreOpened shape.now shards words handles.new }
+    ensures refused { result ≢ OK → RefusesOpen shape.now shards words (length handles.old) result }
+    ensures closed { result ≢ OK → All IsClosed handles.new }
 {
     let shape = match asked(shape, words) {
         Ok(shape) => shape,
         Err(status) => return status,
     };
-    let (held, rest) = match open(alloc, shape, words, count_of(readers.len())) {
-        Ok(opened) => opened,
+    let rest = match open(alloc, shape, words, shards, count_of(handles.len())) {
+        Ok(rest) => rest,
         Err(why) => return status_of(why),
     };
-    let Some(held) = given_out(alloc, held, rest, readers) else {
+    if !fill(alloc, rest, handles) {
+        close_all(alloc, handles);
         return NO_MEMORY;
-    };
-    writer.put(held);
+    }
     OK
 }
 
-/// Opens a cache for values of `words` words. Puts its writer into one handle, and a reader into each of the others.
+/// Opens a cache of `shards` shards for values of `words` words, each shard a table of this shape.
 #[unsafe(no_mangle)]
 pub extern "C" fn cefrodil_open(
     alloc: Global,
     shape: &RawShape,
+    shards: u32,
     words: usize,
-    writer: &mut RawHandle,
-    readers: &mut [RawHandle],
+    handles: &mut [RawHandle],
 ) -> u32
-    ensures opened { result ≡ OK → AreOpened shape.now words writer.new readers.new }
-    ensures refused { result ≢ OK → RefusesHandles (IsClosed writer.old × All IsClosed readers.old) (RefusesOpen shape.now words (length readers.old)) result }
-    ensures in_use { result ≡ IN_USE → (writer.new ≡ writer.old) × (readers.new ≡ readers.old) }
-    ensures closed { result ≢ OK → result ≢ IN_USE → IsClosed writer.new × All IsClosed readers.new }
+    ensures opened { result ≡ OK → AreOpened shape.now shards words handles.new }
+    ensures refused { result ≢ OK → RefusesHandles (All IsClosed handles.old) (RefusesOpen shape.now shards words (length handles.old)) result }
+    ensures in_use { result ≡ IN_USE → handles.new ≡ handles.old }
+    ensures closed { result ≢ OK → result ≢ IN_USE → All IsClosed handles.new }
 {
-    if writer.is_live() || !all_closed(readers) {
+    if !all_closed(handles) {
         return IN_USE;
     }
-    open_all(alloc, shape, words, writer, readers)
-}
-
-// The handles are closed.
-#[tactic(auto, using(crate::proofs::Opened::are_passes, crate::proofs::Opened::refused_so_many))]
-fn open_all_passes(alloc: Global, shape: &RawShape, words: usize, passes: &mut [RawHandle]) -> u32
-    requires { All IsClosed passes.old }
-    ensures opened { result ≡ OK → ArePasses shape.now words passes.new }
-    ensures refused { result ≢ OK → RefusesOpen shape.now words (length passes.old) result }
-    ensures closed { result ≢ OK → All IsClosed passes.new }
-{
-    let shape = match asked(shape, words) {
-        Ok(shape) => shape,
-        Err(status) => return status,
-    };
-    let rest = match open_desk(alloc, shape, words, count_of(passes.len())) {
-        Ok(rest) => rest,
-        Err(why) => return status_of(why),
-    };
-    if !fill(alloc, rest, passes) {
-        close_all(alloc, passes);
-        return NO_MEMORY;
-    }
-    OK
-}
-
-/// Opens a cache for values of `words` words, with its writer on a desk. Puts a pass into each of the handles.
-#[unsafe(no_mangle)]
-pub extern "C" fn cefrodil_open_desk(
-    alloc: Global,
-    shape: &RawShape,
-    words: usize,
-    passes: &mut [RawHandle],
-) -> u32
-    ensures opened { result ≡ OK → ArePasses shape.now words passes.new }
-    ensures refused { result ≢ OK → RefusesHandles (All IsClosed passes.old) (RefusesOpen shape.now words (length passes.old)) result }
-    ensures in_use { result ≡ IN_USE → passes.new ≡ passes.old }
-    ensures closed { result ≢ OK → result ≢ IN_USE → All IsClosed passes.new }
-{
-    if !all_closed(passes) {
-        return IN_USE;
-    }
-    open_all_passes(alloc, shape, words, passes)
+    open_all(alloc, shape, shards, words, handles)
 }

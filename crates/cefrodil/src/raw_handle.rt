@@ -59,14 +59,6 @@ impl RawHandle {
         self.handle = Handle::of(Unboxed::of(held));
         self.live = true;
     }
-
-    /// It keeps this instead of what it kept. It is open.
-    pub(crate) fn replace(&mut self, held: AnySide)
-        requires { self.old.live ≡ true }
-        ensures { (self.new.live ≡ true) × (kept self.new ≡ some held) }
-    {
-        self.handle.held().set(held);
-    }
 }
 
 // Makes a call with what is behind the handle, in place. If the handle is closed, the reply says that instead.

@@ -1,15 +1,15 @@
 //! The shape of a table, as C writes it.
 ghost use Rattle.std.specs.Prelude.{ℕ, ◌≡◌, ◌≢◌, MatchOption, min};
-ghost use Rattle.mc_words.specs.Sizing.{CanBeSized, IsSizedFor};
+ghost use Rattle.mc_words.specs.Sizing.{IsSizedFor};
 ghost use Rattle.mc_words.specs.declared.shape.Shape.{Shape};
 ghost use Rattle.mc_shards.specs.Sizing.{IsShare, RefusesShare};
 ghost use Rattle.mc_shards.specs.declared.opening.OpenShardsError.{OpenShardsError};
 ghost use Rattle.mc_words.specs.Shapes.{HasShards};
 ghost use Rattle.cefrodil.specs.RawShapes.{HasMix, IsShapeOf};
-ghost use Rattle.cefrodil.specs.ShardOpenings.{shards_status};
+ghost use Rattle.cefrodil.specs.Openings.{shards_status};
 
-use crate::sharding::status_of_shards;
-use mc_door::status::{ITEMS, OK};
+use crate::opening::status_of;
+use mc_door::status::OK;
 use mc_door::{Shape, shard_shape};
 use mc_words::Mix;
 
@@ -78,22 +78,9 @@ impl RawShape {
     }
 }
 
-/// The shape for `items` items, from 1 to 3,774,873.
-#[unsafe(no_mangle)]
-pub extern "C" fn cefrodil_shape_for_items(items: u32, shape: &mut RawShape) -> u32
-    ensures sized { result ≡ OK → (chosen : Shape) × IsShapeOf shape.new chosen × IsSizedFor items chosen }
-    ensures refused { result ≢ OK → (result ≡ ITEMS) × (¬ CanBeSized items) × (shape.new ≡ shape.old) }
-{
-    let Ok(sized) = Shape::for_items(items) else {
-        return ITEMS;
-    };
-    *shape = RawShape::of(sized);
-    OK
-}
-
 /// The shape of each of `shards` shards, which have `items` items together.
 #[unsafe(no_mangle)]
-pub extern "C" fn cefrodil_shape_for_shards(items: u32, shards: u32, shape: &mut RawShape) -> u32
+pub extern "C" fn cefrodil_shape_for_items(items: u32, shards: u32, shape: &mut RawShape) -> u32
     ensures sized { result ≡ OK → (chosen : Shape) × (share : ℕ) × IsShapeOf shape.new chosen × HasShards shards × IsShare items shards share × IsSizedFor share chosen }
     ensures refused { result ≢ OK → (why : OpenShardsError) × (result ≡ shards_status why) × RefusesShare items shards why × (shape.new ≡ shape.old) }
 {
@@ -102,6 +89,6 @@ pub extern "C" fn cefrodil_shape_for_shards(items: u32, shards: u32, shape: &mut
             *shape = RawShape::of(sized);
             OK
         }
-        Err(why) => status_of_shards(why),
+        Err(why) => status_of(why),
     }
 }

@@ -1,4 +1,4 @@
-//! Writes that also return the entry which gives way, as C makes them: by the writer's handle, and by a pass in a turn.
+//! Writes that also return the entry which gives way, as C makes them.
 ghost use Rattle.std.specs.Prelude.{◌≡◌, []};
 ghost use Rattle.cefrodil.specs.Calls.{SwapGives};
 ghost use Rattle.cefrodil.specs.Open.{kept};
@@ -6,7 +6,7 @@ ghost use Rattle.cefrodil.specs.Open.{kept};
 use crate::raw_handle::{RawHandle, told_of_handle};
 use mc_door::{RawReply, Swap};
 
-/// Puts a key, and returns the entry that gives way, by the writer's handle or a pass. Its value is written to `old`.
+/// Puts a key, and returns the entry that gives way. Its value is written to `old`.
 #[tactic(auto, using(crate::proofs::Gives::gives_open, crate::proofs::Gives::gives_closed))]
 #[unsafe(no_mangle)]
 pub extern "C" fn cefrodil_swap(
@@ -22,7 +22,7 @@ pub extern "C" fn cefrodil_swap(
     told_of_handle!(handle, reply, held => held.swap(key, Swap::Put, value, old, reply))
 }
 
-/// Puts a key anew, if its last put was at the moment `since`, and returns the earlier entry, by the writer's handle or a pass.
+/// Puts a key anew, if its last put was at the moment `since`, and returns the earlier entry.
 #[tactic(auto, using(crate::proofs::Gives::gives_open, crate::proofs::Gives::gives_closed))]
 #[unsafe(no_mangle)]
 pub extern "C" fn cefrodil_swap_if(
@@ -39,7 +39,7 @@ pub extern "C" fn cefrodil_swap_if(
     told_of_handle!(handle, reply, held => held.swap(key, Swap::PutIf(since), value, old, reply))
 }
 
-/// Takes a key out, if its last put was at the moment `since`, and returns its entry, by the writer's handle or a pass.
+/// Takes a key out, if its last put was at the moment `since`, and returns its entry.
 #[tactic(auto, using(crate::proofs::Gives::gives_open, crate::proofs::Gives::gives_closed))]
 #[unsafe(no_mangle)]
 pub extern "C" fn cefrodil_take_if(
@@ -55,7 +55,7 @@ pub extern "C" fn cefrodil_take_if(
     told_of_handle!(handle, reply, held => held.swap(key, Swap::RemoveIf(since), &[], old, reply))
 }
 
-/// Takes a key out, and returns its entry, by the writer's handle or a pass.
+/// Takes a key out, and returns its entry.
 #[tactic(auto, using(crate::proofs::Gives::gives_open, crate::proofs::Gives::gives_closed))]
 #[unsafe(no_mangle)]
 pub extern "C" fn cefrodil_take(

@@ -1,4 +1,4 @@
-//! Writes, as C makes them: by the writer, or by a pass, which tries for the turn.
+//! Writes, as C makes them: by a handle that holds the turns, or by one that tries for the turn of the key's shard.
 ghost use Rattle.std.specs.Prelude.{◌≡◌, []};
 ghost use Rattle.cefrodil.specs.Calls.{WriteGives};
 ghost use Rattle.cefrodil.specs.Open.{kept};
@@ -6,7 +6,7 @@ ghost use Rattle.cefrodil.specs.Open.{kept};
 use crate::raw_handle::{RawHandle, told_of_handle};
 use mc_door::{RawReply, Write};
 
-/// Puts a key, by the writer's handle or a pass.
+/// Puts a key.
 #[tactic(auto, using(crate::proofs::Gives::gives_open, crate::proofs::Gives::gives_closed))]
 #[unsafe(no_mangle)]
 pub extern "C" fn cefrodil_put(
@@ -21,7 +21,7 @@ pub extern "C" fn cefrodil_put(
     told_of_handle!(handle, reply, held => held.put(key, value, reply))
 }
 
-/// Puts a key anew, if its last put was at the moment `since`, by the writer's handle or a pass.
+/// Puts a key anew, if its last put was at the moment `since`.
 #[tactic(auto, using(crate::proofs::Gives::gives_open, crate::proofs::Gives::gives_closed))]
 #[unsafe(no_mangle)]
 pub extern "C" fn cefrodil_put_if(
@@ -37,7 +37,7 @@ pub extern "C" fn cefrodil_put_if(
     told_of_handle!(handle, reply, held => held.write(key, Write::PutIf(since), value, reply))
 }
 
-/// Puts a key if it is absent, by the writer's handle or a pass.
+/// Puts a key if it is absent.
 #[tactic(auto, using(crate::proofs::Gives::gives_open, crate::proofs::Gives::gives_closed))]
 #[unsafe(no_mangle)]
 pub extern "C" fn cefrodil_put_if_absent(
@@ -52,7 +52,7 @@ pub extern "C" fn cefrodil_put_if_absent(
     told_of_handle!(handle, reply, held => held.write(key, Write::PutIfAbsent, value, reply))
 }
 
-/// Takes a key out, by the writer's handle or a pass.
+/// Takes a key out.
 #[tactic(auto, using(crate::proofs::Gives::gives_open, crate::proofs::Gives::gives_closed))]
 #[unsafe(no_mangle)]
 pub extern "C" fn cefrodil_remove(handle: &mut RawHandle, key: u64, reply: &mut RawReply) -> u32
@@ -62,7 +62,7 @@ pub extern "C" fn cefrodil_remove(handle: &mut RawHandle, key: u64, reply: &mut 
     told_of_handle!(handle, reply, held => held.write(key, Write::Remove, &[], reply))
 }
 
-/// Puts a key. A pass tries for the turn at most `tries` times, and at least once.
+/// Puts a key. A handle that holds no turns tries at most `tries` times, and at least once.
 #[tactic(auto, using(crate::proofs::Gives::gives_open, crate::proofs::Gives::gives_closed))]
 #[unsafe(no_mangle)]
 pub extern "C" fn cefrodil_put_within(

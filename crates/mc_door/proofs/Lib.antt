@@ -1,7 +1,5 @@
-pub mod LoadedSides
+pub mod NewShards
 pub mod MoreEntries
-pub mod NewReaders
 pub mod ListedWords
 pub mod AnySideLists
 pub mod ManyPuts
-pub mod Groups

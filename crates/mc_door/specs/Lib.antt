@@ -10,11 +10,8 @@ pub mod Batches
 pub mod Writes
 pub mod Swaps
 pub mod AnySides
-pub mod NewSides
-pub mod OntoDesk
 pub mod Spares
 pub mod NewPasses
-pub mod Leaving
 pub mod Counting
 pub mod Loading
 pub mod Listing

@@ -1,35 +1,26 @@
 -- The entries of a cache as words, as a list for C has them.
 use Rattle.std.specs.Prelude.{ℕ, ◌≡◌, ◌+◌, ◌*◌, ◌<◌, List, [], ◌∷◌, ◌++◌, drop, length}
 use Rattle.mc_words.specs.declared.no_memory.NoMemory.{NoMemory}
-use Rattle.mc_cache.specs.Plain.{AreEntriesOf, Begins, history, seen}
 use Rattle.mc_cache.specs.declared.desk.DeskError.{DeskError}
 use Rattle.mc_cache.specs.declared.desk.DeskError.TheVariants as desk
 use Rattle.mc_shards.specs.Holding.{histories}
 use Rattle.mc_shards.specs.Plain.{AllBegin, AreEntriesOfAll, seens}
-use Rattle.mc_shards.specs.Unlisted.{HasNotListed, HasStopped}
-use Rattle.mc_door.specs.Means.{CanChange}
-use Rattle.mc_door.specs.Roles.{Role, Writes, Reads, Passes, Shares, Holds, Idle}
+use Rattle.mc_shards.specs.Unlisted.{HasStopped}
+use Rattle.mc_door.specs.Roles.{Role, Tries, Holds}
 use Rattle.mc_door.specs.declared.listed.ListError.{ListError}
 use Rattle.mc_door.specs.declared.listed.ListError.TheVariants as why
 
--- a pass may have seen more of the histories. The others are unchanged
+-- a pass may have seen more of the histories. A holder is unchanged
 abbrev pub SeesMore : (V : ℕ) → Role → Role → Type 0
-SeesMore V (Writes w) (Writes w') = w' ≡ w
-SeesMore V (Reads r) (Reads r') = r' ≡ r
-SeesMore V (Passes r) (Passes r') = (r'.of ≡ r.of) × Begins (seen V r) (seen V r')
-SeesMore V (Shares s rs) (Shares s' rs') = (s' ≡ s) × AllBegin (seens V rs) (seens V rs')
+SeesMore V (Tries s rs) (Tries s' rs') = (s' ≡ s) × AllBegin (seens V rs) (seens V rs')
 SeesMore V (Holds s h) (Holds s' h') = (s' ≡ s) × (h' ≡ h)
-SeesMore V Idle Idle = Unit {0}
 SeesMore V _ _ = ⊥
 
--- all entries of the history that the side has made or seen
+-- all entries of the histories that the side has made or seen
 abbrev pub AreEntries : (V : ℕ) → Role → List (ℕ × List ℕ) → Type 0
-AreEntries V (Writes w) es = AreEntriesOf V (history V w) es
-AreEntries V (Reads r) es = ⊥
-AreEntries V (Passes r) es = AreEntriesOf V (seen V r) es
-AreEntries V (Shares s rs) es = AreEntriesOfAll V s.shape.mix (seens V rs) es
+AreEntries V (Tries s rs) es = AreEntriesOfAll V s.shape.mix (seens V rs) es
 AreEntries V (Holds s h) es = AreEntriesOfAll V s.shape.mix (histories V h) es
-AreEntries V Idle es = ⊥
+AreEntries V role es = ⊥
 
 -- the entries one after the other, each as its key and then its value
 abbrev pub words_of : List (ℕ × List ℕ) → List ℕ
@@ -49,20 +40,15 @@ HasListed V role old new count = (es : List (ℕ × List ℕ)) × AreEntries V r
 abbrev pub HasMore : (V : ℕ) → Role → ℕ → ℕ → Type 0
 HasMore V role words count = (es : List (ℕ × List ℕ)) × AreEntries V role es × (count ≡ length es) × (words < count * (1 + V))
 
--- the side was the one before the list and is the other after it, and the list was stopped for this reason. A writer and a holder are held by
--- nobody
+-- the side was the one before the list and is the other after it, and the list was stopped for this reason. A holder is held by nobody
 abbrev pub HasStoppedList : (V : ℕ) → DeskError NoMemory → Role → Role → Type 0
-HasStoppedList V desk.Held (Writes w) (Writes w') = ⊥
-HasStoppedList V (desk.Call none) (Writes w) (Writes w') = w' ≡ w
 HasStoppedList V desk.Held (Holds s h) (Holds s' h') = ⊥
 HasStoppedList V (desk.Call none) (Holds s h) (Holds s' h') = (s' ≡ s) × (h' ≡ h)
-HasStoppedList V why (Passes r) (Passes r') = HasNotListed V why r r'
-HasStoppedList V why (Shares s rs) (Shares s' rs') = (s' ≡ s) × HasStopped V rs rs' why
+HasStoppedList V why (Tries s rs) (Tries s' rs') = (s' ≡ s) × HasStopped V rs rs' why
 HasStoppedList V why _ _ = ⊥
 
--- the side does not list, a try for a turn was held, there are more entries than fit, or there is no memory
+-- a try for a turn was held, there are more entries than fit, or there is no memory
 abbrev pub RefusesList : (V : ℕ) → Role → Role → ℕ → ListError → Type 0
-RefusesList V role role' words why.Kind = ¬ CanChange role
 RefusesList V role role' words why.Held = HasStoppedList V desk.Held role role'
 RefusesList V role role' words (why.Count count) = HasMore V role' words count
 RefusesList V role role' words why.NoMemory = (none : NoMemory) × HasStoppedList V (desk.Call none) role role'

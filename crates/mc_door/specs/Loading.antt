@@ -1,31 +1,17 @@
 -- A cache that was opened with entries, given one after the other as words.
 use Rattle.std.specs.Prelude.{ℕ, zero, suc, ◌≡◌, All, List, [], ◌∷◌, drop, take}
-use Rattle.mc_cache.specs.Plain.{TakesOrNames, history}
-use Rattle.mc_plan.specs.Loads.{Loads}
 use Rattle.mc_plan.specs.declared.answer.Why.{Why}
 use Rattle.mc_words.specs.declared.history.Change.{Change}
-use Rattle.mc_shared.specs.Records.{Opening, ReaderRecord, WriterRecord}
+use Rattle.mc_shared.specs.Records.{ReaderRecord}
 use Rattle.mc_shards.specs.Loadings.{HaveLoaded, HoldEntries}
 use Rattle.mc_shards.specs.Plain.{seens}
 use Rattle.mc_shards.specs.Sharded.{Sharded}
-use Rattle.mc_theory.specs.States.{opening}
-use Rattle.mc_door.specs.Roles.{Role, Writes}
 
 -- this many entries: each is its key, and then the words of its value
 abbrev pub entries_in : ℕ → ℕ → List ℕ → List (ℕ × List ℕ)
 entries_in V zero words = []
 entries_in V (suc n) [] = []
 entries_in V (suc n) (key ∷ words) = (key, take V words) ∷ entries_in V n (drop V words)
-
--- the writer of a new cache has put these entries, one after the other, and nothing else. Those that were left are named, with the reason
-pub record HasLoaded (V : ℕ) (o : Opening) (entries : List (ℕ × List ℕ)) (left : List (ℕ × Why)) (w : WriterRecord) : Type 0 where
-  pub of : w.of ≡ o
-  pub loads : Loads V o.layout.shape (opening V o.layout.shape) 0 entries w.acts (history V w) left
-  pub plain : TakesOrNames 0 entries (history V w) left
-
-abbrev pub IsLoadedWriter : (V : ℕ) → Opening → List (ℕ × List ℕ) → List (ℕ × Why) → Role → Type 0
-IsLoadedWriter V o entries left (Writes w) = HasLoaded V o entries left w
-IsLoadedWriter V o entries left role = ⊥
 
 -- these passes of new shards have seen the puts of these entries, each in its key's shard, and nothing else. The entries that were left are
 -- named, with the reason

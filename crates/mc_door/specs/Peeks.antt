@@ -1,14 +1,13 @@
--- What a lookup means that marks nothing: by the writer or a holder, or by a pass in a turn.
+-- What a lookup means that marks nothing: by a holder, or by a pass in a turn.
 use Rattle.std.specs.Prelude.{ℕ, ◌≡◌, List, MatchOption, Option, Some, None, length}
-use Rattle.mc_cache.specs.Plain.{PeekMeans, TellsNow, history, seen}
+use Rattle.mc_cache.specs.Plain.{PeekMeans, TellsNow}
 use Rattle.mc_cache.specs.Turns.{HasTriedToPeek}
 use Rattle.mc_words.specs.declared.history.Reply.{Reply}
 use Rattle.mc_shards.specs.Holding.{histories}
 use Rattle.mc_shards.specs.Plain.{history_of}
 use Rattle.mc_door.specs.AtShards.{IsAtShard}
 use Rattle.mc_door.specs.Looks.{reply_of, LeavesUnlessFound}
-use Rattle.mc_door.specs.Means.{CanChange}
-use Rattle.mc_door.specs.Roles.{Role, Writes, Passes, Shares, Holds}
+use Rattle.mc_door.specs.Roles.{Role, Tries, Holds}
 use Rattle.mc_door.specs.Tellings.{lookup_told, plain}
 use Rattle.mc_door.specs.Tells.{HasTold, Tells}
 use Rattle.mc_door.specs.declared.looked.Looked.{Looked}
@@ -17,9 +16,7 @@ use Rattle.mc_door.specs.declared.outcome.Outcome.{Outcome}
 
 -- the reply is what the map holds now. There is none if the try for the turn did not win
 abbrev pub Peeks : (V : ℕ) → Role → Role → ℕ → Option (Reply V) → Type 0
-Peeks V (Writes w) (Writes w') key answer = (w' ≡ w) × MatchOption answer ⊥ (λ reply. TellsNow (history V w) key reply)
-Peeks V (Passes r) (Passes r') key answer = (r'.of ≡ r.of) × HasTriedToPeek V r r' answer × PeekMeans V (seen V r) (seen V r') key answer
-Peeks V (Shares s rs) (Shares s' rs') key answer = (s' ≡ s) × IsAtShard V s key rs rs' (λ r r'. HasTriedToPeek V r r' answer) (λ h h'. PeekMeans V h h' key answer)
+Peeks V (Tries s rs) (Tries s' rs') key answer = (s' ≡ s) × IsAtShard V s key rs rs' (λ r r'. HasTriedToPeek V r r' answer) (λ h h'. PeekMeans V h h' key answer)
 Peeks V (Holds s h) (Holds s' h') key answer = (s' ≡ s) × (h' ≡ h) × MatchOption answer ⊥ (λ reply. TellsNow (history_of s.shape.mix (histories V h) key) key reply)
 Peeks V _ _ key answer = ⊥
 
@@ -42,4 +39,4 @@ peek_told None = plain HELD
 
 abbrev pub PeekTells : (V : ℕ) → Role → Role → Type 0 → ℕ → List ℕ → List ℕ → Outcome → Type 0
 PeekTells V role role' Same key old new told =
-    Tells CanChange V role (length old) (Same × (new ≡ old)) (HasTold peek_told (PeekWrites V role role' key old new) told) told
+    Tells V (length old) (Same × (new ≡ old)) (HasTold peek_told (PeekWrites V role role' key old new) told) told

@@ -1,22 +1,20 @@
 -- The entries of a cache with their stamps as words, as a list for C has them.
 use Rattle.std.specs.Prelude.{ℕ, ◌≡◌, ◌+◌, ◌*◌, ◌<◌, List, [], ◌∷◌, ◌++◌, length, map}
-use Rattle.mc_words.specs.declared.no_memory.NoMemory.{NoMemory}
-use Rattle.mc_cache.specs.Plain.{history, seen}
-use Rattle.mc_cache.specs.Stamped.{AreStampedEntriesOf}
-use Rattle.mc_cache.specs.declared.desk.DeskError.TheVariants as desk
+use Rattle.mc_shards.specs.Holding.{histories}
+use Rattle.mc_shards.specs.Plain.{seens}
+use Rattle.mc_shards.specs.Stamped.{AreStampedEntriesOfAll}
 use Rattle.mc_writer.specs.declared.entry.Entry.{Entry}
-use Rattle.mc_door.specs.Leaving.{IsPass}
-use Rattle.mc_door.specs.Listing.{AreWritten, HasStoppedList, SeesMore}
-use Rattle.mc_door.specs.Means.{ChangesOneTable}
-use Rattle.mc_door.specs.Roles.{Role, Writes, Passes}
+use Rattle.mc_door.specs.Held.{IsHeldOff}
+use Rattle.mc_door.specs.Listing.{AreWritten, SeesMore}
+use Rattle.mc_door.specs.Roles.{Role, Tries, Holds}
 use Rattle.mc_door.specs.declared.listed.ListError.{ListError}
 use Rattle.mc_door.specs.declared.listed.ListError.TheVariants as why
 
--- all entries of the history that the side has made or seen, with their stamps
+-- all entries of the histories that the side has made or seen, with their stamps
 abbrev pub AreStampedEntries : (V : ℕ) → Role → List (Entry V) → Type 0
-AreStampedEntries V (Writes w) es = AreStampedEntriesOf V (history V w) es
-AreStampedEntries V (Passes r) es = AreStampedEntriesOf V (seen V r) es
-AreStampedEntries V _ es = ⊥
+AreStampedEntries V (Tries s rs) es = AreStampedEntriesOfAll V s.shape.mix (seens V rs) es
+AreStampedEntries V (Holds s h) es = AreStampedEntriesOfAll V s.shape.mix (histories V h) es
+AreStampedEntries V role es = ⊥
 
 -- an entry as a key with V + 1 words: its value, and then its stamp
 abbrev pub row_of : {V : ℕ} → Entry V → ℕ × List ℕ
@@ -31,9 +29,8 @@ HasListedStamped V role role' old new count =
 abbrev pub HasMoreStamped : (V : ℕ) → Role → ℕ → ℕ → Type 0
 HasMoreStamped V role words count = (es : List (Entry V)) × AreStampedEntries V role es × (count ≡ length es) × (words < count * (2 + V))
 
--- the side does not list, its try for a turn was held, there are more entries than fit, or there is no memory
+-- a try for a turn was held, there are more entries than fit, or there is no memory
 abbrev pub RefusesStampedList : (V : ℕ) → Role → Role → ℕ → ListError → Type 0
-RefusesStampedList V role role' words why.Kind = (¬ ChangesOneTable role) × (role' ≡ role)
-RefusesStampedList V role role' words why.Held = IsPass role × (role' ≡ role)
+RefusesStampedList V role role' words why.Held = IsHeldOff role role'
 RefusesStampedList V role role' words (why.Count count) = SeesMore V role role' × HasMoreStamped V role' words count
-RefusesStampedList V role role' words why.NoMemory = SeesMore V role role' × ChangesOneTable role × ((none : NoMemory) × HasStoppedList V (desk.Call none) role role')
+RefusesStampedList V role role' words why.NoMemory = SeesMore V role role'

@@ -1,4 +1,4 @@
--- What the writes mean that also return the entry which gives way: the writer makes them, and a pass in a turn.
+-- What the writes mean that also return the entry which gives way: a holder makes them, and a pass in a turn.
 use Rattle.std.specs.Prelude.{ℕ, ◌≡◌, ◌≢◌, ◌⊎◌, List, length, Option, Some, None, Result, Ok, Err}
 use Rattle.mc_cache.specs.CallContracts.{swap_contract, swap_if_contract, take_contract, take_if_contract}
 use Rattle.mc_cache.specs.TurnCalls.{Contract}
@@ -14,10 +14,9 @@ use Rattle.mc_plan.specs.declared.answer.PutError.{PutError}
 use Rattle.mc_plan.specs.declared.answer.Spent.{Spent}
 use Rattle.mc_door.specs.Roles.{Role}
 use Rattle.mc_door.specs.Tellings.{plain, swap_if_told, swap_told, take_if_told, take_told, turn_told}
-use Rattle.mc_door.specs.Means.{CanChange}
 use Rattle.mc_door.specs.Tells.{HasTold}
 use Rattle.mc_door.specs.Turns.{HasCalledBy}
-use Rattle.mc_door.specs.declared.status.TheConstants.{KIND, WIDTH}
+use Rattle.mc_door.specs.declared.status.TheConstants.{WIDTH}
 use Rattle.mc_door.specs.declared.outcome.Outcome.{Outcome}
 use Rattle.mc_door.specs.declared.write.Swap.{Swap}
 use Rattle.mc_door.specs.declared.write.Swap.TheVariants as call
@@ -60,16 +59,14 @@ SwapIs V Is key (call.PutIf since) v = Is (Replaced V) IfError (swap_if_contract
 SwapIs V Is key call.Remove v = Is (Take V) Spent (take_contract V key) take_told old_of_take
 SwapIs V Is key (call.RemoveIf since) v = Is (Replaced V) IfError (take_if_contract V key since) take_if_told old_of_swap_if
 
--- by the writer, or by a pass, which tries for the turn. The words of the old value are these before the call, and those after it
+-- by a holder, or by a pass, which tries for the turn. The words of the old value are these before the call, and those after it
 abbrev pub SwapMeans : (V : ℕ) → Role → Role → ℕ → Swap → List ℕ → List ℕ → List ℕ → Outcome → Type 0
 SwapMeans V role role' key call v old new told =
     (swap_words V call v ≡ V)
     × SwapIs V (λ T E c tells old_of. HasTold (turn_told tells) (λ a. HasCalledBy role role' key c a × (new ≡ left_by (old_of_turn old_of a) old)) told) key call v
 
--- the call was made; or the first that applies: the side has no such call, or the value or the words for the old one have another width.
--- Then nothing was done
+-- the call was made; or the value or the words for the old one have another width, and nothing was done
 abbrev pub SwapTells : (V : ℕ) → Role → Role → Type 0 → ℕ → Swap → List ℕ → List ℕ → List ℕ → Outcome → Type 0
 SwapTells V role role' Same key call v old new told =
     SwapMeans V role role' key call v old new told ⊎
-    (((told ≡ plain KIND) × (¬ CanChange role) × Same × (new ≡ old)) ⊎
-    ((told ≡ plain WIDTH) × CanChange role × ((swap_words V call v ≢ V) ⊎ (length old ≢ V)) × Same × (new ≡ old)))
+    ((told ≡ plain WIDTH) × ((swap_words V call v ≢ V) ⊎ (length old ≢ V)) × Same × (new ≡ old))

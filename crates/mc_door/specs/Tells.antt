@@ -1,8 +1,7 @@
 -- What a call by a side returns.
 use Rattle.std.specs.Prelude.{ℕ, ◌≡◌, ◌≢◌, ◌⊎◌}
-use Rattle.mc_door.specs.Roles.{Role}
 use Rattle.mc_door.specs.Tellings.{plain}
-use Rattle.mc_door.specs.declared.status.TheConstants.{KIND, WIDTH}
+use Rattle.mc_door.specs.declared.status.TheConstants.{WIDTH}
 use Rattle.mc_door.specs.declared.outcome.Outcome.{Outcome}
 
 -- the call was made, and this was returned for its answer
@@ -11,7 +10,6 @@ pub record HasTold {Answer : Type 0} (tells : Answer → Outcome) (Means : Answe
   pub is : told ≡ tells made
   pub means : Means made
 
--- the call was made; or the first that applies: the side has no such call, or the value has another width. Then nothing has changed
-abbrev pub Tells : (Role → Type 0) → ℕ → Role → ℕ → Type 0 → Type 0 → Outcome → Type 0
-Tells Can V role words Same Made told =
-    Made ⊎ (((told ≡ plain KIND) × (¬ Can role) × Same) ⊎ ((told ≡ plain WIDTH) × Can role × (words ≢ V) × Same))
+-- the call was made; or the value has another width, and nothing has changed
+abbrev pub Tells : ℕ → ℕ → Type 0 → Type 0 → Outcome → Type 0
+Tells V words Same Made told = Made ⊎ ((told ≡ plain WIDTH) × (words ≢ V) × Same)

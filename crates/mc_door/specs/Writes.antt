@@ -1,4 +1,4 @@
--- What the writes of one key mean: by the writer, and by a pass in a turn.
+-- What the writes of one key mean: by a holder, and by a pass in a turn.
 use Rattle.std.specs.Prelude.{ℕ, ◌≡◌, List, Result, length}
 use Rattle.mc_cache.specs.CallContracts.{put_contract, put_if_absent_contract, put_if_contract, remove_contract}
 use Rattle.mc_cache.specs.TurnCalls.{Contract}
@@ -10,7 +10,6 @@ use Rattle.mc_plan.specs.declared.answer.Remove.{Remove}
 use Rattle.mc_plan.specs.declared.answer.Spent.{Spent}
 use Rattle.mc_door.specs.Roles.{Role}
 use Rattle.mc_door.specs.Tellings.{put_if_absent_told, put_if_told, put_told, removal_told, turn_told}
-use Rattle.mc_door.specs.Means.{CanChange}
 use Rattle.mc_door.specs.Tells.{HasTold, Tells}
 use Rattle.mc_door.specs.Turns.{HasCalledBy}
 use Rattle.mc_door.specs.declared.outcome.Outcome.{Outcome}
@@ -30,11 +29,11 @@ WriteIs V Is key (call.PutIf since) v = Is ℕ IfError (put_if_contract V key si
 WriteIs V Is key call.PutIfAbsent v = Is Put AbsentError (put_if_absent_contract V key v) put_if_absent_told
 WriteIs V Is key call.Remove v = Is Remove Spent (remove_contract V key) removal_told
 
--- a write by the writer, or by a pass, which tries for the turn
+-- a write by a holder, or by a pass, which tries for the turn
 abbrev pub WriteMeans : (V : ℕ) → Role → Role → ℕ → Write → List ℕ → Outcome → Type 0
 WriteMeans V role role' key call v told =
     (words_in V call v ≡ V) × WriteIs V (λ T E c tells. HasTold (turn_told tells) (λ a. HasCalledBy role role' key c a) told) key call v
 
 -- what writes return. `Same`: the side is unchanged
 abbrev pub WriteTells : (V : ℕ) → Role → Role → Type 0 → ℕ → Write → List ℕ → Outcome → Type 0
-WriteTells V role role' Same key call v told = Tells CanChange V role (words_in V call v) Same (WriteMeans V role role' key call v told) told
+WriteTells V role role' Same key call v told = Tells V (words_in V call v) Same (WriteMeans V role role' key call v told) told

@@ -1,4 +1,4 @@
-//! One call that changes the map, generic over the side that makes it: the writer at once, a pass in a turn that it tries for.
+//! One call that changes the map, generic over what makes it: a holder at once, a pass in a turn that it tries for.
 ghost use Rattle.std.specs.Prelude.{◌≡◌, Err};
 ghost use Rattle.mc_cache.specs.declared.desk.DeskError.TheVariants.{Held};
 ghost use Rattle.mc_door.specs.Turns.{HasCalledBy};
@@ -6,7 +6,7 @@ ghost use Rattle.mc_door.specs.Turns.{HasCalledBy};
 use mc_cache::DeskError;
 use mc_cache::turn::TurnCall;
 
-/// A side that makes calls.
+/// What makes calls.
 pub(crate) trait Caller<const V: usize> {
     ghost use Rattle.mc_door.specs.Roles.{Role};
 

@@ -1,4 +1,4 @@
-//! A handle that holds the turn of every shard, with the shards.
+//! A handle that holds the turn of every shard, with what handles share.
 ghost use Rattle.std.specs.Prelude.{◌≡◌, Err, length};
 ghost use Rattle.mc_cache.specs.declared.desk.DeskError.TheVariants.{Held};
 ghost use Rattle.mc_shards.specs.Holding.{IsHolderOf, histories};
@@ -9,54 +9,55 @@ ghost use Rattle.mc_shards.specs.Sharded.{ArePassOf};
 use crate::caller::Caller;
 use crate::looked::Looked;
 use crate::outcome::{Outcome, RawReply};
+use crate::shared::Shared;
 use mc_cache::DeskError;
 use mc_cache::turn::TurnCall;
-use mc_shards::{Holder, Pass, Shards};
+use mc_shards::{Holder, Pass};
 use std::alloc::Global;
 use std::sync::Arc;
 
 /// A handle that holds the turn of every shard. When it is dropped, it gives them back.
 pub struct HolderSide<const V: usize> {
-    pub shards: Arc<Shards<V>, Global>,
+    pub shared: Arc<Shared<V>, Global>,
     pub holder: Holder<V>,
-    ghost belongs: { IsHolderOf shards.value holder },
+    ghost belongs: { IsHolderOf shared.value.shards holder },
 }
 
 impl<const V: usize> Drop for HolderSide<V> {
     fn drop(self) {
-        let (shards, pass) = self.release();
+        let (shared, pass) = self.release();
         drop(pass);
-        drop(shards);
+        drop(shared);
     }
 }
 
 impl<const V: usize> HolderSide<V> {
     ghost use Rattle.mc_words.specs.Places.{IsWidth};
-    ghost use Rattle.mc_door.specs.Means.{GetMeans, GetOrDeskMeans};
+    ghost use Rattle.mc_door.specs.Means.{GetMeans, GetOrTurnMeans};
     ghost use Rattle.mc_door.specs.Roles.{Holds};
     ghost use Rattle.mc_door.specs.Tellings.{lookup_told};
     ghost use Rattle.mc_door.specs.Tells.{HasTold};
 
     // Gives the turns back.
-    pub(crate) fn release(self) -> (Arc<Shards<V>, Global>, Pass<V>)
-        ensures shards { result.0 ≡ self.entry.shards }
-        ensures of { ArePassOf self.entry.shards.value result.1 }
+    pub(crate) fn release(self) -> (Arc<Shared<V>, Global>, Pass<V>)
+        ensures shared { result.0 ≡ self.entry.shared }
+        ensures of { ArePassOf self.entry.shared.value.shards result.1 }
         ensures met { HaveMet self.entry.holder.writers result.1 }
         ensures plain { AllBegin (seens V self.entry.holder.readers) (histories V self.entry.holder) × (seens V result.1 ≡ histories V self.entry.holder) }
     {
-        let HolderSide { shards, holder } = self;
-        let pass = holder.release(&shards);
-        (shards, pass)
+        let HolderSide { shared, holder } = self;
+        let pass = holder.release(&shared.shards);
+        (shared, pass)
     }
 
     #[inline(never)]
     pub(crate) fn get(&mut self, key: u64, value: &mut [u64], reply: &mut RawReply) -> u32
         requires width { IsWidth V }
         requires value { length value.old ≡ V }
-        ensures got { HasTold lookup_told (GetMeans V (Holds self.old.shards.value self.old.holder) (Holds self.new.shards.value self.new.holder) key value.old value.new) (record { status = result; reply = reply.new }) }
-        ensures desk { HasTold lookup_told (GetOrDeskMeans V (Holds self.old.shards.value self.old.holder) (Holds self.new.shards.value self.new.holder) key value.old value.new) (record { status = result; reply = reply.new }) }
+        ensures got { HasTold lookup_told (GetMeans V (Holds self.old.shared.value.shards self.old.holder) (Holds self.new.shared.value.shards self.new.holder) key value.old value.new) (record { status = result; reply = reply.new }) }
+        ensures turn { HasTold lookup_told (GetOrTurnMeans V (Holds self.old.shared.value.shards self.old.holder) (Holds self.new.shared.value.shards self.new.holder) key value.old value.new) (record { status = result; reply = reply.new }) }
     {
-        let answer = self.holder.get(&self.shards, key);
+        let answer = self.holder.get(&self.shared.shards, key);
         let looked = Looked::of(answer, value);
         Outcome::looked(looked).tell(reply)
     }
@@ -66,14 +67,14 @@ impl<const V: usize> Caller<V> for HolderSide<V> {
     ghost use Rattle.mc_door.specs.Roles.{Holds};
     ghost use Rattle.mc_door.specs.Turns.{HasCalledBy};
 
-    ghost role = { λ s. Holds s.shards.value s.holder };
+    ghost role = { λ s. Holds s.shared.value.shards s.holder };
 
     #[inline(always)]
     fn try_call<T, E, C: TurnCall<V, T, E>>(&mut self, key: u64, call: C) -> Result<T, DeskError<E>>
-        ensures tried { HasCalledBy (Holds self.old.shards.value self.old.holder) (Holds self.new.shards.value self.new.holder) key (C.contract call) result }
-        ensures held { result ≡ Err Held → Holds self.new.shards.value self.new.holder ≡ Holds self.old.shards.value self.old.holder }
+        ensures tried { HasCalledBy (Holds self.old.shared.value.shards self.old.holder) (Holds self.new.shared.value.shards self.new.holder) key (C.contract call) result }
+        ensures held { result ≡ Err Held → Holds self.new.shared.value.shards self.new.holder ≡ Holds self.old.shared.value.shards self.old.holder }
     {
-        match self.holder.call(&self.shards, key, call) {
+        match self.holder.call(&self.shared.shards, key, call) {
             Ok(done) => Ok(done),
             Err(why) => Err(DeskError::Call(why)),
         }

@@ -1,4 +1,4 @@
-//! A pass of shards holds the turn of each, or gives them back.
+//! A handle takes the turn of every shard and holds them, or gives them back.
 ghost use Rattle.std.specs.Prelude.{◌≡◌, MatchBool, MatchResult};
 ghost use Rattle.mc_door.specs.AnySides.{role_in, width_of};
 ghost use Rattle.mc_door.specs.Held.{BeginsToHold, HasReleased, IsHolding, RefusesToHold};
@@ -6,17 +6,17 @@ ghost use Rattle.mc_door.specs.Roles.{role_of};
 
 use crate::any_side::AnySide;
 use crate::holder_side::HolderSide;
-use crate::shard_side::ShardSide;
-use crate::side::Side;
+use crate::pass_side::PassSide;
+use crate::side::{Hand, Side};
 use crate::with_side;
 use std::mem::replace;
 
-/// Why a side does not hold. Nothing was changed.
+/// Why a handle does not take the turns. Nothing was changed.
 #[derive(Clone, Copy, Debug, PartialEq, Eq)]
 pub enum HoldError {
-    /// A side of this kind holds nothing.
-    Kind,
-    /// One of the tries for the turns did not win.
+    /// It holds them already.
+    Holds,
+    /// One of the tries did not win.
     Held,
 }
 
@@ -25,19 +25,19 @@ impl<const V: usize> Side<V> {
     pub(crate) fn hold(&mut self) -> Result<(), HoldError>
         ensures { MatchResult result (λ _. BeginsToHold V (role_of self.old) (role_of self.new)) (λ why. RefusesToHold (role_of self.old) why × (role_of self.new ≡ role_of self.old)) }
     {
-        if !matches!(self, Side::Shard(_)) {
-            return Err(HoldError::Kind);
+        if !matches!(&self.hand, Hand::Pass(_)) {
+            return Err(HoldError::Holds);
         }
-        let Side::Shard(ShardSide { shards, pass }) = replace(self, Side::Nothing) else {
+        let Hand::Pass(PassSide { shared, pass }) = replace(&mut self.hand, Hand::Nothing) else {
             unreachable!()
         };
-        match pass.hold(&shards) {
+        match pass.hold(&shared.shards) {
             Ok(holder) => {
-                *self = Side::Holder(HolderSide { shards, holder });
+                self.hand = Hand::Holder(HolderSide { shared, holder });
                 Ok(())
             }
             Err(pass) => {
-                *self = Side::Shard(ShardSide { shards, pass });
+                self.hand = Hand::Pass(PassSide { shared, pass });
                 Err(HoldError::Held)
             }
         }
@@ -47,20 +47,20 @@ impl<const V: usize> Side<V> {
     pub(crate) fn release(&mut self) -> bool
         ensures { MatchBool result (HasReleased V (role_of self.old) (role_of self.new)) ((¬ IsHolding (role_of self.old)) × (role_of self.new ≡ role_of self.old)) }
     {
-        if !matches!(self, Side::Holder(_)) {
+        if !matches!(&self.hand, Hand::Holder(_)) {
             return false;
         }
-        let Side::Holder(side) = replace(self, Side::Nothing) else {
+        let Hand::Holder(side) = replace(&mut self.hand, Hand::Nothing) else {
             unreachable!()
         };
-        let (shards, pass) = side.release();
-        *self = Side::Shard(ShardSide { shards, pass });
+        let (shared, pass) = side.release();
+        self.hand = Hand::Pass(PassSide { shared, pass });
         true
     }
 }
 
 impl AnySide {
-    /// Takes the turn of every shard and holds it, by a pass of shards. `Err` changes nothing.
+    /// Takes the turn of every shard and holds it. `Err` changes nothing.
     pub fn hold(&mut self) -> Result<(), HoldError>
         ensures width { width_of self.new ≡ width_of self.old }
         ensures held { MatchResult result (λ _. BeginsToHold (width_of self.old) (role_in self.old) (role_in self.new)) (λ why. RefusesToHold (role_in self.old) why × (role_in self.new ≡ role_in self.old)) }

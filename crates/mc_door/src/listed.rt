@@ -6,7 +6,7 @@ ghost use Rattle.mc_door.specs.Inside.Lists.{RefusesOutright, of_turn};
 ghost use Rattle.mc_door.specs.Roles.{role_of};
 ghost use Rattle.mc_door.specs.declared.listed.ListError.TheVariants as why;
 
-use crate::side::Side;
+use crate::side::{Hand, Side};
 use mc_cache::DeskError;
 use mc_words::NoMemory;
 use std::alloc::Global;
@@ -14,8 +14,6 @@ use std::alloc::Global;
 /// Why the entries were not listed. Nothing was written.
 #[derive(Clone, Copy, Debug, PartialEq, Eq)]
 pub enum ListError {
-    /// A side of this kind doesn't list.
-    Kind,
     /// The try for a turn did not win.
     Held,
     /// There are this many entries, and fewer words than they have.
@@ -78,27 +76,18 @@ impl<const V: usize> Side<V> {
         ensures more { SeesMore V (role_of self.old) (role_of self.new) }
         ensures listed { MatchResult result (λ es. AreEntries V (role_of self.new) es.items) (RefusesOutright V (role_of self.old) (role_of self.new)) }
     {
-        match self {
-            Side::Writer(side) => match side.writer.entries(alloc, &side.cache) {
+        match &mut self.hand {
+            Hand::Pass(side) => of_turn(side.pass.entries(alloc, &side.shared.shards)),
+            Hand::Holder(side) => match side.holder.entries(alloc, &side.shared.shards) {
                 Ok(entries) => Ok(entries),
                 Err(NoMemory) => Err(ListError::NoMemory),
             },
-            Side::Pass(side) => of_turn(
-                side.desk
-                    .desk()
-                    .try_entries(alloc, &side.cache, &mut side.pass),
-            ),
-            Side::Shard(side) => of_turn(side.pass.entries(alloc, &side.shards)),
-            Side::Holder(side) => match side.holder.entries(alloc, &side.shards) {
-                Ok(entries) => Ok(entries),
-                Err(NoMemory) => Err(ListError::NoMemory),
-            },
-            Side::Reader(_) | Side::Nothing => Err(ListError::Kind),
+            Hand::Nothing => unreachable!(),
         }
     }
 
-    /// Writes each key of the cache with its value, and returns how many they are: `Writer::entries`, `Desk::try_entries` or
-    /// `Pass::entries`, by the writer or a pass.
+    /// Writes each key of the cache with its value, and returns how many they are: `Pass::entries` or
+    /// `Holder::entries`.
     pub fn entries(&mut self, alloc: Global, words: &mut [u64]) -> Result<usize, ListError>
         requires width { IsWidth V }
         ensures more { SeesMore V (role_of self.old) (role_of self.new) }

@@ -1,5 +1,5 @@
-//! A cache of shards is opened, and its passes are given out.
-ghost use Rattle.std.specs.Prelude.{◌≡◌, ◌+◌, ◌*◌, [], All, IfOk, MatchOption, MatchResult, length};
+//! A cache is opened, and its passes are given out; later, more of them.
+ghost use Rattle.std.specs.Prelude.{◌≡◌, ◌+◌, ◌*◌, ◌≤◌, [], All, IfErr, IfOk, MatchOption, MatchResult, length, take};
 ghost use Rattle.mc_words.specs.Places.{IsWidth};
 ghost use Rattle.mc_words.specs.Readers.{HasReaders};
 ghost use Rattle.mc_words.specs.Shapes.{HasShards, IsShape};
@@ -10,34 +10,39 @@ ghost use Rattle.mc_shards.specs.declared.opening.OpenShardsError.TheVariants.{O
 ghost use Rattle.mc_door.specs.Loading.{HaveSeenLoads, entries_in};
 ghost use Rattle.mc_door.specs.Roles.{role_of};
 
-use crate::entries::{check, entries_of};
-use crate::shard_side::ShardSide;
-use crate::side::Side;
+use crate::entries::entries_of;
+use crate::pass_side::PassSide;
+use crate::shared::{MoreError, Shared};
+use crate::side::{Hand, Side};
+use crate::spares::{move_passes, passes_for};
 use mc_cache::{OpenError, Shape, Why};
 use mc_shards::{OpenShardsError, OpenedShards, Pass, Shards, open_shards, open_shards_with};
-use mc_words::{NoMemory, can_shard};
+use mc_words::{MOST_READERS, NoMemory, can_shard};
 use std::alloc::Global;
 use std::sync::Arc;
 
 // The first fault of the request, if there is one. It is looked for before memory is taken, so that a lack of memory comes last.
-fn check_shards(shape: Shape, shards: u32, passes: u32) -> Result<(), OpenShardsError>
+fn check(shape: Shape, shards: u32, passes: u32) -> Result<(), OpenShardsError>
     ensures { MatchResult result (λ _. HasShards shards × IsShape shape × HasReaders passes) (λ e. RefusesShards shape shards passes e) }
 {
     if !can_shard(shards) {
         return Err(OpenShardsError::Shards);
     }
-    match check(shape, passes) {
-        Ok(()) => Ok(()),
-        Err(why) => Err(OpenShardsError::Open(why)),
+    if let Err(why) = shape.check() {
+        return Err(OpenShardsError::Open(OpenError::Shape(why)));
     }
+    if passes == 0 || passes > MOST_READERS {
+        return Err(OpenShardsError::Open(OpenError::Readers));
+    }
+    Ok(())
 }
 
-/// The passes of new shards that no handle keeps yet.
+/// Passes of shards that no handle keeps yet.
 #[derive(Drop)]
 pub struct NewPasses<const V: usize> {
-    pub shards: Arc<Shards<V>, Global>,
+    pub shared: Arc<Shared<V>, Global>,
     pub passes: Vec<Pass<V>>,
-    ghost belongs: { All (ArePassOf shards.value) passes.items },
+    ghost belongs: { All (ArePassOf shared.value.shards) passes.items },
 }
 
 impl<const V: usize> NewPasses<V> {
@@ -45,36 +50,44 @@ impl<const V: usize> NewPasses<V> {
 
     /// One of them, if any is left.
     pub(crate) fn next(&mut self) -> Result<Option<Side<V>>, NoMemory>
-        ensures same { self.new.shards.value ≡ self.old.shards.value }
+        ensures same { self.new.shared.value.shards ≡ self.old.shared.value.shards }
         ensures given { IfOk result (λ given. MatchOption given (self.old.passes.items ≡ [])
-            (λ side. IsLastPass self.old.shards.value self.old.passes.items self.new.passes.items (role_of side))) }
+            (λ side. IsLastPass self.old.shared.value.shards self.old.passes.items self.new.passes.items (role_of side))) }
     {
         let Some(pass) = self.passes.pop() else {
             return Ok(None);
         };
-        let Ok(shards) = Arc::try_clone(&self.shards) else {
+        let Ok(shared) = Arc::try_clone(&self.shared) else {
             return Err(NoMemory);
         };
-        Ok(Some(Side::Shard(ShardSide { shards, pass })))
+        let hand = Hand::Pass(PassSide { shared, pass });
+        Ok(Some(Side { hand }))
     }
 
-    // The passes of these shards, in hand.
+    // The first `asked` passes of these shards, in hand. The others stay with the shards.
     fn of(
         alloc: Global,
         shards: Shards<V>,
-        passes: Vec<Pass<V>>,
+        mut passes: Vec<Pass<V>>,
+        asked: usize,
     ) -> Result<NewPasses<V>, OpenShardsError>
-        requires { All (ArePassOf shards) passes.items }
-        ensures { MatchResult result (λ r. (r.shards.value ≡ shards.entry) × (r.passes.items ≡ passes.entry.items)) (λ e. e ≡ Open error.NoMemory) }
+        requires of { All (ArePassOf shards) passes.items }
+        requires many { asked ≤ length passes.items }
+        ensures given { IfOk result (λ r. (r.shared.value.shards ≡ shards.entry) × (r.passes.items ≡ take asked passes.entry.items) × (length r.passes.items ≡ asked)) }
+        ensures refused { IfErr result (λ e. e ≡ Open error.NoMemory) }
     {
-        match Arc::new(alloc, shards) {
-            Ok(shards) => Ok(NewPasses { shards, passes }),
+        let Ok(mut spares) = Vec::with_capacity(alloc, passes.len() - asked) else {
+            return Err(OpenShardsError::Open(OpenError::NoMemory));
+        };
+        move_passes(&shards, &mut passes, &mut spares, asked);
+        match Arc::new(alloc, Shared::new(shards, spares)) {
+            Ok(shared) => Ok(NewPasses { shared, passes }),
             Err(_) => Err(OpenShardsError::Open(OpenError::NoMemory)),
         }
     }
 
     /// Opens `shards` shards, with the requested number of passes.
-    #[tactic(auto, using(crate::proofs::LoadedSides::have_seen_nothing))]
+    #[tactic(auto, using(crate::proofs::NewShards::refused_as_asked, crate::proofs::NewShards::have_seen_nothing))]
     pub(crate) fn open(
         alloc: Global,
         shape: Shape,
@@ -82,17 +95,18 @@ impl<const V: usize> NewPasses<V> {
         passes: u32,
     ) -> Result<NewPasses<V>, OpenShardsError>
         requires width { IsWidth V }
-        ensures refused { MatchResult result (λ r. (r.shards.value.shape ≡ shape) × (length r.shards.value.tables ≡ shards)) (λ e. RefusesShards shape shards passes e) }
+        ensures refused { MatchResult result (λ r. (r.shared.value.shards.shape ≡ shape) × (length r.shared.value.shards.tables ≡ shards)) (λ e. RefusesShards shape shards passes e) }
         ensures passes { IfOk result (λ r. (length r.passes.items ≡ passes) × HasShards shards × IsShape shape × HasReaders passes) }
         ensures fresh { IfOk result (λ r. HaveSeenNothing V r.passes.items) }
     {
-        let (opened, passes) = open_shards::<V>(alloc, shape, shards, passes)?;
-        NewPasses::of(alloc, opened, passes)
+        check(shape, shards, passes)?;
+        let (opened, all) = open_shards::<V>(alloc, shape, shards, passes_for(passes))?;
+        NewPasses::of(alloc, opened, all, passes as usize)
     }
 
     /// Opens `shards` shards with `count` entries, given one after the other as words. Returns the requested number of passes, and the index
     /// of each entry that was left, with the reason.
-    #[tactic(auto, using(crate::proofs::LoadedSides::have_seen_loads))]
+    #[tactic(auto, using(crate::proofs::NewShards::refused_as_asked))]
     pub(crate) fn open_with(
         alloc: Global,
         shape: Shape,
@@ -103,21 +117,53 @@ impl<const V: usize> NewPasses<V> {
     ) -> Result<(NewPasses<V>, Vec<(usize, Why)>), OpenShardsError>
         requires width { IsWidth V }
         requires entries { length entries.now ≡ count * (1 + V) }
-        ensures refused { MatchResult result (λ r. (r.0.shards.value.shape ≡ shape) × (length r.0.shards.value.tables ≡ shards)) (λ e. RefusesShards shape shards passes e) }
+        ensures refused { MatchResult result (λ r. (r.0.shared.value.shards.shape ≡ shape) × (length r.0.shared.value.shards.tables ≡ shards)) (λ e. RefusesShards shape shards passes e) }
         ensures passes { IfOk result (λ r. (length r.0.passes.items ≡ passes) × HasShards shards × IsShape shape × HasReaders passes) }
-        ensures loaded { IfOk result (λ r. HaveSeenLoads V r.0.shards.value (entries_in V count entries.now) r.1.items r.0.passes.items) }
+        ensures loaded { IfOk result (λ r. HaveSeenLoads V r.0.shared.value.shards (entries_in V count entries.now) r.1.items r.0.passes.items) }
     {
-        check_shards(shape, shards, passes)?;
+        check(shape, shards, passes)?;
         let Ok(entries) = entries_of::<V>(alloc, count, entries) else {
             return Err(OpenShardsError::Open(OpenError::NoMemory));
         };
-        let opened = open_shards_with::<V>(alloc, shape, shards, passes, entries.as_slice())?;
+        let opened = open_shards_with::<V>(
+            alloc,
+            shape,
+            shards,
+            passes_for(passes),
+            entries.as_slice(),
+        )?;
         let OpenedShards {
             shards,
-            passes,
+            passes: all,
             left,
         } = opened;
-        let rest = NewPasses::of(alloc, shards, passes)?;
+        let rest = NewPasses::of(alloc, shards, all, passes as usize)?;
         Ok((rest, left))
+    }
+
+    // More passes of the same shards.
+    fn more(shared: &Arc<Shared<V>, Global>, alloc: Global, many: usize) -> Result<NewPasses<V>, MoreError>
+        ensures { IfOk result (λ r. (r.shared.value.shards ≡ shared.now.value.shards) × (length r.passes.items ≡ many)) }
+    {
+        let Ok(shared) = Arc::try_clone(shared) else {
+            return Err(MoreError::NoMemory);
+        };
+        let passes = shared.more(alloc, many)?;
+        Ok(NewPasses { shared, passes })
+    }
+}
+
+impl<const V: usize> Side<V> {
+    ghost use Rattle.mc_door.specs.NewPasses.{AreOfSide};
+
+    /// Takes `many` of the spare passes of its shards.
+    pub(crate) fn more(&self, alloc: Global, many: usize) -> Result<NewPasses<V>, MoreError>
+        ensures { IfOk result (λ r. AreOfSide (role_of self.now) r.shared.value.shards × (length r.passes.items ≡ many)) }
+    {
+        match &self.hand {
+            Hand::Pass(side) => NewPasses::more(&side.shared, alloc, many),
+            Hand::Holder(side) => NewPasses::more(&side.shared, alloc, many),
+            Hand::Nothing => unreachable!(),
+        }
     }
 }

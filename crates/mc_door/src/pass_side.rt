@@ -1,67 +1,67 @@
-//! A pass at the desk of a cache, with the desk and the cache.
-ghost use Rattle.std.specs.Prelude.{◌≡◌, Err, Some, length};
+//! A handle that tries for turns: a pass, with what handles share.
+ghost use Rattle.std.specs.Prelude.{◌≡◌, Err, length};
 ghost use Rattle.mc_cache.specs.declared.desk.DeskError.TheVariants.{Held};
+ghost use Rattle.mc_shards.specs.Sharded.{ArePassOf};
 
-use crate::at_desk::AtDesk;
 use crate::caller::Caller;
 use crate::looked::Looked;
 use crate::outcome::{Outcome, RawReply};
+use crate::shared::Shared;
+use mc_cache::DeskError;
 use mc_cache::turn::TurnCall;
-use mc_cache::{Cache, DeskError, Reader};
+use mc_shards::Pass;
 use std::alloc::Global;
 use std::sync::Arc;
 
-/// A reader of a cache whose writer is on a desk.
+/// A pass of shards.
 #[derive(Drop)]
 pub struct PassSide<const V: usize> {
-    pub cache: Arc<Cache<V>, Global>,
-    pub desk: Arc<AtDesk<V>, Global>,
-    pub pass: Reader<V>,
-    ghost belongs: { (pass.of ≡ cache.value) × (desk.value.desk ≡ Some cache.value) },
+    pub shared: Arc<Shared<V>, Global>,
+    pub pass: Pass<V>,
+    ghost belongs: { ArePassOf shared.value.shards pass },
 }
 
 impl<const V: usize> PassSide<V> {
     ghost use Rattle.mc_words.specs.Places.{IsWidth};
-    ghost use Rattle.mc_door.specs.Means.{GetMeans, GetOrDeskMeans};
-    ghost use Rattle.mc_door.specs.Roles.{Passes};
+    ghost use Rattle.mc_door.specs.Means.{GetMeans, GetOrTurnMeans};
+    ghost use Rattle.mc_door.specs.Roles.{Tries};
     ghost use Rattle.mc_door.specs.Tellings.{lookup_told};
     ghost use Rattle.mc_door.specs.Tells.{HasTold};
 
-    #[inline(never)]
+    #[inline(always)]
     pub(crate) fn get(&mut self, key: u64, value: &mut [u64], reply: &mut RawReply) -> u32
         requires width { IsWidth V }
         requires value { length value.old ≡ V }
-        ensures { HasTold lookup_told (GetMeans V (Passes self.old.pass) (Passes self.new.pass) key value.old value.new) (record { status = result; reply = reply.new }) }
+        ensures { HasTold lookup_told (GetMeans V (Tries self.old.shared.value.shards self.old.pass) (Tries self.new.shared.value.shards self.new.pass) key value.old value.new) (record { status = result; reply = reply.new }) }
     {
-        let answer = self.pass.get(&self.cache, key);
+        let answer = self.pass.get(&self.shared.shards, key);
         let looked = Looked::of(answer, value);
         Outcome::looked(looked).tell(reply)
     }
 
     #[inline(always)]
-    pub(crate) fn get_or_desk(&mut self, key: u64, value: &mut [u64], reply: &mut RawReply) -> u32
+    pub(crate) fn get_or_turn(&mut self, key: u64, value: &mut [u64], reply: &mut RawReply) -> u32
         requires width { IsWidth V }
         requires value { length value.old ≡ V }
-        ensures { HasTold lookup_told (GetOrDeskMeans V (Passes self.old.pass) (Passes self.new.pass) key value.old value.new) (record { status = result; reply = reply.new }) }
+        ensures { HasTold lookup_told (GetOrTurnMeans V (Tries self.old.shared.value.shards self.old.pass) (Tries self.new.shared.value.shards self.new.pass) key value.old value.new) (record { status = result; reply = reply.new }) }
     {
-        let answer = self.pass.get_or_desk(&self.cache, self.desk.desk(), key);
+        let answer = self.pass.get_or_desk(&self.shared.shards, key);
         let looked = Looked::of(answer, value);
         Outcome::looked(looked).tell(reply)
     }
 }
 
 impl<const V: usize> Caller<V> for PassSide<V> {
-    ghost use Rattle.mc_door.specs.Roles.{Passes};
+    ghost use Rattle.mc_door.specs.Roles.{Tries};
     ghost use Rattle.mc_door.specs.Turns.{HasCalledBy};
 
-    ghost role = { λ s. Passes s.pass };
+    ghost role = { λ s. Tries s.shared.value.shards s.pass };
 
     #[inline(always)]
     fn try_call<T, E, C: TurnCall<V, T, E>>(&mut self, key: u64, call: C) -> Result<T, DeskError<E>>
-        ensures tried { HasCalledBy (Passes self.old.pass) (Passes self.new.pass) key (C.contract call) result }
-        ensures held { result ≡ Err Held → Passes self.new.pass ≡ Passes self.old.pass }
+        ensures tried { HasCalledBy (Tries self.old.shared.value.shards self.old.pass) (Tries self.new.shared.value.shards self.new.pass) key (C.contract call) result }
+        ensures held { result ≡ Err Held → Tries self.new.shared.value.shards self.new.pass ≡ Tries self.old.shared.value.shards self.old.pass }
     {
-        let _key = key;
-        self.desk.desk().try_call(&self.cache, &mut self.pass, call)
+        self.pass.try_call(&self.shared.shards, key, call)
     }
 }

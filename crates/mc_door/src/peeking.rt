@@ -1,4 +1,4 @@
-//! Lookups that mark nothing: by the writer or a holder, or by a pass in a turn.
+//! Lookups that mark nothing: by a holder, or by a pass in a turn.
 ghost use Rattle.std.specs.Prelude.{◌≡◌, length};
 ghost use Rattle.mc_words.specs.Places.{IsWidth};
 ghost use Rattle.mc_door.specs.AnySides.{role_in, width_of};
@@ -8,8 +8,8 @@ ghost use Rattle.mc_door.specs.Roles.{role_of};
 use crate::any_side::AnySide;
 use crate::looked::Looked;
 use crate::outcome::{Outcome, RawReply};
-use crate::side::Side;
-use crate::status::{HELD, KIND, WIDTH};
+use crate::side::{Hand, Side};
+use crate::status::{HELD, WIDTH};
 use crate::tell::refused;
 use crate::with_side;
 use mc_cache::Reply;
@@ -42,13 +42,13 @@ impl<const V: usize> Side<V> {
         requires { IsWidth V }
         ensures { PeekTells V (role_of self.old) (role_of self.new) (self.new ≡ self.old) key value.old value.new (record { status = result; reply = reply.new }) }
     {
-        let answer = match self {
-            Side::Reader(_) | Side::Nothing => return refused(KIND, reply),
-            _ if value.len() != V => return refused(WIDTH, reply),
-            Side::Writer(side) => Some(side.writer.peek(&side.cache, key)),
-            Side::Pass(side) => side.desk.desk().try_peek(&side.cache, &mut side.pass, key),
-            Side::Shard(side) => side.pass.try_peek(&side.shards, key),
-            Side::Holder(side) => Some(side.holder.peek(&side.shards, key)),
+        if value.len() != V {
+            return refused(WIDTH, reply);
+        }
+        let answer = match &mut self.hand {
+            Hand::Pass(side) => side.pass.try_peek(&side.shared.shards, key),
+            Hand::Holder(side) => Some(side.holder.peek(&side.shared.shards, key)),
+            Hand::Nothing => unreachable!(),
         };
         let looked = looked(answer, value);
         tell(looked, reply)
@@ -56,7 +56,7 @@ impl<const V: usize> Side<V> {
 }
 
 impl AnySide {
-    /// What the map holds of the key now: `Writer::peek`, or that of a pass in a turn. The value is written only if the key was found.
+    /// What the map holds of the key now: `Holder::peek` or `Pass::try_peek`. The value is written only if the key was found.
     pub fn peek(&mut self, key: u64, value: &mut [u64], reply: &mut RawReply) -> u32
         ensures width { width_of self.new ≡ width_of self.old }
         ensures told { PeekTells (width_of self.old) (role_in self.old) (role_in self.new) (self.new ≡ self.old) key value.old value.new (record { status = result; reply = reply.new }) }

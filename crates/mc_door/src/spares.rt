@@ -1,44 +1,44 @@
-//! Readers of a cache that no handle has had.
-ghost use Rattle.std.specs.Prelude.{◌≡◌, ◌+◌, ◌≤◌, [], All, length, vec_capacity};
-ghost use Rattle.mc_shared.specs.Records.{IsNewReader};
+//! Passes that no handle has had.
+ghost use Rattle.std.specs.Prelude.{◌≡◌, ◌+◌, ◌≤◌, [], All, length, take, vec_capacity};
+ghost use Rattle.mc_shards.specs.Sharded.{ArePassOf};
 ghost use Rattle.mc_words.specs.Readers.{HasReaders};
-ghost use Rattle.mc_door.specs.Spares.{readers_for};
+ghost use Rattle.mc_door.specs.Spares.{passes_for};
 
-use mc_cache::{Cache, Reader};
+use mc_shards::{Pass, Shards};
 use mc_words::MOST_READERS;
 
-// How many readers more than requested.
+// How many passes more than requested.
 const SPARES: u32 = 64;
 
-/// How many readers a cache is opened with when `asked` are requested.
-pub(crate) fn readers_for(asked: u32) -> u32
+/// How many passes a cache is opened with when `asked` are requested.
+pub(crate) fn passes_for(asked: u32) -> u32
     requires { HasReaders asked }
-    ensures is { result ≡ readers_for asked }
+    ensures is { result ≡ passes_for asked }
     ensures enough { (asked ≤ result) × HasReaders result }
 {
     (asked + SPARES).min(MOST_READERS)
 }
 
-/// Moves `many` of the spare readers into the other list, which is empty and has room for them. It allocates no memory.
-pub(crate) fn move_readers<const V: usize>(
-    cache: &Cache<V>,
-    spares: &mut Vec<Reader<V>>,
-    readers: &mut Vec<Reader<V>>,
-    many: usize,
+/// Moves all but the first `kept` passes to the other list, which is empty and has room for them. It takes no memory.
+pub(crate) fn move_passes<const V: usize>(
+    shards: &Shards<V>,
+    passes: &mut Vec<Pass<V>>,
+    others: &mut Vec<Pass<V>>,
+    kept: usize,
 )
-    requires fresh { All (IsNewReader cache.now) spares.old.items }
-    requires many { many ≤ length spares.old.items }
-    requires empty { readers.old.items ≡ [] }
-    requires room { many ≤ vec_capacity readers.old }
-    ensures fresh { All (IsNewReader cache.now) spares.new.items × All (IsNewReader cache.now) readers.new.items }
-    ensures many { (length readers.new.items ≡ many) × (length spares.new.items + many ≡ length spares.old.items) }
+    requires of { All (ArePassOf shards.now) passes.old.items }
+    requires kept { kept ≤ length passes.old.items }
+    requires empty { others.old.items ≡ [] }
+    requires room { length passes.old.items ≤ kept + vec_capacity others.old }
+    ensures of { All (ArePassOf shards.now) passes.new.items × All (ArePassOf shards.now) others.new.items }
+    ensures kept { passes.new.items ≡ take kept passes.old.items }
+    ensures many { kept + length others.new.items ≡ length passes.old.items }
 {
-    let _cache = cache;
-    for n in 0..many {
-        let _n = n;
-        let Some(reader) = spares.pop() else {
+    let _shards = shards;
+    while passes.len() > kept {
+        let Some(pass) = passes.pop() else {
             unreachable!();
         };
-        readers.push_reserved(reader);
+        others.push_reserved(pass);
     }
 }

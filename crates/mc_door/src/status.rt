@@ -27,8 +27,8 @@ pub const HELD: u32 = 7;
 /// The handle isn't open.
 pub const CLOSED: u32 = 8;
 
-/// A handle of this kind has no such call.
-pub const KIND: u32 = 9;
+/// The handle holds the turns already.
+pub const HOLDS: u32 = 9;
 
 /// The value has another number of words than those of the cache.
 pub const WIDTH: u32 = 10;
@@ -63,8 +63,8 @@ pub const TRIES: u32 = 19;
 /// The shape's `limit` is.
 pub const LIMIT: u32 = 20;
 
-/// Readers must be from 1 to 1024.
-pub const READERS: u32 = 21;
+/// Handles must be from 1 to 1024, and those that are added no more than there are to spare.
+pub const HANDLES: u32 = 21;
 
 /// Counts that belong together don't fit.
 pub const COUNT: u32 = 22;
@@ -78,5 +78,5 @@ pub const SHARDS: u32 = 24;
 /// The key is there, and was to be put only if it was absent.
 pub const PRESENT: u32 = 25;
 
-/// Other passes are at the desk.
-pub const NOT_LAST: u32 = 26;
+/// The handle holds no turns.
+pub const HOLDS_NOT: u32 = 26;

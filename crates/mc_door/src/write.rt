@@ -7,7 +7,7 @@ ghost use Rattle.mc_door.specs.Writes.{words_in};
 #[derive(Clone, Copy)]
 pub enum Write {
     Put,
-    /// A put that tries for the turn at most this many times, and at least once. The writer needs none.
+    /// A put that tries for the turn at most this many times, and at least once. A holder needs none.
     PutWithin(u32),
     /// A put of a key whose last put was at this moment.
     PutIf(u64),

@@ -29,8 +29,9 @@ pub(crate) fn put<const V: usize, S: Caller<V>>(
     in_turn!(tried, reply, made => tell::put(made, reply))
 }
 
+/// The same, out of line.
 #[inline(never)]
-fn put_apart<const V: usize, S: Caller<V>>(
+pub(crate) fn put_apart<const V: usize, S: Caller<V>>(
     side: &mut S,
     key: u64,
     value: &[u64],

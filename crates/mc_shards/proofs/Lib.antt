@@ -3,6 +3,7 @@ pub mod OneMap
 pub mod Many
 pub mod Entries
 pub mod ListedShards
+pub mod StampedShards
 pub mod CountedShards
 pub mod LoadedShards
 pub mod Spread

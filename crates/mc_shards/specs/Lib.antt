@@ -7,6 +7,7 @@ pub mod OneMap
 pub mod Spread
 pub mod Sizing
 pub mod Counted
+pub mod Stamped
 pub mod Unlisted
 pub mod Lending
 pub mod Inside

@@ -21,6 +21,7 @@ mod closing;
 mod counting;
 mod held_calls;
 mod held_lists;
+mod held_stamps;
 mod holding;
 pub mod laws;
 mod lender;

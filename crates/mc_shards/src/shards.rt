@@ -68,6 +68,14 @@ impl<const V: usize> Shards<V> {
         self.shape.mix.shard(key, self.count()) as usize
     }
 
+    /// Loads ahead the words that lookups of the first of these keys will read, of `GROUP` keys at most: `Cache::touch_ahead`. Where there are
+    /// several shards it does nothing: they are seldom large enough for it to pay.
+    pub fn touch_ahead(&self, keys: &[u64]) {
+        if self.count() == 1 {
+            self.cache(0).touch_ahead(keys);
+        }
+    }
+
     // The cache of a shard.
     #[inline(always)]
     pub(crate) fn cache(&self, n: usize) -> &Cache<V>

@@ -16,12 +16,15 @@ fn share_of(items: u32, shards: u32) -> u64
     requires shards { HasShards shards }
     ensures { IsShare items shards result }
 {
+    if shards == 1 {
+        return u64::from(items);
+    }
     let mean = (u64::from(items) - 1) / u64::from(shards) + 1;
     mean + 5 * (mean.isqrt() + 1)
 }
 
-/// A shape for each of `shards` shards, which have `items` items together: `Shape::for_items` of a shard's mean share and five
-/// standard deviations more, since the hash gives some shards more keys than others. `Err` if the number of shards is not allowed, or if
+/// A shape for each of `shards` shards, which have `items` items together: `Shape::for_items` of the items. Of several shards each gets its mean
+/// share and five standard deviations more, since the hash gives some shards more keys than others. `Err` if the number of shards is not allowed, or if
 /// there are no items or too many.
 pub fn shard_shape(items: u32, shards: u32) -> Result<Shape, OpenShardsError>
     ensures { MatchResult result

@@ -1,11 +1,9 @@
 -- A list, before it is written as words.
-use Rattle.std.specs.Prelude.{ℕ, ◌≡◌, Result, Ok, Err}
+use Rattle.std.specs.Prelude.{ℕ, Result, Ok, Err}
 use Rattle.mc_words.specs.declared.no_memory.NoMemory.{NoMemory}
 use Rattle.mc_cache.specs.declared.desk.DeskError.{DeskError}
 use Rattle.mc_cache.specs.declared.desk.DeskError.TheVariants as desk
-use Rattle.mc_door.specs.Leaving.{IsPass}
-use Rattle.mc_door.specs.Listing.{HasStoppedList, SeesMore}
-use Rattle.mc_door.specs.Means.{CanChange, ChangesOneTable}
+use Rattle.mc_door.specs.Listing.{HasStoppedList}
 use Rattle.mc_door.specs.Roles.{Role}
 use Rattle.mc_door.specs.declared.listed.ListError.{ListError}
 use Rattle.mc_door.specs.declared.listed.ListError.TheVariants as why
@@ -18,14 +16,6 @@ of_turn (Err (desk.Call e)) = Err why.NoMemory
 
 -- nothing was listed
 abbrev pub RefusesOutright : (V : ℕ) → Role → Role → ListError → Type 0
-RefusesOutright V role role' why.Kind = ¬ CanChange role
 RefusesOutright V role role' why.Held = HasStoppedList V desk.Held role role'
 RefusesOutright V role role' (why.Count count) = ⊥
 RefusesOutright V role role' why.NoMemory = (none : NoMemory) × HasStoppedList V (desk.Call none) role role'
-
--- and none with its stamp
-abbrev pub RefusesStampedOutright : (V : ℕ) → Role → Role → ListError → Type 0
-RefusesStampedOutright V role role' why.Kind = (¬ ChangesOneTable role) × (role' ≡ role)
-RefusesStampedOutright V role role' why.Held = IsPass role × (role' ≡ role)
-RefusesStampedOutright V role role' (why.Count count) = ⊥
-RefusesStampedOutright V role role' why.NoMemory = SeesMore V role role' × ChangesOneTable role × ((none : NoMemory) × HasStoppedList V (desk.Call none) role role')

@@ -1,0 +1,137 @@
+//! `cefrodil_get_or_turn` for each width of a value. The header calls these if the width is a constant.
+ghost use Rattle.std.specs.Prelude.{◌≡◌};
+ghost use Rattle.cefrodil.specs.Calls.{GetOrTurnGives};
+ghost use Rattle.cefrodil.specs.Open.{kept};
+
+use crate::raw_handle::{RawHandle, told_of_handle};
+use mc_door::{AnySide, RawReply};
+
+// Looks up by a handle whose values have this width. Any other handle is passed to `cefrodil_get_or_turn`, which refuses it.
+macro_rules! get_or_turn_at {
+    ($width:ident, $handle:ident, $key:ident, $value:ident, $reply:ident) => {
+        told_of_handle!($handle, $reply, held => match held {
+            AnySide::$width(side) => side.get_or_turn($key, $value.as_mut_slice(), $reply),
+            held => held.get_or_turn($key, $value.as_mut_slice(), $reply),
+        })
+    };
+}
+
+/// `cefrodil_get_or_turn` for values of one word.
+#[tactic(auto, using(crate::proofs::Gives::gives_open, crate::proofs::Gives::gives_closed))]
+#[unsafe(no_mangle)]
+pub extern "C" fn cefrodil_get_or_turn_1(
+    handle: &mut RawHandle,
+    key: u64,
+    value: &mut [u64; 1],
+    reply: &mut RawReply,
+) -> u32
+    ensures open { handle.new.live ≡ handle.old.live }
+    ensures told { GetOrTurnGives (kept handle.old) (kept handle.new) key value.old value.new (record { status = result; reply = reply.new }) }
+{
+    get_or_turn_at!(One, handle, key, value, reply)
+}
+
+/// `cefrodil_get_or_turn` for values of two words.
+#[tactic(auto, using(crate::proofs::Gives::gives_open, crate::proofs::Gives::gives_closed))]
+#[unsafe(no_mangle)]
+pub extern "C" fn cefrodil_get_or_turn_2(
+    handle: &mut RawHandle,
+    key: u64,
+    value: &mut [u64; 2],
+    reply: &mut RawReply,
+) -> u32
+    ensures open { handle.new.live ≡ handle.old.live }
+    ensures told { GetOrTurnGives (kept handle.old) (kept handle.new) key value.old value.new (record { status = result; reply = reply.new }) }
+{
+    get_or_turn_at!(Two, handle, key, value, reply)
+}
+
+/// `cefrodil_get_or_turn` for values of three words.
+#[tactic(auto, using(crate::proofs::Gives::gives_open, crate::proofs::Gives::gives_closed))]
+#[unsafe(no_mangle)]
+pub extern "C" fn cefrodil_get_or_turn_3(
+    handle: &mut RawHandle,
+    key: u64,
+    value: &mut [u64; 3],
+    reply: &mut RawReply,
+) -> u32
+    ensures open { handle.new.live ≡ handle.old.live }
+    ensures told { GetOrTurnGives (kept handle.old) (kept handle.new) key value.old value.new (record { status = result; reply = reply.new }) }
+{
+    get_or_turn_at!(Three, handle, key, value, reply)
+}
+
+/// `cefrodil_get_or_turn` for values of four words.
+#[tactic(auto, using(crate::proofs::Gives::gives_open, crate::proofs::Gives::gives_closed))]
+#[unsafe(no_mangle)]
+pub extern "C" fn cefrodil_get_or_turn_4(
+    handle: &mut RawHandle,
+    key: u64,
+    value: &mut [u64; 4],
+    reply: &mut RawReply,
+) -> u32
+    ensures open { handle.new.live ≡ handle.old.live }
+    ensures told { GetOrTurnGives (kept handle.old) (kept handle.new) key value.old value.new (record { status = result; reply = reply.new }) }
+{
+    get_or_turn_at!(Four, handle, key, value, reply)
+}
+
+/// `cefrodil_get_or_turn` for values of five words.
+#[tactic(auto, using(crate::proofs::Gives::gives_open, crate::proofs::Gives::gives_closed))]
+#[unsafe(no_mangle)]
+pub extern "C" fn cefrodil_get_or_turn_5(
+    handle: &mut RawHandle,
+    key: u64,
+    value: &mut [u64; 5],
+    reply: &mut RawReply,
+) -> u32
+    ensures open { handle.new.live ≡ handle.old.live }
+    ensures told { GetOrTurnGives (kept handle.old) (kept handle.new) key value.old value.new (record { status = result; reply = reply.new }) }
+{
+    get_or_turn_at!(Five, handle, key, value, reply)
+}
+
+/// `cefrodil_get_or_turn` for values of six words.
+#[tactic(auto, using(crate::proofs::Gives::gives_open, crate::proofs::Gives::gives_closed))]
+#[unsafe(no_mangle)]
+pub extern "C" fn cefrodil_get_or_turn_6(
+    handle: &mut RawHandle,
+    key: u64,
+    value: &mut [u64; 6],
+    reply: &mut RawReply,
+) -> u32
+    ensures open { handle.new.live ≡ handle.old.live }
+    ensures told { GetOrTurnGives (kept handle.old) (kept handle.new) key value.old value.new (record { status = result; reply = reply.new }) }
+{
+    get_or_turn_at!(Six, handle, key, value, reply)
+}
+
+/// `cefrodil_get_or_turn` for values of seven words.
+#[tactic(auto, using(crate::proofs::Gives::gives_open, crate::proofs::Gives::gives_closed))]
+#[unsafe(no_mangle)]
+pub extern "C" fn cefrodil_get_or_turn_7(
+    handle: &mut RawHandle,
+    key: u64,
+    value: &mut [u64; 7],
+    reply: &mut RawReply,
+) -> u32
+    ensures open { handle.new.live ≡ handle.old.live }
+    ensures told { GetOrTurnGives (kept handle.old) (kept handle.new) key value.old value.new (record { status = result; reply = reply.new }) }
+{
+    get_or_turn_at!(Seven, handle, key, value, reply)
+}
+
+/// `cefrodil_get_or_turn` for values of eight words.
+#[tactic(auto, using(crate::proofs::Gives::gives_open, crate::proofs::Gives::gives_closed))]
+#[unsafe(no_mangle)]
+pub extern "C" fn cefrodil_get_or_turn_8(
+    handle: &mut RawHandle,
+    key: u64,
+    value: &mut [u64; 8],
+    reply: &mut RawReply,
+) -> u32
+    ensures open { handle.new.live ≡ handle.old.live }
+    ensures told { GetOrTurnGives (kept handle.old) (kept handle.new) key value.old value.new (record { status = result; reply = reply.new }) }
+{
+    get_or_turn_at!(Eight, handle, key, value, reply)
+}
