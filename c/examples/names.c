@@ -1,6 +1,7 @@
 /* A cache of host names for a server of several threads, each with a handle. If a thread doesn't find a name, it resolves the name the
- * slow way, and queues the answer for the one thread that writes. That one holds the turns, so no write of it is held. The key is a hash of the name. The value keeps a second hash, which
- * tells apart names of one key. If strangers choose the names, take a keyed hash. Reads as C and as C++. */
+ * slow way, and queues the answer for the one thread that writes. That one holds the turns, so none of its puts is held. The key is a hash of
+ * the name. The value keeps a second hash, which tells apart names of one key. If strangers choose the names, take a keyed hash. Reads as C
+ * and as C++. */
 #include "cefrodil.h"
 #include <pthread.h>
 #include <stdio.h>

@@ -5,7 +5,7 @@
 #include <sched.h>
 #include <stdatomic.h>
 
-enum { KEYS = 64, HOLDS = 2000, TRIERS = 2, LISTED = KEYS + 2, HANDLES = 4 + TRIERS };
+enum { KEYS = 64, HOLDS = 2000, MOST_TRIES = 20000000, TRIERS = 2, LISTED = KEYS + 2, HANDLES = 4 + TRIERS };
 
 static cefrodil_handle handles[HANDLES];
 
@@ -29,11 +29,13 @@ static void others_are_held(cefrodil_handle *other) {
     uint64_t old = 5, number = 99, entries[3 * KEYS];
     MUST(cefrodil_put(other, 7, values, 1, &reply) == CEFRODIL_HELD);
     MUST(reply.at == 0 && reply.since == 0 && reply.evicted == 0 && reply.moves == 0 && reply.put == CEFRODIL_PUT_NOTHING);
-    MUST(cefrodil_put_if(other, 7, 8, values, 1, &reply) == CEFRODIL_HELD && cefrodil_put_if_absent(other, 100, values, 1, &reply) == CEFRODIL_HELD);
+    MUST(cefrodil_put_if(other, 7, 8, values, 1, &reply) == CEFRODIL_HELD);
+    MUST(cefrodil_put_if_absent(other, 100, values, 1, &reply) == CEFRODIL_HELD);
     MUST(cefrodil_put_within(other, 3, 7, values, 1, &reply) == CEFRODIL_HELD && cefrodil_remove(other, 7, &reply) == CEFRODIL_HELD);
     MUST(cefrodil_put_many(other, keys, 2, values, 2, answers, 2) == CEFRODIL_OK);
     MUST(answers[0].status == CEFRODIL_HELD && answers[1].status == CEFRODIL_HELD && answers[1].reply.at == 0);
-    MUST(cefrodil_swap(other, 7, values, 1, &old, 1, &reply) == CEFRODIL_HELD && cefrodil_swap_if(other, 7, 8, values, 1, &old, 1, &reply) == CEFRODIL_HELD);
+    MUST(cefrodil_swap(other, 7, values, 1, &old, 1, &reply) == CEFRODIL_HELD);
+    MUST(cefrodil_swap_if(other, 7, 8, values, 1, &old, 1, &reply) == CEFRODIL_HELD);
     MUST(cefrodil_take(other, 7, &old, 1, &reply) == CEFRODIL_HELD && cefrodil_take_if(other, 7, 8, &old, 1, &reply) == CEFRODIL_HELD);
     MUST(cefrodil_peek(other, 7, &old, 1, &reply) == CEFRODIL_HELD && old == 5);
     MUST(cefrodil_hold(other) == CEFRODIL_HELD && cefrodil_release(other) == CEFRODIL_HOLDS_NOT);
@@ -81,7 +83,8 @@ static void holds(void) {
 }
 
 static atomic_bool done;
-static atomic_ulong won;
+// Changes that have been made: by tries that won, and by the holder.
+static atomic_ulong won, written;
 
 // Puts keys by tries, and counts those that won.
 static void *tries(void *handle) {
@@ -119,17 +122,26 @@ static uint64_t listed(const uint64_t *entries, uint64_t count, uint64_t key) {
     return 0;
 }
 
-// Lists and counts without holding: the keys of a holder have one value in each list, and the number of changes never falls. Returns null
-// otherwise.
+// Whether all changes are counted that were made before.
+static bool counts_all(cefrodil_handle *handle) {
+    const uint64_t made = atomic_load(&won) + atomic_load(&written);
+    uint64_t moment = 0;
+    const cefrodil_status status = cefrodil_moment(handle, &moment);
+    return status == CEFRODIL_HELD || (status == CEFRODIL_OK && moment >= made);
+}
+
+// Whether the keys of the holder have one value in a list of one moment.
+static bool lists_all(cefrodil_handle *handle) {
+    uint64_t entries[3 * LISTED], count = 0;
+    const cefrodil_status status = cefrodil_stamped_entries(handle, entries, 3 * LISTED, &count);
+    return status == CEFRODIL_HELD || (status == CEFRODIL_OK && listed(entries, count, 1000) == listed(entries, count, 1001));
+}
+
+// Lists and counts without holding. Returns null if an answer is wrong.
 static void *lists(void *handle) {
-    uint64_t entries[3 * LISTED], count = 0, moment = 0, last = 0;
     bool right = true;
     while (!atomic_load(&done)) {
-        const cefrodil_status status = cefrodil_stamped_entries(handle, entries, 3 * LISTED, &count);
-        right = right && (status == CEFRODIL_OK || status == CEFRODIL_HELD);
-        right = right && (status == CEFRODIL_HELD || listed(entries, count, 1000) == listed(entries, count, 1001));
-        right = right && cefrodil_moment(handle, &moment) <= CEFRODIL_HELD && moment >= last;
-        last = moment;
+        right = right && lists_all(handle) && counts_all(handle);
         sched_yield();
     }
     return right ? handle : NULL;
@@ -144,6 +156,7 @@ static void writes_alone(cefrodil_handle *holder, uint64_t number) {
     MUST(cefrodil_entries(holder, entries, 2 * LISTED, &count) == CEFRODIL_OK);
     MUST(cefrodil_len(holder, &last) == CEFRODIL_OK && last == count);
     MUST(cefrodil_moment(holder, &last) == CEFRODIL_OK && last == first + 2);
+    atomic_fetch_add(&written, 2);
     MUST(cefrodil_release(holder) == CEFRODIL_OK);
 }
 
@@ -154,10 +167,11 @@ static void beside_threads(void) {
     void *(*const work[TRIERS + 2])(void *) = {tries, tries, looks, lists};
     atomic_store(&done, false);
     atomic_store(&won, 0);
+    atomic_store(&written, 0);
     for (size_t i = 0; i < TRIERS + 2; i++) {
         MUST(pthread_create(&threads[i], NULL, work[i], &handles[1 + i]) == 0);
     }
-    while (held < HOLDS) {
+    for (long n = 0; held < HOLDS && n < MOST_TRIES; n++) {
         if (cefrodil_hold(&handles[0]) != CEFRODIL_OK) {
             // Another thread may have stopped within a turn, and needs this processor.
             sched_yield();
@@ -165,12 +179,14 @@ static void beside_threads(void) {
         }
         writes_alone(&handles[0], ++held);
     }
-    // At the end nobody tries, so a hold wins: then all changes are those that won.
+    MUST(held == HOLDS);
+    // At the end nobody tries, so each try wins: then all changes are those that won, and the holder's.
     atomic_store(&done, true);
     for (size_t i = 0; i < TRIERS + 2; i++) {
         void *right = NULL;
         MUST(pthread_join(threads[i], &right) == 0 && (i < TRIERS || right != NULL));
     }
+    MUST(cefrodil_moment(&handles[1], &last) == CEFRODIL_OK && last == 2 * held + atomic_load(&won));
     MUST(cefrodil_hold(&handles[0]) == CEFRODIL_OK);
     MUST(cefrodil_moment(&handles[0], &last) == CEFRODIL_OK && last == 2 * held + atomic_load(&won));
 }

@@ -1,6 +1,6 @@
 /* Each allocation of an opening is refused in turn: then no handle is open, and nothing leaks. So is each of a list of entries, and each for
  * more handles. Calls that take no memory, as a holder's, work without it. A list allocates in its turn, so a batch of another handle is held
- * meanwhile. Linked with --wrap. */
+ * meanwhile: by a list with stamps in all shards. Linked with --wrap. */
 #include "cefrodil.h"
 #include <stdbool.h>
 #include <stdio.h>
@@ -229,6 +229,32 @@ static int batches(const cefrodil_shape *shape, size_t words) {
     return put;
 }
 
+static bool all_held;
+
+/* Notes whether the whole batch is held, at each allocation from here on. */
+static void note_batch(void) {
+    put_batch();
+    all_held = all_held || is_answered(CEFRODIL_HELD, 0);
+    in_turn = note_batch;
+}
+
+/* While a list with stamps is made, it has the turns of all shards at once. Behind it all are free. */
+static int stamps_at_once(const cefrodil_shape *shape, size_t words) {
+    static uint64_t list[(1 + BATCH) * 10];
+    uint64_t count = 0;
+    batch_words = words;
+    int stamped = open_one(shape, words, loaded_in_shards) == CEFRODIL_OK;
+    all_held = false, in_turn = note_batch;
+    stamped = stamped && cefrodil_stamped_entries(&handles[0], list, (1 + BATCH) * (2 + words), &count) == CEFRODIL_OK && count >= 1 && all_held;
+    in_turn = NULL;
+    put_batch();
+    for (size_t i = 0; i < BATCH; i++) {
+        stamped = stamped && batch_answers[i].status == CEFRODIL_OK;
+    }
+    close_all();
+    return stamped;
+}
+
 /* Each opening takes memory, shards more than one, and one more with entries. */
 static int opens(const cefrodil_shape *shape, size_t words) {
     const long one = allocations(shape, words, plain), four = allocations(shape, words, in_shards);
@@ -254,7 +280,10 @@ static const char *failure(const cefrodil_shape *shape, size_t words) {
     if (!gives_more(shape, words, loaded) || !gives_more(shape, words, loaded_in_shards)) {
         return "more handles";
     }
-    return batches(shape, words) ? NULL : "a batch";
+    if (!batches(shape, words)) {
+        return "a batch";
+    }
+    return stamps_at_once(shape, words) ? NULL : "a list with stamps";
 }
 
 int main(void) {

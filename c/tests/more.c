@@ -4,7 +4,7 @@
 #include <pthread.h>
 #include <sched.h>
 
-enum { MOST = 1024, SPARE = 64, THREADS = 4 };
+enum { MOST = 1024, SPARE = 64, THREADS = 4, MOST_TRIES = 20000000 };
 
 static cefrodil_handle handles[2], more[2], none, crowd[MOST];
 static cefrodil_shape shape;
@@ -101,10 +101,10 @@ static void in_groups(void) {
     close_all(handles, 2);
 }
 
-/* A thread with the handle by which it asks, and the spare handles that it got. */
+/* A thread with the handle by which it asks, and the spare handles that it got, at most all. Its last call needs a place, too. */
 struct asker {
     pthread_t thread;
-    cefrodil_handle own, got[SPARE];
+    cefrodil_handle own, got[SPARE + 1];
     size_t count;
 };
 
@@ -113,7 +113,7 @@ static void *ask(void *argument) {
     struct asker *asker = (struct asker *)argument;
     cefrodil_status status = CEFRODIL_OK;
     cefrodil_reply written;
-    while (status == CEFRODIL_OK || status == CEFRODIL_HELD) {
+    for (long n = 0; n < MOST_TRIES && (status == CEFRODIL_OK || status == CEFRODIL_HELD); n++) {
         status = cefrodil_more(&asker->own, &asker->got[asker->count], 1);
         if (status == CEFRODIL_OK) {
             uint64_t value = asker->count;

@@ -73,7 +73,7 @@ static void closed(void) {
     MUST(cefrodil_get_or_turn(&none, 1, value, 2, &reply) == CEFRODIL_CLOSED && cefrodil_peek(&none, 1, value, 2, &reply) == CEFRODIL_CLOSED);
     closed_writes();
     MUST(cefrodil_moment(&none, value) == CEFRODIL_CLOSED && cefrodil_len(&none, value) == CEFRODIL_CLOSED);
-    MUST(cefrodil_capacity(&none, value) == CEFRODIL_CLOSED && cefrodil_entries(&none, value, 1, value + 1) == CEFRODIL_CLOSED && value[0] == 1 && value[1] == 2);
+    MUST(cefrodil_capacity(&none, value) == CEFRODIL_CLOSED && cefrodil_entries(&none, value, 1, value + 1) == CEFRODIL_CLOSED);
     MUST(cefrodil_stamped_entries(&none, value, 1, value + 1) == CEFRODIL_CLOSED && value[0] == 1 && value[1] == 2);
     MUST(cefrodil_entries(&none, NULL, 0, value) == CEFRODIL_CLOSED && cefrodil_stamped_entries(&none, NULL, 0, value) == CEFRODIL_CLOSED);
     MUST(cefrodil_hold(&none) == CEFRODIL_CLOSED && cefrodil_release(&none) == CEFRODIL_CLOSED && value[0] == 1);
