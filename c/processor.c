@@ -40,18 +40,10 @@ static bool is_supported(void) {
     cefrodil_status proved_cefrodil_##call parameters; \
     cefrodil_status cefrodil_##call parameters { return is_supported() ? proved_cefrodil_##call passed : CEFRODIL_PROCESSOR; }
 
-GUARDED(shape_for_items, (uint32_t items, cefrodil_shape *shape), (items, shape))
-GUARDED(shape_for_shards, (uint32_t items, uint32_t shards, cefrodil_shape *shape), (items, shards, shape))
-GUARDED(open, (const cefrodil_shape *shape, size_t words, cefrodil_handle *writer, cefrodil_handle *readers, size_t reader_count),
-        (shape, words, writer, readers, reader_count))
+GUARDED(shape_for_items, (uint32_t items, uint32_t shards, cefrodil_shape *shape), (items, shards, shape))
+GUARDED(open, (const cefrodil_shape *shape, uint32_t shards, size_t words, cefrodil_handle *handles, size_t count),
+        (shape, shards, words, handles, count))
 GUARDED(open_with,
-        (const cefrodil_shape *shape, size_t words, const uint64_t *entries, size_t entry_words, uint32_t *statuses, size_t status_count,
-         cefrodil_handle *writer, cefrodil_handle *readers, size_t reader_count),
-        (shape, words, entries, entry_words, statuses, status_count, writer, readers, reader_count))
-GUARDED(open_desk, (const cefrodil_shape *shape, size_t words, cefrodil_handle *passes, size_t pass_count), (shape, words, passes, pass_count))
-GUARDED(open_shards, (const cefrodil_shape *shape, uint32_t shards, size_t words, cefrodil_handle *passes, size_t pass_count),
-        (shape, shards, words, passes, pass_count))
-GUARDED(open_shards_with,
         (const cefrodil_shape *shape, uint32_t shards, size_t words, const uint64_t *entries, size_t entry_words, uint32_t *statuses,
-         size_t status_count, cefrodil_handle *passes, size_t pass_count),
-        (shape, shards, words, entries, entry_words, statuses, status_count, passes, pass_count))
+         size_t status_count, cefrodil_handle *handles, size_t count),
+        (shape, shards, words, entries, entry_words, statuses, status_count, handles, count))

@@ -6,7 +6,7 @@
 
 enum { THREADS = 4, NUMBERS = 10000, ITEMS = 8000 };
 
-/* A thread with its pass, and how many results it computed. */
+/* A thread with its handle, and how many results it computed. */
 struct worker {
     pthread_t thread;
     cefrodil_handle *known;
@@ -52,16 +52,16 @@ static uint64_t plain_sum(void) {
 }
 
 int main(void) {
-    static cefrodil_handle passes[THREADS];
+    static cefrodil_handle handles[THREADS];
     static struct worker workers[THREADS];
     cefrodil_shape shape;
     uint64_t expected = plain_sum(), computed = 0, kept = 0;
     bool right = true;
-    if (cefrodil_shape_for_items(ITEMS, &shape) != CEFRODIL_OK || cefrodil_open_desk(&shape, 1, passes, THREADS) != CEFRODIL_OK) {
+    if (cefrodil_shape_for_items(ITEMS, 1, &shape) != CEFRODIL_OK || cefrodil_open(&shape, 1, 1, handles, THREADS) != CEFRODIL_OK) {
         return 1;
     }
     for (int i = 0; i < THREADS; i++) {
-        workers[i].known = &passes[i];
+        workers[i].known = &handles[i];
         if (pthread_create(&workers[i].thread, NULL, work, &workers[i]) != 0) {
             return 1;
         }
@@ -71,7 +71,7 @@ int main(void) {
         right = right && workers[i].sum == expected;
         computed += workers[i].computed;
         kept += workers[i].kept;
-        cefrodil_close(&passes[i]);
+        cefrodil_close(&handles[i]);
     }
     printf("%llu of %llu steps were computed, %llu of them kept\n", (unsigned long long)computed, (unsigned long long)(THREADS * expected),
            (unsigned long long)kept);

@@ -1,6 +1,7 @@
-/* A cache of host names for a server of several threads, each with a reader. If a thread doesn't find a name, it resolves the name the
- * slow way, and queues the answer for the one thread that writes. The key is a hash of the name. The value keeps a second hash, which
- * tells apart names of one key. If strangers choose the names, take a keyed hash. Reads as C and as C++. */
+/* A cache of host names for a server of several threads, each with a handle. If a thread doesn't find a name, it resolves the name the
+ * slow way, and queues the answer for the one thread that writes. That one holds the turns, so none of its puts is held. The key is a hash of
+ * the name. The value keeps a second hash, which tells apart names of one key. If strangers choose the names, take a keyed hash. Reads as C
+ * and as C++. */
 #include "cefrodil.h"
 #include <pthread.h>
 #include <stdio.h>
@@ -14,7 +15,8 @@ struct resolved {
     uint64_t value[WORDS];
 };
 
-static cefrodil_handle readers[THREADS];
+/* The writer's handle is the last. */
+static cefrodil_handle handles[THREADS + 1];
 /* What the lock guards: the queue, how many threads may still fill it, and what those that ended have counted. */
 static struct resolved queue[QUEUE];
 static int queued, serving = THREADS;
@@ -58,10 +60,10 @@ static bool take(struct resolved *answer) {
     return some;
 }
 
-static uint32_t look_up(cefrodil_handle *reader, const char *name, unsigned long *hits) {
+static uint32_t look_up(cefrodil_handle *handle, const char *name, unsigned long *hits) {
     struct resolved answer = {hash(name, 14695981039346656037u), {0, 0}};
     uint64_t check = hash(name, 1);
-    if (cefrodil_get(reader, answer.key, answer.value, WORDS, NULL) == CEFRODIL_OK && answer.value[0] == check) {
+    if (cefrodil_get(handle, answer.key, answer.value, WORDS, NULL) == CEFRODIL_OK && answer.value[0] == check) {
         ++*hits;
         return (uint32_t)answer.value[1];
     }
@@ -73,12 +75,12 @@ static uint32_t look_up(cefrodil_handle *reader, const char *name, unsigned long
 }
 
 static void *serve(void *argument) {
-    cefrodil_handle *reader = (cefrodil_handle *)argument;
+    cefrodil_handle *handle = (cefrodil_handle *)argument;
     unsigned long hits = 0, wrong = 0;
     char name[32];
     for (int i = 0; i < LOOKUPS; i++) {
         snprintf(name, sizeof name, "host%d", i * 7 % NAMES);
-        wrong += look_up(reader, name, &hits) != resolve(name);
+        wrong += look_up(handle, name, &hits) != resolve(name);
     }
     pthread_mutex_lock(&lock);
     all_hits += hits;
@@ -90,32 +92,33 @@ static void *serve(void *argument) {
 }
 
 int main(void) {
-    cefrodil_handle writer = CEFRODIL_EMPTY;
+    cefrodil_handle *const writer = &handles[THREADS];
     cefrodil_shape shape;
     cefrodil_reply reply;
     struct resolved answer;
     uint64_t last = 0, found[WORDS];
     unsigned long unput = 0;
     pthread_t threads[THREADS];
-    if (cefrodil_shape_for_items(2 * NAMES, &shape) != CEFRODIL_OK || cefrodil_open(&shape, WORDS, &writer, readers, THREADS) != CEFRODIL_OK) {
+    if (cefrodil_shape_for_items(2 * NAMES, 1, &shape) != CEFRODIL_OK || cefrodil_open(&shape, 1, WORDS, handles, THREADS + 1) != CEFRODIL_OK ||
+        cefrodil_hold(writer) != CEFRODIL_OK) {
         return 1;
     }
     for (int i = 0; i < THREADS; i++) {
-        if (pthread_create(&threads[i], NULL, serve, &readers[i]) != 0) {
+        if (pthread_create(&threads[i], NULL, serve, &handles[i]) != 0) {
             return 1;
         }
     }
     while (take(&answer)) {
         last = answer.key;
         /* If it fails, the name is resolved again later. */
-        unput += cefrodil_put(&writer, last, answer.value, WORDS, &reply) != CEFRODIL_OK;
+        unput += cefrodil_put(writer, last, answer.value, WORDS, &reply) != CEFRODIL_OK;
     }
-    const bool cached = cefrodil_get(&writer, last, found, WORDS, NULL) == CEFRODIL_OK;
+    const bool cached = cefrodil_get(writer, last, found, WORDS, NULL) == CEFRODIL_OK;
     for (int i = 0; i < THREADS; i++) {
         pthread_join(threads[i], NULL);
-        cefrodil_close(&readers[i]);
+        cefrodil_close(&handles[i]);
     }
-    cefrodil_close(&writer);
+    cefrodil_close(writer);
     printf("%lu of %d names were cached\n", all_hits, THREADS * LOOKUPS);
     return !cached || unput != 0 || all_wrong != 0;
 }

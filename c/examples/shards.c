@@ -1,5 +1,5 @@
 /* A rate limiter for a service of several threads: each client may make LIMIT requests in a window of time. The cache holds a window
- * and a count for each client. Threads write all the time, so it is a cache of shards. Reads as C and as C++. */
+ * and a count for each client. Threads write all the time, so the cache has many shards. Reads as C and as C++. */
 #include "cefrodil.h"
 #include <pthread.h>
 #include <sched.h>
@@ -12,12 +12,12 @@ enum { THREADS = 4, SHARDS = 16, CLIENTS = 1000, WINDOWS = 3, LIMIT = 5, REQUEST
 /* A thread of the service, and how many requests it let through. */
 struct worker {
     pthread_t thread;
-    cefrodil_handle *pass;
+    cefrodil_handle *handle;
     uint64_t window;
     unsigned long allowed;
 };
 
-static cefrodil_handle passes[THREADS];
+static cefrodil_handle handles[THREADS];
 
 static void must(uint32_t status, const char *what) {
     if (status != CEFRODIL_OK) {
@@ -32,18 +32,18 @@ static bool lost_a_race(uint32_t status) {
 }
 
 /* A client begins with no requests. */
-static void greet(cefrodil_handle *pass, uint64_t client) {
+static void greet(cefrodil_handle *handle, uint64_t client) {
     const uint64_t value[WORDS] = {0, 0};
     cefrodil_reply reply;
-    must(cefrodil_put_within(pass, TRIES, client, value, WORDS, &reply), "greet");
+    must(cefrodil_put_within(handle, TRIES, client, value, WORDS, &reply), "greet");
 }
 
 /* Counts one request of the client in this window, unless it has made LIMIT of them. */
-static bool allow(cefrodil_handle *pass, uint64_t client, uint64_t window) {
+static bool allow(cefrodil_handle *handle, uint64_t client, uint64_t window) {
     for (;;) {
         uint64_t value[WORDS] = {0, 0};
         cefrodil_reply reply;
-        uint32_t status = cefrodil_get_or_desk(pass, client, value, WORDS, &reply);
+        uint32_t status = cefrodil_get_or_turn(handle, client, value, WORDS, &reply);
         if (status == CEFRODIL_ABSENT) {
             return false;
         }
@@ -54,7 +54,7 @@ static bool allow(cefrodil_handle *pass, uint64_t client, uint64_t window) {
             }
             value[0] = window;
             value[1] = count + 1;
-            status = cefrodil_put_if(pass, client, reply.since, value, WORDS, &reply);
+            status = cefrodil_put_if(handle, client, reply.since, value, WORDS, &reply);
             if (status == CEFRODIL_OK) {
                 return true;
             }
@@ -70,7 +70,7 @@ static bool allow(cefrodil_handle *pass, uint64_t client, uint64_t window) {
 static void *serve(void *argument) {
     struct worker *worker = (struct worker *)argument;
     for (uint64_t request = 0; request < (uint64_t)REQUESTS * CLIENTS; request++) {
-        worker->allowed += allow(worker->pass, request % CLIENTS, worker->window);
+        worker->allowed += allow(worker->handle, request % CLIENTS, worker->window);
     }
     return NULL;
 }
@@ -80,7 +80,7 @@ static unsigned long serve_all(uint64_t window) {
     struct worker workers[THREADS];
     unsigned long allowed = 0;
     for (int i = 0; i < THREADS; i++) {
-        workers[i].pass = &passes[i];
+        workers[i].handle = &handles[i];
         workers[i].window = window;
         workers[i].allowed = 0;
         if (pthread_create(&workers[i].thread, NULL, serve, &workers[i]) != 0) {
@@ -97,16 +97,16 @@ static unsigned long serve_all(uint64_t window) {
 int main(void) {
     cefrodil_shape shape;
     unsigned long allowed = 0;
-    must(cefrodil_shape_for_shards(CLIENTS, SHARDS, &shape), "shape");
-    must(cefrodil_open_shards(&shape, SHARDS, WORDS, passes, THREADS), "open");
+    must(cefrodil_shape_for_items(CLIENTS, SHARDS, &shape), "shape");
+    must(cefrodil_open(&shape, SHARDS, WORDS, handles, THREADS), "open");
     for (uint64_t client = 0; client < CLIENTS; client++) {
-        greet(&passes[0], client);
+        greet(&handles[0], client);
     }
     for (uint64_t window = 1; window <= WINDOWS; window++) {
         allowed += serve_all(window);
     }
     for (int i = 0; i < THREADS; i++) {
-        must(cefrodil_close(&passes[i]), "close");
+        must(cefrodil_close(&handles[i]), "close");
     }
     printf("%lu of %lu requests allowed\n", allowed, (unsigned long)WINDOWS * THREADS * REQUESTS * CLIENTS);
     return allowed != (unsigned long)WINDOWS * LIMIT * CLIENTS;

@@ -2,6 +2,7 @@
  * another, so the thread holds every turn for it; the report holds them, too, and lists all accounts. Reads as C and as C++. */
 #include "cefrodil.h"
 #include <pthread.h>
+#include <sched.h>
 #include <stdbool.h>
 #include <stdio.h>
 #include <stdlib.h>
@@ -16,11 +17,12 @@ static void check(bool holds, const char *what) {
 }
 
 /* Takes the turn of every shard. Another thread that holds them lets them go soon. */
-static void hold(cefrodil_handle *pass) {
-    cefrodil_status status;
-    do {
-        status = cefrodil_hold(pass);
-    } while (status == CEFRODIL_HELD);
+static void hold(cefrodil_handle *handle) {
+    cefrodil_status status = cefrodil_hold(handle);
+    while (status == CEFRODIL_HELD) {
+        sched_yield();
+        status = cefrodil_hold(handle);
+    }
     check(status == CEFRODIL_OK, cefrodil_text(status));
 }
 
@@ -33,22 +35,22 @@ static void add(cefrodil_handle *holder, uint64_t account, int64_t money) {
 }
 
 static void *moves(void *given) {
-    cefrodil_handle *const pass = (cefrodil_handle *)given;
+    cefrodil_handle *const handle = (cefrodil_handle *)given;
     for (uint64_t n = 0; n < MOVES; n++) {
-        hold(pass);
-        add(pass, n % ACCOUNTS, -1);
-        add(pass, (7 * n + 1) % ACCOUNTS, 1);
-        check(cefrodil_release(pass) == CEFRODIL_OK, "the turns are not given back");
+        hold(handle);
+        add(handle, n % ACCOUNTS, -1);
+        add(handle, (7 * n + 1) % ACCOUNTS, 1);
+        check(cefrodil_release(handle) == CEFRODIL_OK, "the turns are not given back");
     }
     return NULL;
 }
 
 /* All money, by a list of one moment. */
-static uint64_t report(cefrodil_handle *pass) {
+static uint64_t report(cefrodil_handle *handle) {
     uint64_t entries[2 * ACCOUNTS], count = 0, sum = 0;
-    hold(pass);
-    check(cefrodil_entries(pass, entries, 2 * ACCOUNTS, &count) == CEFRODIL_OK, "the accounts can't be listed");
-    check(cefrodil_release(pass) == CEFRODIL_OK, "the turns are not given back");
+    hold(handle);
+    check(cefrodil_entries(handle, entries, 2 * ACCOUNTS, &count) == CEFRODIL_OK, "the accounts can't be listed");
+    check(cefrodil_release(handle) == CEFRODIL_OK, "the turns are not given back");
     for (uint64_t i = 0; i < count; i++) {
         sum += entries[2 * i + 1];
     }
@@ -56,19 +58,19 @@ static uint64_t report(cefrodil_handle *pass) {
 }
 
 int main(void) {
-    cefrodil_handle passes[THREADS + 1] = {CEFRODIL_EMPTY, CEFRODIL_EMPTY, CEFRODIL_EMPTY, CEFRODIL_EMPTY};
-    cefrodil_handle *const own = &passes[THREADS];
+    cefrodil_handle handles[THREADS + 1] = {CEFRODIL_EMPTY, CEFRODIL_EMPTY, CEFRODIL_EMPTY, CEFRODIL_EMPTY};
+    cefrodil_handle *const own = &handles[THREADS];
     pthread_t threads[THREADS];
     cefrodil_shape shape;
     cefrodil_reply reply;
     const uint64_t first = EACH;
-    check(cefrodil_shape_for_shards(2 * ACCOUNTS, 4, &shape) == CEFRODIL_OK, "there is no such shape");
-    check(cefrodil_open_shards(&shape, 4, 1, passes, THREADS + 1) == CEFRODIL_OK, "no cache");
+    check(cefrodil_shape_for_items(2 * ACCOUNTS, 4, &shape) == CEFRODIL_OK, "there is no such shape");
+    check(cefrodil_open(&shape, 4, 1, handles, THREADS + 1) == CEFRODIL_OK, "no cache");
     for (uint64_t account = 0; account < ACCOUNTS; account++) {
         check(cefrodil_put(own, account, &first, 1, &reply) == CEFRODIL_OK, "an account can't be opened");
     }
     for (int i = 0; i < THREADS; i++) {
-        check(pthread_create(&threads[i], NULL, moves, &passes[i]) == 0, "no thread");
+        check(pthread_create(&threads[i], NULL, moves, &handles[i]) == 0, "no thread");
     }
     for (int i = 0; i < REPORTS; i++) {
         check(report(own) == (uint64_t)ACCOUNTS * EACH, "money is in flight");
@@ -78,7 +80,7 @@ int main(void) {
     }
     printf("ok: %llu in all\n", (unsigned long long)report(own));
     for (int i = 0; i <= THREADS; i++) {
-        cefrodil_close(&passes[i]);
+        cefrodil_close(&handles[i]);
     }
     return 0;
 }

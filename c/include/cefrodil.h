@@ -1,8 +1,11 @@
 /*
- * Cefrodil: a fixed-size in-memory cache from 64-bit keys to values of 1 to 8 64-bit words. One writer changes it. Many
- * readers look up without a lock. The library behind these calls is proved; docs/PROMISES.md of its repository says
- * exactly what. It runs on Linux on x86-64-v2. On an older processor each opening, and each choice of a shape, returns
- * CEFRODIL_PROCESSOR and does nothing.
+ * Cefrodil: a fixed-size in-memory cache from 64-bit keys to values of 1 to 8 64-bit words. It is made of shards, and the hash of a
+ * key says which one has it. All handles of a cache are alike. Each looks up without a lock. A shard has a lock for its writes: who has
+ * it has the *turn*. Each write tries once for the turn, and never waits. A handle that holds all turns writes without trying.
+ *
+ * The library behind these calls is proved: each completed lookup answers what the map of the key's shard held at one moment between
+ * the lookup's first and last step. docs/PROMISES.md of its repository says exactly what is proved. It runs on Linux on x86-64-v2. On an
+ * older processor each opening, and each choice of a shape, returns CEFRODIL_PROCESSOR and does nothing.
  *
  * What you promise at every call, because no proof can check it:
  *
@@ -13,8 +16,7 @@
  *      the earlier calls before the later ones. Calls with different handles of one cache need no synchronization.
  *   3. Pointers are to memory of yours, aligned for their types and valid for the whole call. None of it overlaps. They
  *      are never null, but for a handle of cefrodil_close, a reply of cefrodil_get, and an array of cefrodil_open_with,
- *      cefrodil_open_shards_with, cefrodil_get_many, cefrodil_put_many, cefrodil_entries or cefrodil_stamped_entries whose
- *      count is 0.
+ *      cefrodil_get_many, cefrodil_put_many, cefrodil_entries or cefrodil_stamped_entries whose count is 0.
  *      `value` has `words` words; an array has as many elements as its count says.
  *   4. No call comes from a signal handler. A handle is used in the process that opened it. A forked child may close it,
  *      which frees nothing, and may open caches of its own. So it may end by exit, which runs the destructors of C++ objects.
@@ -22,7 +24,7 @@
  *   5. malloc, realloc and free belong to one allocator, whose blocks are aligned to 16 bytes.
  *   6. The program is linked with the archive that belongs to this header. The names below mean its functions only.
  *
- * What you need not promise: that a handle is open or of the right kind, that a value has the right width, that counts
+ * What you need not promise: that a handle is open, that it holds the turns or doesn't, that a value has the right width, that counts
  * match. A call that finds otherwise returns a status and changes nothing but the reply.
  */
 #ifndef CEFRODIL_H
@@ -38,7 +40,7 @@
 
 /* The version of this header. cefrodil_version() is that of the archive, as CEFRODIL_VERSION writes it. */
 #define CEFRODIL_VERSION_MAJOR 0
-#define CEFRODIL_VERSION_MINOR 2
+#define CEFRODIL_VERSION_MINOR 3
 #define CEFRODIL_VERSION_PATCH 0
 #define CEFRODIL_VERSION (10000 * CEFRODIL_VERSION_MAJOR + 100 * CEFRODIL_VERSION_MINOR + CEFRODIL_VERSION_PATCH)
 
@@ -56,7 +58,7 @@
 #define CEFRODIL_NO_NULL
 #endif
 
-/* The name by which a linker finds a call that a program makes first: cefrodil_open of 0.2 is cefrodil_open_0_2 there. So what was compiled with
+/* The name by which a linker finds a call that a program makes first: cefrodil_open of 0.3 is cefrodil_open_0_3 there. So what was compiled with
  * the header of another series (the version without the patch) does not link. */
 #define CEFRODIL_OF_SERIES(call) __asm__(#call "_" CEFRODIL_DIGITS(CEFRODIL_VERSION_MAJOR) "_" CEFRODIL_DIGITS(CEFRODIL_VERSION_MINOR))
 #define CEFRODIL_DIGITS(number) CEFRODIL_QUOTED(number)
@@ -88,7 +90,7 @@ typedef struct cefrodil_handle {
 #define CEFRODIL_EMPTY {NULL, false}
 #endif
 
-/* The sizes of a table and the limits of its calls. cefrodil_shape_for_items fills one in. */
+/* The sizes of a shard's table, and the limits of its calls. cefrodil_shape_for_items fills one in. */
 typedef struct cefrodil_shape {
     uint64_t limit;   /* most version changes in the table's life, 0 to 2^62; each write makes at least two */
     uint32_t buckets; /* a power of two, 2 to 2^20; each bucket has four slots */
@@ -105,7 +107,7 @@ enum { CEFRODIL_MIX_FULL = 0, CEFRODIL_MIX_NONE = 1 };
 /* The numbers of an answer. Every call sets every field, with HELD and CLOSED too; a field that does not apply to the status is 0. So keep a
  * `since` that you need later in a variable of your own. */
 typedef struct cefrodil_reply {
-    uint64_t at;      /* number of changes to the table when the answer was true; for a write, its own included, and an eviction
+    uint64_t at;      /* number of changes to the key's shard when the answer was true; for a write, its own included, and an eviction
                        * before a put is a change of its own */
     uint64_t since;   /* the `at` of the key's last put */
     uint64_t evicted; /* the key that was evicted for the new one */
@@ -146,15 +148,15 @@ CEFRODIL_SAME_SIZE(sizeof(cefrodil_put_answer) == 40, "as the library lays it ou
 typedef enum cefrodil_status {
     CEFRODIL_OK = 0,          /* done: found, put, removed, opened or closed */
     CEFRODIL_ABSENT = 1,      /* the key is not there */
-    CEFRODIL_BUSY = 2,        /* the writer spoiled every try of the lookup; says nothing about the table */
+    CEFRODIL_BUSY = 2,        /* changes spoiled every try of the lookup; says nothing about the table */
     CEFRODIL_NO_PATH = 3,     /* both buckets of the key are full, and no moves of up to `depth` keys free a slot; if frequent, take more buckets */
     CEFRODIL_ALL_RECENT = 4,  /* the table is full, and a key to evict was not found: the put looked at each item twice, and lookups had used it
                                * again. Put again, or leave the key uncached. Frequent only if the items are few; only recency bits changed */
     CEFRODIL_SPENT = 5,       /* the write could exceed the `limit` of the shape: open a new cache. 2^62 takes centuries */
     CEFRODIL_CHANGED = 6,     /* the key's last put was another one, at `since` */
-    CEFRODIL_HELD = 7,        /* the try for the turn did not win; nothing was done */
+    CEFRODIL_HELD = 7,        /* the try for a turn did not win; nothing was done */
     CEFRODIL_CLOSED = 8,      /* the handle is not open */
-    CEFRODIL_KIND = 9,        /* handles of this kind have no such call */
+    CEFRODIL_HOLDS = 9,       /* the handle holds the turns already */
     CEFRODIL_WIDTH = 10,      /* values of this cache have another number of words */
     CEFRODIL_IN_USE = 11,     /* a handle that was to be opened is open already */
     CEFRODIL_NO_MEMORY = 12,  /* out of memory */
@@ -166,12 +168,12 @@ typedef enum cefrodil_status {
     CEFRODIL_BAD_DEPTH = 18,
     CEFRODIL_BAD_TRIES = 19,
     CEFRODIL_BAD_LIMIT = 20,
-    CEFRODIL_BAD_READERS = 21, /* there must be 1 to 1024 readers, or passes; for a new desk, no more than the cache has to spare */
+    CEFRODIL_BAD_HANDLES = 21, /* there must be 1 to 1024 handles; for cefrodil_more, no more than the cache has to spare */
     CEFRODIL_BAD_COUNT = 22,   /* counts that belong together do not match */
     CEFRODIL_NO_ITEM = 23,     /* every item is in use */
     CEFRODIL_BAD_SHARDS = 24,  /* the number of shards must be a power of two, 1 to 256 */
     CEFRODIL_PRESENT = 25,     /* the key is there; its last put was at `since` */
-    CEFRODIL_NOT_LAST = 26,    /* other passes are at the desk */
+    CEFRODIL_HOLDS_NOT = 26,   /* the handle holds no turns */
     CEFRODIL_PROCESSOR = 27    /* the processor is older than x86-64-v2: it can run no cache */
 } cefrodil_status;
 
@@ -180,132 +182,99 @@ CEFRODIL_SAME_SIZE(sizeof(cefrodil_status) == 4, "as the library returns it: com
 /* The version of the archive. Compare it with CEFRODIL_VERSION. */
 uint32_t cefrodil_version(void);
 
-/* Fills in a shape for this many items, 1 to 3,774,873.
- * OK, or BAD_ITEMS: the shape is unchanged. */
-CEFRODIL_CHECKED CEFRODIL_NO_NULL cefrodil_status cefrodil_shape_for_items(uint32_t items, cefrodil_shape *shape)
+/* Fills in the shape of each of `shards` shards that hold `items` items together. A shard gets its mean share and five standard
+ * deviations more, because the hash gives some shards more keys than others.
+ * OK, BAD_SHARDS, or BAD_ITEMS: no items, or more than 3,774,873 in a shard. Unless OK, the shape is unchanged. */
+CEFRODIL_CHECKED CEFRODIL_NO_NULL cefrodil_status cefrodil_shape_for_items(uint32_t items, uint32_t shards, cefrodil_shape *shape)
     CEFRODIL_OF_SERIES(cefrodil_shape_for_items);
 
-/* Opens a cache for values of `words` words. Puts its writer into one handle, and a reader into each of `reader_count` others.
+/* Opens a cache of `shards` shards, each a table of this shape, for values of `words` words. Each of `count` handles becomes a handle of
+ * the cache. Threads that write different keys rarely want the same turn if there are several shards. Each shard evicts for itself.
  * OK: all these handles are open. IN_USE: one of them was open before; nothing was done. Otherwise returns the first error
- * that applies, in this order: BAD_WORDS, BAD_MIX to BAD_LIMIT, BAD_READERS, NO_MEMORY. No handle is open, and nothing leaks. */
-CEFRODIL_CHECKED CEFRODIL_NO_NULL cefrodil_status cefrodil_open(const cefrodil_shape *shape, size_t words, cefrodil_handle *writer,
-                                                                cefrodil_handle *readers, size_t reader_count) CEFRODIL_OF_SERIES(cefrodil_open);
+ * that applies, in this order: BAD_WORDS, BAD_MIX, BAD_SHARDS, BAD_BUCKETS to BAD_LIMIT, BAD_HANDLES, NO_MEMORY. No handle is open, and
+ * nothing leaks. */
+CEFRODIL_CHECKED CEFRODIL_NO_NULL cefrodil_status cefrodil_open(const cefrodil_shape *shape, uint32_t shards, size_t words,
+                                                                cefrodil_handle *handles, size_t count) CEFRODIL_OF_SERIES(cefrodil_open);
 
-/* Opens a cache like cefrodil_open and puts `status_count` entries, in order. No entry evicts another. A key that is listed
- * twice is put twice. An entry is its key, then the words of its value, so `entry_words` must be `status_count` times
+/* Opens a cache like cefrodil_open and puts `status_count` entries, in order, each in its key's shard. No entry evicts another. A key
+ * that is listed twice is put twice. An entry is its key, then the words of its value, so `entry_words` must be `status_count` times
  * (1 + `words`).
  * OK: the handles are open. `statuses[i]` is OK if entry i was put; otherwise it is the first of these that applies: SPENT; NO_PATH, if no
  * moves lead to an empty slot for its key; NO_ITEM, if every item is in use. So a full table gives NO_PATH or NO_ITEM. These puts are
- * the first changes of the table. Other statuses are those of cefrodil_open, and BAD_COUNT, right after BAD_WORDS, if
- * `entry_words` does not match. Then `statuses` is unchanged. */
-CEFRODIL_CHECKED CEFRODIL_NO_NULL cefrodil_status cefrodil_open_with(const cefrodil_shape *shape, size_t words, const uint64_t *entries,
-                                                                     size_t entry_words, uint32_t *statuses, size_t status_count,
-                                                                     cefrodil_handle *writer, cefrodil_handle *readers,
-                                                                     size_t reader_count) CEFRODIL_OF_SERIES(cefrodil_open_with);
+ * the first changes of the shards, and every handle finds the entries from its first lookup on. Other statuses are those of
+ * cefrodil_open, and BAD_COUNT, right after BAD_WORDS, if `entry_words` does not match. Then `statuses` is unchanged. */
+CEFRODIL_CHECKED CEFRODIL_NO_NULL cefrodil_status cefrodil_open_with(const cefrodil_shape *shape, uint32_t shards, size_t words,
+                                                                     const uint64_t *entries, size_t entry_words, uint32_t *statuses,
+                                                                     size_t status_count, cefrodil_handle *handles, size_t count)
+    CEFRODIL_OF_SERIES(cefrodil_open_with);
 
-/* Opens a cache for threads that write by turns. Each of `pass_count` handles becomes a pass: it looks up like a reader, and
- * tries for the turn to write: for the lock around the cache's writer, for one call. A try never waits. Returns the statuses of
- * cefrodil_open. */
-CEFRODIL_CHECKED CEFRODIL_NO_NULL cefrodil_status cefrodil_open_desk(const cefrodil_shape *shape, size_t words, cefrodil_handle *passes,
-                                                                     size_t pass_count) CEFRODIL_OF_SERIES(cefrodil_open_desk);
+/* Opens `count` more handles of the cache that `handle` is of. A cache is opened with 64 spare handles, or as many as 1,024 in all allow. A
+ * spare handle that was given out is used up, also after it is closed.
+ * OK: they are open. IN_USE: one of `handles` was open before. CLOSED: `handle` is not open. BAD_HANDLES: `count` is 0, or more than there
+ * are to spare. HELD: another thread takes spare handles just now, or holds the turns. NO_MEMORY. Unless OK, nothing was done. */
+CEFRODIL_CHECKED CEFRODIL_NO_NULL cefrodil_status cefrodil_more(cefrodil_handle *handle, cefrodil_handle *handles, size_t count);
 
-/* Puts the writer of an open cache on a desk, so that threads can write by turns. It may be the writer of cefrodil_open or
- * cefrodil_open_with, or one that came back by cefrodil_leave_desk. Each of `pass_count` handles becomes a pass. Readers of the cache stay
- * open beside the desk. A cache is opened with 64 readers to spare, or as many as 1,024 in all allow, and a new pass takes one of them for
- * good. This call takes memory.
- * OK: the passes are open, and `writer` is closed. IN_USE: one of the passes was open before. Otherwise returns the first that
- * applies: CLOSED, KIND, BAD_READERS (no passes, or more than readers to spare), NO_MEMORY. Unless OK, nothing was done. */
-CEFRODIL_CHECKED CEFRODIL_NO_NULL cefrodil_status cefrodil_make_desk(cefrodil_handle *writer, cefrodil_handle *passes, size_t pass_count);
-
-/* Fills in the shape of each of `shards` shards that hold `items` items together. A shard gets its mean share and five standard
- * deviations more, because the hash gives some shards more keys than others.
- * OK, BAD_SHARDS, or BAD_ITEMS: no items, or too many for a shard. Unless OK, the shape is unchanged. */
-CEFRODIL_CHECKED CEFRODIL_NO_NULL cefrodil_status cefrodil_shape_for_shards(uint32_t items, uint32_t shards, cefrodil_shape *shape)
-    CEFRODIL_OF_SERIES(cefrodil_shape_for_shards);
-
-/* Opens a cache of `shards` shards, each a table of this shape with a turn of its own. The hash of a key says which shard holds
- * it, so threads that write different keys rarely want the same turn. Each of `pass_count` handles becomes a pass, which has the
- * same calls as a pass of cefrodil_open_desk. `at` and `since` count the changes of the key's shard, and each shard evicts for
- * itself.
- * Returns the statuses of cefrodil_open, and BAD_SHARDS, right after BAD_MIX. */
-CEFRODIL_CHECKED CEFRODIL_NO_NULL cefrodil_status cefrodil_open_shards(const cefrodil_shape *shape, uint32_t shards, size_t words,
-                                                                       cefrodil_handle *passes, size_t pass_count)
-    CEFRODIL_OF_SERIES(cefrodil_open_shards);
-
-/* Opens shards like cefrodil_open_shards and puts `status_count` entries, in order, each in its key's shard. Entries and `statuses` are as in
- * cefrodil_open_with: no entry evicts another, and each status says what became of its entry. Every pass finds the entries from its first
- * lookup on.
- * Returns the statuses of cefrodil_open_shards, and BAD_COUNT, right after BAD_WORDS. Unless OK, `statuses` is unchanged. */
-CEFRODIL_CHECKED CEFRODIL_NO_NULL cefrodil_status cefrodil_open_shards_with(const cefrodil_shape *shape, uint32_t shards, size_t words,
-                                                                            const uint64_t *entries, size_t entry_words,
-                                                                            uint32_t *statuses, size_t status_count,
-                                                                            cefrodil_handle *passes, size_t pass_count)
-    CEFRODIL_OF_SERIES(cefrodil_open_shards_with);
-
-/* Looks a key up, by any handle. By the writer it is never busy.
- * OK: `value`, `at` and `since` are set. ABSENT: `at` is set. BUSY: ask again, or treat it as a miss. If the writer
- * stops in the middle of a change, lookups in the stripe that it changes are busy until it continues.
+/* Looks a key up. By a handle that holds the turns it is never busy.
+ * OK: `value`, `at` and `since` are set. ABSENT: `at` is set. BUSY: ask again, or treat it as a miss. If a thread stops in the middle of
+ * a change, lookups in the stripe that it changes are busy until it continues.
  * CLOSED, WIDTH. `value` is written only with OK. `reply` may be null. */
-CEFRODIL_CHECKED CEFRODIL_NO_NULL cefrodil_status cefrodil_get(cefrodil_handle *reader, uint64_t key, uint64_t *value, size_t words,
+CEFRODIL_CHECKED CEFRODIL_NO_NULL cefrodil_status cefrodil_get(cefrodil_handle *handle, uint64_t key, uint64_t *value, size_t words,
                                                                cefrodil_reply *reply);
 
 /* Looks `key_count` keys up. Equivalent to calling cefrodil_get for each key in order. `values` has one value after the other,
  * so `value_words` must be `key_count` times the words of a value.
  * OK: answer i is that of key i; value i was written if its status is OK, and is unchanged otherwise.
  * CLOSED; BAD_COUNT: `answer_count` is not `key_count`; WIDTH: `value_words` does not match. With these nothing is written. */
-CEFRODIL_CHECKED CEFRODIL_NO_NULL cefrodil_status cefrodil_get_many(cefrodil_handle *reader, const uint64_t *keys, size_t key_count,
+CEFRODIL_CHECKED CEFRODIL_NO_NULL cefrodil_status cefrodil_get_many(cefrodil_handle *handle, const uint64_t *keys, size_t key_count,
                                                                     uint64_t *values, size_t value_words, cefrodil_answer *answers,
                                                                     size_t answer_count);
 
-/* Like cefrodil_get, by a pass. If the lookup is busy, it tries once for the turn. With the turn nothing disturbs the lookup, so it is
- * not busy. BUSY: that try did not win. */
-CEFRODIL_CHECKED CEFRODIL_NO_NULL cefrodil_status cefrodil_get_or_desk(cefrodil_handle *pass, uint64_t key, uint64_t *value, size_t words,
+/* Like cefrodil_get. If the lookup is busy, it tries once for the turn of the key's shard. With the turn nothing disturbs the lookup, so it
+ * is not busy. BUSY: that try did not win. */
+CEFRODIL_CHECKED CEFRODIL_NO_NULL cefrodil_status cefrodil_get_or_turn(cefrodil_handle *handle, uint64_t key, uint64_t *value, size_t words,
                                                                        cefrodil_reply *reply);
 
-/* Looks the key up by the writer, or by a pass, which tries once for the turn. It doesn't count as a use of the key, so it is for reports and
- * decisions, not for reads.
- * OK, ABSENT: as for cefrodil_get. By the writer the answer is true now. By a pass it was true during the turn. HELD: the try did not win. Otherwise CLOSED, KIND (by a reader), WIDTH.
- * Unless OK, `value` is unchanged. */
+/* Looks a key up in a turn, for which it tries once. It doesn't count as a use of the key, so it is for reports and decisions, not for
+ * reads.
+ * OK, ABSENT: as for cefrodil_get. The answer was true during the turn. HELD: the try did not win. CLOSED, WIDTH. Unless OK, `value` is
+ * unchanged. */
 CEFRODIL_CHECKED CEFRODIL_NO_NULL cefrodil_status cefrodil_peek(cefrodil_handle *handle, uint64_t key, uint64_t *value, size_t words,
                                                                 cefrodil_reply *reply);
 
-/* A write is by the writer, or by a pass, which tries once for the turn. HELD: the try did not win, and nothing was changed but the reply, so
- * a value that should be removed is still there. Try again, or note the key. KIND: by a reader.
+/* Each write tries once for the turn of its key's shard, unless the handle holds the turns. HELD: the try did not win, and nothing was
+ * changed but the reply, so a value that should be removed is still there. Try again, or note the key.
  *
- * Puts a key with this value. A new key evicts another one if the table is full: its `len` is its `capacity`.
+ * Puts a key with this value. A new key evicts another one if its shard is full, which has `items` keys then.
  * OK: `at`, `put` and `moves` are set, and with PUT_EVICTED `evicted`. NO_PATH or ALL_RECENT: the key is absent, and was not put. SPENT: it
- * was not put, and an earlier value stays. HELD, CLOSED, KIND, WIDTH. */
+ * was not put, and an earlier value stays. HELD, CLOSED, WIDTH. */
 CEFRODIL_CHECKED CEFRODIL_NO_NULL cefrodil_status cefrodil_put(cefrodil_handle *handle, uint64_t key, const uint64_t *value, size_t words,
                                                                cefrodil_reply *reply);
 
 /* Overwrites the value of a key if its last put was at `since`, as a lookup of the key returned it.
  * OK: `at` is set, and `put` is PUT_RENEWED. ABSENT: `at` is set. CHANGED: `since` is that of the key's last put.
- * SPENT, HELD, CLOSED, KIND, WIDTH. */
+ * SPENT, HELD, CLOSED, WIDTH. */
 CEFRODIL_CHECKED CEFRODIL_NO_NULL cefrodil_status cefrodil_put_if(cefrodil_handle *handle, uint64_t key, uint64_t since,
                                                                   const uint64_t *value, size_t words, cefrodil_reply *reply);
 
 /* Puts a key only if it is absent. Evicts as cefrodil_put does.
  * OK: as in cefrodil_put; `put` is never PUT_RENEWED. PRESENT: `since` is that of the key's last put, and the key counts as used.
- * NO_PATH, ALL_RECENT or SPENT: the key is absent, and was not put. HELD, CLOSED, KIND, WIDTH. */
+ * NO_PATH, ALL_RECENT or SPENT: the key is absent, and was not put. HELD, CLOSED, WIDTH. */
 CEFRODIL_CHECKED CEFRODIL_NO_NULL cefrodil_status cefrodil_put_if_absent(cefrodil_handle *handle, uint64_t key, const uint64_t *value,
                                                                          size_t words, cefrodil_reply *reply);
 
 /* Removes a key.
- * OK and ABSENT: `at` is set. SPENT, HELD, CLOSED, KIND. */
+ * OK and ABSENT: `at` is set. SPENT, HELD, CLOSED. */
 CEFRODIL_CHECKED CEFRODIL_NO_NULL cefrodil_status cefrodil_remove(cefrodil_handle *handle, uint64_t key, cefrodil_reply *reply);
 
-/* Puts `key_count` keys. Equivalent to calling cefrodil_put for each key in order, except by a pass of a desk. That takes the keys in groups
- * of 16 (the last may be smaller), and tries once for a turn for each group: either all answers of a group are HELD and none of its keys was
- * put, or its puts were made with no change of another thread between them. After a held group the next one is tried, so if you put the held
- * keys again, their puts come last. In a large table the processor waits for the words of several keys at once, but not by a pass of shards.
- * `values` has one value after the other, so `value_words` must be `key_count` times the words of a value.
+/* Puts `key_count` keys. Equivalent to calling cefrodil_put for each key in order, so it tries once for each key. If you put held keys
+ * again, their puts come last. `values` has one value after the other, so `value_words` must be `key_count` times the words of a value.
  * OK: answer i is that of key i. CLOSED; BAD_COUNT: `answer_count` is not `key_count`; WIDTH: `value_words` does not match. With these
  * nothing was done, and nothing is written. */
 CEFRODIL_CHECKED CEFRODIL_NO_NULL cefrodil_status cefrodil_put_many(cefrodil_handle *handle, const uint64_t *keys, size_t key_count,
                                                                     const uint64_t *values, size_t value_words,
                                                                     cefrodil_put_answer *answers, size_t answer_count);
 
-/* Like cefrodil_put; a pass tries up to `tries` times for the turn, at least once, one try after the other without a pause. HELD: none of
+/* Like cefrodil_put, but tries up to `tries` times for the turn, at least once, one try after the other without a pause. HELD: none of
  * them won. */
 CEFRODIL_CHECKED CEFRODIL_NO_NULL cefrodil_status cefrodil_put_within(cefrodil_handle *handle, uint32_t tries, uint64_t key,
                                                                       const uint64_t *value, size_t words, cefrodil_reply *reply);
@@ -313,8 +282,7 @@ CEFRODIL_CHECKED CEFRODIL_NO_NULL cefrodil_status cefrodil_put_within(cefrodil_h
 /* Like cefrodil_put, cefrodil_put_if and cefrodil_remove, and they also return the entry that gives way: the key's earlier one, or that
  * of the key that was evicted. So a program that keeps objects behind the cache knows which to free. `old` has `old_words` words.
  * OK: as for cefrodil_put, cefrodil_put_if and cefrodil_remove. If an entry gave way, `old` is its value, and `since` the `at` of its last
- * put. If a new key evicted none, `old` is unchanged, and `since` is 0. HELD: the try of a pass did not win. WIDTH: `words` or
- * `old_words` does not match.
+ * put. If a new key evicted none, `old` is unchanged, and `since` is 0. WIDTH: `words` or `old_words` does not match.
  * Other statuses are theirs. Unless OK, `old` is unchanged. */
 CEFRODIL_CHECKED CEFRODIL_NO_NULL cefrodil_status cefrodil_swap(cefrodil_handle *handle, uint64_t key, const uint64_t *value, size_t words,
                                                                 uint64_t *old, size_t old_words, cefrodil_reply *reply);
@@ -326,82 +294,74 @@ CEFRODIL_CHECKED CEFRODIL_NO_NULL cefrodil_status cefrodil_take(cefrodil_handle 
 
 /* Like cefrodil_take, if the key's last put was at `since`, as a lookup of the key returned it. So a program that found an entry too old
  * removes that one, and no later one.
- * OK: as for cefrodil_take. CHANGED: `since` is that of the key's last put. Otherwise ABSENT, SPENT, HELD, CLOSED, KIND, WIDTH. */
+ * OK: as for cefrodil_take. CHANGED: `since` is that of the key's last put. Otherwise ABSENT, SPENT, HELD, CLOSED, WIDTH. */
 CEFRODIL_CHECKED CEFRODIL_NO_NULL cefrodil_status cefrodil_take_if(cefrodil_handle *handle, uint64_t key, uint64_t since, uint64_t *old,
                                                                    size_t old_words, cefrodil_reply *reply);
 
-/* Ends a pass's turns: its handle becomes a reader's. The last pass of a desk gets the writer back, so a program can continue with
- * one writer. For that, every pass of the desk leaves or is closed, in any order and in any thread. If the last one is closed, the writer
- * is closed with it.
- * OK: this was the last pass, and `writer` is open. NOT_LAST: other passes are at the desk, and `writer` is empty.
- * Otherwise nothing was done: the first that applies of IN_USE (`writer` was open before), CLOSED, KIND (also by a pass of shards),
- * NO_MEMORY. */
-CEFRODIL_CHECKED CEFRODIL_NO_NULL cefrodil_status cefrodil_leave_desk(cefrodil_handle *pass, cefrodil_handle *writer);
+/* Takes the turn of every shard and holds them: nobody else writes until cefrodil_release or cefrodil_close. It takes no memory. Meanwhile
+ * the writes of this handle are never HELD, its lookups never BUSY, and each list and number that it asks for is of one moment of all
+ * shards. Other handles look up as before, and their writes are HELD.
+ * OK: it holds. HELD: one of the tries did not win; it holds none. CLOSED. HOLDS: it holds already. */
+CEFRODIL_CHECKED CEFRODIL_NO_NULL cefrodil_status cefrodil_hold(cefrodil_handle *handle);
 
-/* Takes the turn of every shard, by a pass of shards, and holds them: nobody else writes until cefrodil_release or cefrodil_close. Meanwhile the
- * calls of this handle are those of a writer: its writes are never HELD, its lookups never BUSY, and each list and number that it asks for is
- * that of one moment, of all shards. Other passes look up as before, and their writes are HELD. It takes no memory.
- * OK: it holds. HELD: one of the tries did not win; it holds none. CLOSED; KIND: it is no pass of shards, or holds already. */
-CEFRODIL_CHECKED CEFRODIL_NO_NULL cefrodil_status cefrodil_hold(cefrodil_handle *pass);
+/* Gives the turn of every shard back. The handle has seen all that it wrote.
+ * OK. CLOSED. HOLDS_NOT: it holds none. */
+CEFRODIL_CHECKED CEFRODIL_NO_NULL cefrodil_status cefrodil_release(cefrodil_handle *handle);
 
-/* Gives the turn of every shard back. The handle is a pass again, and has seen all that it wrote.
- * OK. CLOSED; KIND: it held none. */
-CEFRODIL_CHECKED CEFRODIL_NO_NULL cefrodil_status cefrodil_release(cefrodil_handle *holder);
-
-/* The number of changes to the table, which is the `at` of a lookup made now. By the writer. By a handle that holds the turns of all shards:
- * the number of changes to all of them, or 2^64 - 1 if there were more.
- * OK: the number is set. CLOSED, KIND: it is unchanged. */
+/* The number of changes to all shards at one moment, or 2^64 - 1 if there were more. A handle that doesn't hold the turns tries once for
+ * every turn, as cefrodil_hold does, and gives them back.
+ * OK: the number is set. HELD: one of the tries did not win. CLOSED. Unless OK, the number is unchanged. */
 CEFRODIL_CHECKED CEFRODIL_NO_NULL cefrodil_status cefrodil_moment(cefrodil_handle *handle, uint64_t *moment);
 
-/* The number of keys in the table, by the writer or a pass, which tries once for the turn. It does not look through the table. A pass of
- * shards tries once for the turn of each, and adds up numbers of several moments; one that holds all turns counts at one moment.
- * OK: `len` is set. HELD: a try did not win. CLOSED, KIND. Unless OK, `len` is unchanged. */
+/* The number of keys. It does not look through the tables. A handle that doesn't hold the turns tries once for the turn of each shard in
+ * order, and adds up numbers of several moments.
+ * OK: `len` is set. HELD: a try did not win. CLOSED. Unless OK, `len` is unchanged. */
 CEFRODIL_CHECKED CEFRODIL_NO_NULL cefrodil_status cefrodil_len(cefrodil_handle *handle, uint64_t *len);
 
-/* The number of keys that the cache holds at most: the `items` of its shape, times the shards if there are any. By any handle.
+/* The number of keys that the cache holds at most: the `items` of its shape, times the shards.
  * OK: the number is set. CLOSED: it is unchanged. */
 CEFRODIL_CHECKED CEFRODIL_NO_NULL cefrodil_status cefrodil_capacity(cefrodil_handle *handle, uint64_t *capacity);
 
-/* Lists each key with its value, by the writer or a pass. A pass tries once for the turn, and a pass of shards once for that of each
- * shard, so it lists each shard at a moment of its own, unless it holds all turns (cefrodil_hold). An entry is its key, then the words of its value, as cefrodil_open_with
- * takes it. Readers may work meanwhile. This call takes memory for the whole list, and frees it. To ask for the number of entries, pass 0
- * as `entry_words`: that takes no memory.
+/* Lists each key with its value. A handle that doesn't hold the turns tries once for the turn of each shard in order, so it lists each
+ * shard at a moment of its own. An entry is its key, then the words of its value, as cefrodil_open_with takes it. Other handles may look
+ * up meanwhile. This call takes memory for the whole list, and frees it. To ask for the number of entries, pass 0 as `entry_words`: then
+ * it counts as cefrodil_len does, and takes no memory.
  * OK: the first `count` entries of `entries` are written. BAD_COUNT: there are `count` entries, and `entry_words` is less than
- * `count` times (1 + the words of a value). HELD: a try did not win. CLOSED, KIND, NO_MEMORY. Unless OK, `entries` is unchanged. With
+ * `count` times (1 + the words of a value). HELD: a try did not win. CLOSED, NO_MEMORY. Unless OK, `entries` is unchanged. With
  * other statuses than OK and BAD_COUNT, `count` is unchanged too. */
 CEFRODIL_CHECKED CEFRODIL_NO_NULL cefrodil_status cefrodil_entries(cefrodil_handle *handle, uint64_t *entries, size_t entry_words,
                                                                    uint64_t *count);
 
-/* Lists each entry with its stamp, by the writer or a pass of a desk. An entry is its key, then the words of its value, then the moment
- * of the key's last put (`since`): 2 + the words of a value.
- * OK, BAD_COUNT, HELD, CLOSED, NO_MEMORY: as by cefrodil_entries. If `entry_words` is 0 it lists all the same if there is memory, and never
- * returns NO_MEMORY: for the number alone call cefrodil_len. KIND: also by a pass of shards. */
+/* Lists each entry with its stamp, at one moment of all shards. A handle that doesn't hold the turns tries once for every turn, as
+ * cefrodil_moment does. An entry is its key, then the words of its value, then its stamp: the `since` of the key. So it has 2 + the words
+ * of a value. A stamp counts the changes of the key's shard.
+ * Returns what cefrodil_entries returns, also for 0 as `entry_words`. */
 CEFRODIL_CHECKED CEFRODIL_NO_NULL cefrodil_status cefrodil_stamped_entries(cefrodil_handle *handle, uint64_t *entries, size_t entry_words,
                                                                            uint64_t *count);
 
-/* Closes a handle, in any thread. Closing the last handle frees the cache.
+/* Closes a handle, in any thread. One that holds the turns gives them back. Closing the last handle frees the cache.
  * OK, or CLOSED if it was not open, or null. In a forked child, CLOSED if the parent opened it: then nothing is freed. The handle is closed
  * afterwards. */
 CEFRODIL_NO_NULL cefrodil_status cefrodil_close(cefrodil_handle *handle);
 
-/* cefrodil_get, cefrodil_put and cefrodil_get_or_desk for values of 1 to 8 words. An optimizing compiler calls these where `words` is a
+/* cefrodil_get, cefrodil_put and cefrodil_get_or_turn for values of 1 to 8 words. An optimizing compiler calls these where `words` is a
  * constant, because they take fewer instructions. A program has no need to name them: each returns what the call without a number
  * returns. */
-CEFRODIL_CHECKED CEFRODIL_NO_NULL cefrodil_status cefrodil_get_1(cefrodil_handle *reader, uint64_t key, uint64_t *value,
+CEFRODIL_CHECKED CEFRODIL_NO_NULL cefrodil_status cefrodil_get_1(cefrodil_handle *handle, uint64_t key, uint64_t *value,
                                                                  cefrodil_reply *reply);
-CEFRODIL_CHECKED CEFRODIL_NO_NULL cefrodil_status cefrodil_get_2(cefrodil_handle *reader, uint64_t key, uint64_t *value,
+CEFRODIL_CHECKED CEFRODIL_NO_NULL cefrodil_status cefrodil_get_2(cefrodil_handle *handle, uint64_t key, uint64_t *value,
                                                                  cefrodil_reply *reply);
-CEFRODIL_CHECKED CEFRODIL_NO_NULL cefrodil_status cefrodil_get_3(cefrodil_handle *reader, uint64_t key, uint64_t *value,
+CEFRODIL_CHECKED CEFRODIL_NO_NULL cefrodil_status cefrodil_get_3(cefrodil_handle *handle, uint64_t key, uint64_t *value,
                                                                  cefrodil_reply *reply);
-CEFRODIL_CHECKED CEFRODIL_NO_NULL cefrodil_status cefrodil_get_4(cefrodil_handle *reader, uint64_t key, uint64_t *value,
+CEFRODIL_CHECKED CEFRODIL_NO_NULL cefrodil_status cefrodil_get_4(cefrodil_handle *handle, uint64_t key, uint64_t *value,
                                                                  cefrodil_reply *reply);
-CEFRODIL_CHECKED CEFRODIL_NO_NULL cefrodil_status cefrodil_get_5(cefrodil_handle *reader, uint64_t key, uint64_t *value,
+CEFRODIL_CHECKED CEFRODIL_NO_NULL cefrodil_status cefrodil_get_5(cefrodil_handle *handle, uint64_t key, uint64_t *value,
                                                                  cefrodil_reply *reply);
-CEFRODIL_CHECKED CEFRODIL_NO_NULL cefrodil_status cefrodil_get_6(cefrodil_handle *reader, uint64_t key, uint64_t *value,
+CEFRODIL_CHECKED CEFRODIL_NO_NULL cefrodil_status cefrodil_get_6(cefrodil_handle *handle, uint64_t key, uint64_t *value,
                                                                  cefrodil_reply *reply);
-CEFRODIL_CHECKED CEFRODIL_NO_NULL cefrodil_status cefrodil_get_7(cefrodil_handle *reader, uint64_t key, uint64_t *value,
+CEFRODIL_CHECKED CEFRODIL_NO_NULL cefrodil_status cefrodil_get_7(cefrodil_handle *handle, uint64_t key, uint64_t *value,
                                                                  cefrodil_reply *reply);
-CEFRODIL_CHECKED CEFRODIL_NO_NULL cefrodil_status cefrodil_get_8(cefrodil_handle *reader, uint64_t key, uint64_t *value,
+CEFRODIL_CHECKED CEFRODIL_NO_NULL cefrodil_status cefrodil_get_8(cefrodil_handle *handle, uint64_t key, uint64_t *value,
                                                                  cefrodil_reply *reply);
 CEFRODIL_CHECKED CEFRODIL_NO_NULL cefrodil_status cefrodil_put_1(cefrodil_handle *handle, uint64_t key, const uint64_t *value,
                                                                  cefrodil_reply *reply);
@@ -419,21 +379,21 @@ CEFRODIL_CHECKED CEFRODIL_NO_NULL cefrodil_status cefrodil_put_7(cefrodil_handle
                                                                  cefrodil_reply *reply);
 CEFRODIL_CHECKED CEFRODIL_NO_NULL cefrodil_status cefrodil_put_8(cefrodil_handle *handle, uint64_t key, const uint64_t *value,
                                                                  cefrodil_reply *reply);
-CEFRODIL_CHECKED CEFRODIL_NO_NULL cefrodil_status cefrodil_get_or_desk_1(cefrodil_handle *pass, uint64_t key, uint64_t *value,
+CEFRODIL_CHECKED CEFRODIL_NO_NULL cefrodil_status cefrodil_get_or_turn_1(cefrodil_handle *handle, uint64_t key, uint64_t *value,
                                                                          cefrodil_reply *reply);
-CEFRODIL_CHECKED CEFRODIL_NO_NULL cefrodil_status cefrodil_get_or_desk_2(cefrodil_handle *pass, uint64_t key, uint64_t *value,
+CEFRODIL_CHECKED CEFRODIL_NO_NULL cefrodil_status cefrodil_get_or_turn_2(cefrodil_handle *handle, uint64_t key, uint64_t *value,
                                                                          cefrodil_reply *reply);
-CEFRODIL_CHECKED CEFRODIL_NO_NULL cefrodil_status cefrodil_get_or_desk_3(cefrodil_handle *pass, uint64_t key, uint64_t *value,
+CEFRODIL_CHECKED CEFRODIL_NO_NULL cefrodil_status cefrodil_get_or_turn_3(cefrodil_handle *handle, uint64_t key, uint64_t *value,
                                                                          cefrodil_reply *reply);
-CEFRODIL_CHECKED CEFRODIL_NO_NULL cefrodil_status cefrodil_get_or_desk_4(cefrodil_handle *pass, uint64_t key, uint64_t *value,
+CEFRODIL_CHECKED CEFRODIL_NO_NULL cefrodil_status cefrodil_get_or_turn_4(cefrodil_handle *handle, uint64_t key, uint64_t *value,
                                                                          cefrodil_reply *reply);
-CEFRODIL_CHECKED CEFRODIL_NO_NULL cefrodil_status cefrodil_get_or_desk_5(cefrodil_handle *pass, uint64_t key, uint64_t *value,
+CEFRODIL_CHECKED CEFRODIL_NO_NULL cefrodil_status cefrodil_get_or_turn_5(cefrodil_handle *handle, uint64_t key, uint64_t *value,
                                                                          cefrodil_reply *reply);
-CEFRODIL_CHECKED CEFRODIL_NO_NULL cefrodil_status cefrodil_get_or_desk_6(cefrodil_handle *pass, uint64_t key, uint64_t *value,
+CEFRODIL_CHECKED CEFRODIL_NO_NULL cefrodil_status cefrodil_get_or_turn_6(cefrodil_handle *handle, uint64_t key, uint64_t *value,
                                                                          cefrodil_reply *reply);
-CEFRODIL_CHECKED CEFRODIL_NO_NULL cefrodil_status cefrodil_get_or_desk_7(cefrodil_handle *pass, uint64_t key, uint64_t *value,
+CEFRODIL_CHECKED CEFRODIL_NO_NULL cefrodil_status cefrodil_get_or_turn_7(cefrodil_handle *handle, uint64_t key, uint64_t *value,
                                                                          cefrodil_reply *reply);
-CEFRODIL_CHECKED CEFRODIL_NO_NULL cefrodil_status cefrodil_get_or_desk_8(cefrodil_handle *pass, uint64_t key, uint64_t *value,
+CEFRODIL_CHECKED CEFRODIL_NO_NULL cefrodil_status cefrodil_get_or_turn_8(cefrodil_handle *handle, uint64_t key, uint64_t *value,
                                                                          cefrodil_reply *reply);
 
 #ifdef __cplusplus
@@ -472,20 +432,20 @@ CEFRODIL_CHECKED CEFRODIL_INLINE cefrodil_handle cefrodil_move(cefrodil_handle *
 /* The exports take no null pointer. The functions from here on take one where that is allowed, and three of them call the export for
  * the width of a value if that is a constant. The macros behind them give them the names of the exports. A program that defines
  * CEFRODIL_NO_MACROS has none of these: then no pointer may be null, and cefrodil_get_of_width and so on are called by their own names. */
-CEFRODIL_CHECKED CEFRODIL_INLINED(nonnull(1, 3)) cefrodil_status cefrodil_get_of_width(cefrodil_handle *reader, uint64_t key, uint64_t *value,
+CEFRODIL_CHECKED CEFRODIL_INLINED(nonnull(1, 3)) cefrodil_status cefrodil_get_of_width(cefrodil_handle *handle, uint64_t key, uint64_t *value,
                                                                                        size_t words, cefrodil_reply *reply) {
     cefrodil_reply unread;
     cefrodil_reply *const told = reply ? reply : &unread;
     switch (CEFRODIL_KNOWN(words) ? words : 0) {
-    case 1: return cefrodil_get_1(reader, key, value, told);
-    case 2: return cefrodil_get_2(reader, key, value, told);
-    case 3: return cefrodil_get_3(reader, key, value, told);
-    case 4: return cefrodil_get_4(reader, key, value, told);
-    case 5: return cefrodil_get_5(reader, key, value, told);
-    case 6: return cefrodil_get_6(reader, key, value, told);
-    case 7: return cefrodil_get_7(reader, key, value, told);
-    case 8: return cefrodil_get_8(reader, key, value, told);
-    default: return cefrodil_get(reader, key, value, words, told);
+    case 1: return cefrodil_get_1(handle, key, value, told);
+    case 2: return cefrodil_get_2(handle, key, value, told);
+    case 3: return cefrodil_get_3(handle, key, value, told);
+    case 4: return cefrodil_get_4(handle, key, value, told);
+    case 5: return cefrodil_get_5(handle, key, value, told);
+    case 6: return cefrodil_get_6(handle, key, value, told);
+    case 7: return cefrodil_get_7(handle, key, value, told);
+    case 8: return cefrodil_get_8(handle, key, value, told);
+    default: return cefrodil_get(handle, key, value, words, told);
     }
 }
 
@@ -505,18 +465,18 @@ CEFRODIL_CHECKED CEFRODIL_INLINED(nonnull) cefrodil_status cefrodil_put_of_width
     }
 }
 
-CEFRODIL_CHECKED CEFRODIL_INLINED(nonnull) cefrodil_status cefrodil_get_or_desk_of_width(cefrodil_handle *pass, uint64_t key, uint64_t *value,
+CEFRODIL_CHECKED CEFRODIL_INLINED(nonnull) cefrodil_status cefrodil_get_or_turn_of_width(cefrodil_handle *handle, uint64_t key, uint64_t *value,
                                                                                          size_t words, cefrodil_reply *reply) {
     switch (CEFRODIL_KNOWN(words) ? words : 0) {
-    case 1: return cefrodil_get_or_desk_1(pass, key, value, reply);
-    case 2: return cefrodil_get_or_desk_2(pass, key, value, reply);
-    case 3: return cefrodil_get_or_desk_3(pass, key, value, reply);
-    case 4: return cefrodil_get_or_desk_4(pass, key, value, reply);
-    case 5: return cefrodil_get_or_desk_5(pass, key, value, reply);
-    case 6: return cefrodil_get_or_desk_6(pass, key, value, reply);
-    case 7: return cefrodil_get_or_desk_7(pass, key, value, reply);
-    case 8: return cefrodil_get_or_desk_8(pass, key, value, reply);
-    default: return cefrodil_get_or_desk(pass, key, value, words, reply);
+    case 1: return cefrodil_get_or_turn_1(handle, key, value, reply);
+    case 2: return cefrodil_get_or_turn_2(handle, key, value, reply);
+    case 3: return cefrodil_get_or_turn_3(handle, key, value, reply);
+    case 4: return cefrodil_get_or_turn_4(handle, key, value, reply);
+    case 5: return cefrodil_get_or_turn_5(handle, key, value, reply);
+    case 6: return cefrodil_get_or_turn_6(handle, key, value, reply);
+    case 7: return cefrodil_get_or_turn_7(handle, key, value, reply);
+    case 8: return cefrodil_get_or_turn_8(handle, key, value, reply);
+    default: return cefrodil_get_or_turn(handle, key, value, words, reply);
     }
 }
 
@@ -524,32 +484,22 @@ CEFRODIL_INLINE cefrodil_status cefrodil_close_unless_null(cefrodil_handle *hand
     return handle ? cefrodil_close(handle) : CEFRODIL_CLOSED;
 }
 
-CEFRODIL_CHECKED CEFRODIL_INLINE cefrodil_status cefrodil_open_with_or_none(const cefrodil_shape *shape, size_t words, const uint64_t *entries,
-                                                                            size_t entry_words, uint32_t *statuses, size_t status_count,
-                                                                            cefrodil_handle *writer, cefrodil_handle *readers,
-                                                                            size_t reader_count) {
+CEFRODIL_CHECKED CEFRODIL_INLINE cefrodil_status cefrodil_open_with_or_none(const cefrodil_shape *shape, uint32_t shards, size_t words,
+                                                                            const uint64_t *entries, size_t entry_words,
+                                                                            uint32_t *statuses, size_t status_count,
+                                                                            cefrodil_handle *handles, size_t count) {
     uint64_t no_entry = 0;
     uint32_t no_status = 0;
-    return cefrodil_open_with(shape, words, entry_words != 0 ? entries : &no_entry, entry_words, status_count != 0 ? statuses : &no_status,
-                              status_count, writer, readers, reader_count);
+    return cefrodil_open_with(shape, shards, words, entry_words != 0 ? entries : &no_entry, entry_words,
+                              status_count != 0 ? statuses : &no_status, status_count, handles, count);
 }
 
-CEFRODIL_CHECKED CEFRODIL_INLINE cefrodil_status cefrodil_open_shards_with_or_none(const cefrodil_shape *shape, uint32_t shards, size_t words,
-                                                                                   const uint64_t *entries, size_t entry_words,
-                                                                                   uint32_t *statuses, size_t status_count,
-                                                                                   cefrodil_handle *passes, size_t pass_count) {
-    uint64_t no_entry = 0;
-    uint32_t no_status = 0;
-    return cefrodil_open_shards_with(shape, shards, words, entry_words != 0 ? entries : &no_entry, entry_words,
-                                     status_count != 0 ? statuses : &no_status, status_count, passes, pass_count);
-}
-
-CEFRODIL_CHECKED CEFRODIL_INLINE cefrodil_status cefrodil_get_many_or_none(cefrodil_handle *reader, const uint64_t *keys, size_t key_count,
+CEFRODIL_CHECKED CEFRODIL_INLINE cefrodil_status cefrodil_get_many_or_none(cefrodil_handle *handle, const uint64_t *keys, size_t key_count,
                                                                            uint64_t *values, size_t value_words, cefrodil_answer *answers,
                                                                            size_t answer_count) {
     uint64_t no_key = 0, no_value = 0;
     cefrodil_answer no_answer;
-    return cefrodil_get_many(reader, key_count != 0 ? keys : &no_key, key_count, value_words != 0 ? values : &no_value, value_words,
+    return cefrodil_get_many(handle, key_count != 0 ? keys : &no_key, key_count, value_words != 0 ? values : &no_value, value_words,
                              answer_count != 0 ? answers : &no_answer, answer_count);
 }
 
@@ -562,7 +512,7 @@ CEFRODIL_CHECKED CEFRODIL_INLINE cefrodil_status cefrodil_put_many_or_none(cefro
                              answer_count != 0 ? answers : &no_answer, answer_count);
 }
 
-/* Counts the entries for a list that has no room, by the writer or a pass, and makes no list. KIND: by another handle. */
+/* Counts the entries for a list that has no room, and makes no list. */
 CEFRODIL_CHECKED CEFRODIL_INLINE cefrodil_status cefrodil_list_without_room(cefrodil_handle *handle, uint64_t *count) {
     const cefrodil_status status = cefrodil_len(handle, count);
     return status == CEFRODIL_OK && *count != 0 ? CEFRODIL_BAD_COUNT : status;
@@ -575,18 +525,15 @@ CEFRODIL_CHECKED CEFRODIL_INLINE cefrodil_status cefrodil_entries_or_none(cefrod
 
 CEFRODIL_CHECKED CEFRODIL_INLINE cefrodil_status cefrodil_stamped_entries_or_none(cefrodil_handle *handle, uint64_t *entries,
                                                                                   size_t entry_words, uint64_t *count) {
-    uint64_t no_entry = 0;
-    const cefrodil_status status = cefrodil_stamped_entries(handle, entry_words != 0 ? entries : &no_entry, entry_words, count);
-    return entry_words == 0 && status == CEFRODIL_NO_MEMORY ? cefrodil_list_without_room(handle, count) : status;
+    return entry_words != 0 ? cefrodil_stamped_entries(handle, entries, entry_words, count) : cefrodil_list_without_room(handle, count);
 }
 
 #ifndef CEFRODIL_NO_MACROS
 #define cefrodil_get cefrodil_get_of_width
 #define cefrodil_put cefrodil_put_of_width
-#define cefrodil_get_or_desk cefrodil_get_or_desk_of_width
+#define cefrodil_get_or_turn cefrodil_get_or_turn_of_width
 #define cefrodil_close cefrodil_close_unless_null
 #define cefrodil_open_with cefrodil_open_with_or_none
-#define cefrodil_open_shards_with cefrodil_open_shards_with_or_none
 #define cefrodil_get_many cefrodil_get_many_or_none
 #define cefrodil_put_many cefrodil_put_many_or_none
 #define cefrodil_entries cefrodil_entries_or_none
@@ -605,7 +552,7 @@ CEFRODIL_INLINE const char *cefrodil_text(uint32_t status) {
     case CEFRODIL_CHANGED: return "changed";
     case CEFRODIL_HELD: return "held";
     case CEFRODIL_CLOSED: return "the handle is not open";
-    case CEFRODIL_KIND: return "a handle of this kind has no such call";
+    case CEFRODIL_HOLDS: return "the handle holds the turns already";
     case CEFRODIL_WIDTH: return "values of this cache have another number of words";
     case CEFRODIL_IN_USE: return "the handle is open already";
     case CEFRODIL_NO_MEMORY: return "no memory";
@@ -617,12 +564,12 @@ CEFRODIL_INLINE const char *cefrodil_text(uint32_t status) {
     case CEFRODIL_BAD_DEPTH: return "depth must be from 0 to 8";
     case CEFRODIL_BAD_TRIES: return "tries must be from 1 to 64";
     case CEFRODIL_BAD_LIMIT: return "limit must be from 0 to 4611686018427387904";
-    case CEFRODIL_BAD_READERS: return "readers or passes must be from 1 to 1024, and no more than there are to spare";
+    case CEFRODIL_BAD_HANDLES: return "handles must be from 1 to 1024, and no more than there are to spare";
     case CEFRODIL_BAD_COUNT: return "counts that belong together do not fit";
     case CEFRODIL_NO_ITEM: return "no item";
     case CEFRODIL_BAD_SHARDS: return "shards must be a power of two from 1 to 256";
     case CEFRODIL_PRESENT: return "present";
-    case CEFRODIL_NOT_LAST: return "other passes are at the desk";
+    case CEFRODIL_HOLDS_NOT: return "the handle holds no turns";
     case CEFRODIL_PROCESSOR: return "the processor is older than x86-64-v2";
     default: return "no status";
     }

@@ -71,7 +71,7 @@ static void step(int signal, siginfo_t *info, void *context) {
     }
 }
 
-static cefrodil_handle writer = CEFRODIL_EMPTY, reader = CEFRODIL_EMPTY, passes[2] = {CEFRODIL_EMPTY, CEFRODIL_EMPTY};
+static cefrodil_handle handles[2] = {CEFRODIL_EMPTY, CEFRODIL_EMPTY};
 
 /* By a width that is not constant the call has another name. */
 static volatile size_t not_constant = WORDS;
@@ -101,37 +101,36 @@ static void use(cefrodil_handle *handle) {
     MUST(cefrodil_get(handle, 1, old, WORDS - 1, &reply) == CEFRODIL_WIDTH);
 }
 
-static void by_writer(void) {
-    const cefrodil_shape shape = {1 << 20, 16, KEYS - 10, 8, 4, 4, CEFRODIL_MIX_FULL};
-    MUST(cefrodil_open(&shape, WORDS, &writer, &reader, 1) == CEFRODIL_OK);
-    use(&writer);
-    uint64_t value[WORDS];
-    MUST(cefrodil_get(&reader, 1, value, WORDS, NULL) <= CEFRODIL_ABSENT);
-    MUST(cefrodil_close(&writer) == CEFRODIL_OK && cefrodil_close(&reader) == CEFRODIL_OK);
+/* The calls that a cache has besides those of its keys. */
+static void use_all_shards(cefrodil_handle *handle) {
+    uint64_t entries[KEYS * (2 + WORDS)], count = 0, found[WORDS];
+    cefrodil_handle more = CEFRODIL_EMPTY;
+    MUST(cefrodil_more(handle, &more, 1) == CEFRODIL_OK && cefrodil_get_or_turn(&more, 6, found, WORDS, &(cefrodil_reply){0}) <= CEFRODIL_ABSENT);
+    MUST(cefrodil_moment(handle, &count) == CEFRODIL_OK && cefrodil_capacity(handle, &count) == CEFRODIL_OK);
+    MUST(cefrodil_stamped_entries(handle, entries, KEYS * (2 + WORDS), &count) == CEFRODIL_OK && cefrodil_close(&more) == CEFRODIL_OK);
 }
 
-static void by_desk(void) {
-    const cefrodil_shape shape = {1 << 20, 16, KEYS - 10, 8, 4, 4, CEFRODIL_MIX_FULL};
-    MUST(cefrodil_open_desk(&shape, WORDS, passes, 2) == CEFRODIL_OK);
-    use(&passes[1]);
-    MUST(cefrodil_leave_desk(&passes[0], &writer) == CEFRODIL_NOT_LAST && cefrodil_leave_desk(&passes[1], &writer) == CEFRODIL_OK);
-    MUST(cefrodil_close(&writer) == CEFRODIL_OK && cefrodil_close(&passes[0]) == CEFRODIL_OK && cefrodil_close(&passes[1]) == CEFRODIL_OK);
+static void by_shards(uint32_t shards, uint32_t items) {
+    const cefrodil_shape shape = {1 << 20, 16, items, 8, 4, 4, CEFRODIL_MIX_FULL};
+    MUST(cefrodil_open(&shape, shards, WORDS, handles, 2) == CEFRODIL_OK);
+    use(&handles[0]);
+    use_all_shards(&handles[0]);
+    MUST(cefrodil_hold(&handles[1]) == CEFRODIL_OK && cefrodil_hold(&handles[0]) == CEFRODIL_HELD);
+    use(&handles[1]);
+    MUST(cefrodil_release(&handles[1]) == CEFRODIL_OK && cefrodil_hold(&handles[0]) == CEFRODIL_OK);
+    MUST(cefrodil_close(&handles[0]) == CEFRODIL_OK && cefrodil_close(&handles[1]) == CEFRODIL_OK);
 }
 
-static void by_shards(void) {
-    const cefrodil_shape shape = {1 << 20, 16, KEYS / 2, 8, 4, 4, CEFRODIL_MIX_FULL};
-    MUST(cefrodil_open_shards(&shape, 2, WORDS, passes, 2) == CEFRODIL_OK);
-    use(&passes[0]);
-    MUST(cefrodil_close(&passes[0]) == CEFRODIL_OK && cefrodil_close(&passes[1]) == CEFRODIL_OK);
-}
+static void by_one_shard(void) { by_shards(1, KEYS - 10); }
+
+static void by_two_shards(void) { by_shards(2, KEYS / 2); }
 
 int main(void) {
     struct sigaction action = {.sa_sigaction = step, .sa_flags = SA_SIGINFO};
     MUST(sigaction(SIGTRAP, &action, NULL) == 0);
-    by_writer(); /* so that nothing is bound for the first time in steps */
-    call_in_steps(by_writer);
-    call_in_steps(by_desk);
-    call_in_steps(by_shards);
+    by_one_shard(); /* so that nothing is bound for the first time in steps */
+    call_in_steps(by_one_shard);
+    call_in_steps(by_two_shards);
     MUST(steps > 10000 && lost == 0);
     return outcome("callers");
 }

@@ -2,7 +2,8 @@
 #include "cefrodil.h"
 #include "must.h"
 
-static cefrodil_handle writer, readers[2];
+static cefrodil_handle handles[2];
+static cefrodil_handle *const one = &handles[0], *const other = &handles[1];
 static cefrodil_reply reply;
 
 /* `buckets` buckets, `items` items, one stripe, and chains of at most two. */
@@ -16,12 +17,7 @@ static const uint64_t most = UINT64_C(1) << 62;
 /* Nine keys of bucket 0 in tables of two buckets, each with its key for a value. */
 static const uint64_t nine[18] = {0, 0, 4, 4, 8, 8, 12, 12, 16, 16, 20, 20, 24, 24, 28, 28, 2, 2};
 
-static void close_all(void) {
-    MUST(cefrodil_close(&writer) == CEFRODIL_OK);
-    for (int i = 0; i < 2; i++) {
-        cefrodil_close(&readers[i]);
-    }
-}
+static void close_both(void) { MUST(cefrodil_close(one) == CEFRODIL_OK && cefrodil_close(other) == CEFRODIL_OK); }
 
 /* The first `put` of `count` entries are put, and the others have this status. */
 static void loads(cefrodil_shape shape, size_t count, size_t put, uint32_t others) {
@@ -30,16 +26,16 @@ static void loads(cefrodil_shape shape, size_t count, size_t put, uint32_t other
     for (size_t i = 0; i < 10; i++) {
         statuses[i] = 99;
     }
-    MUST(cefrodil_open_with(&shape, 1, nine, 2 * count, statuses, count, &writer, readers, 2) == CEFRODIL_OK);
+    MUST(cefrodil_open_with(&shape, 1, 1, nine, 2 * count, statuses, count, handles, 2) == CEFRODIL_OK);
     for (size_t i = 0; i < 10; i++) {
         MUST(statuses[i] == (i < put ? CEFRODIL_OK : i < count ? others : 99));
     }
     for (size_t i = 0; i < count; i++) {
-        uint32_t status = cefrodil_get(&readers[1], nine[2 * i], value, 1, &reply);
+        uint32_t status = cefrodil_get(other, nine[2 * i], value, 1, &reply);
         MUST(i < put ? status == CEFRODIL_OK && value[0] == nine[2 * i + 1] && reply.since == i + 1 : status == CEFRODIL_ABSENT);
         MUST(reply.at == put);
     }
-    close_all();
+    close_both();
 }
 
 static void twice(void) {
@@ -47,11 +43,11 @@ static void twice(void) {
     uint64_t value[2] = {0, 0};
     uint32_t statuses[3] = {99, 99, 99};
     cefrodil_shape shape = shape_of(4, 2, most);
-    MUST(cefrodil_open_with(&shape, 2, entries, 9, statuses, 3, &writer, readers, 1) == CEFRODIL_OK);
+    MUST(cefrodil_open_with(&shape, 1, 2, entries, 9, statuses, 3, handles, 2) == CEFRODIL_OK);
     MUST(statuses[0] == CEFRODIL_OK && statuses[1] == CEFRODIL_OK && statuses[2] == CEFRODIL_OK);
-    MUST(cefrodil_get(&readers[0], 5, value, 2, &reply) == CEFRODIL_OK && value[0] == 52 && value[1] == 53 && reply.since == 3);
-    MUST(cefrodil_put_if(&writer, 6, 2, value, 2, &reply) == CEFRODIL_OK && reply.at == 4);
-    close_all();
+    MUST(cefrodil_get(other, 5, value, 2, &reply) == CEFRODIL_OK && value[0] == 52 && value[1] == 53 && reply.since == 3);
+    MUST(cefrodil_put_if(one, 6, 2, value, 2, &reply) == CEFRODIL_OK && reply.at == 4);
+    close_both();
 }
 
 static void widths(void) {
@@ -62,64 +58,65 @@ static void widths(void) {
         for (size_t i = 0; i < 18; i++) {
             entries[i] = 100 + i;
         }
-        MUST(cefrodil_open_with(&shape, words, entries, 2 * (words + 1), statuses, 2, &writer, readers, 1) == CEFRODIL_OK);
+        MUST(cefrodil_open_with(&shape, 1, words, entries, 2 * (words + 1), statuses, 2, handles, 2) == CEFRODIL_OK);
         MUST(statuses[0] == CEFRODIL_OK && statuses[1] == CEFRODIL_OK);
-        MUST(cefrodil_get(&readers[0], 101 + words, found, words, &reply) == CEFRODIL_OK);
+        MUST(cefrodil_get(other, 101 + words, found, words, &reply) == CEFRODIL_OK);
         for (size_t i = 0; i < 8; i++) {
             MUST(found[i] == (i < words ? 102 + words + i : 0));
         }
-        close_all();
+        close_both();
     }
 }
 
 /* Each refusal, with the faults after it still there. */
 static void refused(void) {
     cefrodil_shape shape = shape_of(3, 3, most);
+    uint64_t value;
     uint32_t statuses[9] = {99, 99, 99, 99, 99, 99, 99, 99, 99};
     shape.mix = 2;
-    MUST(cefrodil_open_with(&shape, 0, nine, 17, statuses, 9, &writer, readers, 0) == CEFRODIL_BAD_WORDS);
-    MUST(cefrodil_open_with(&shape, 9, nine, 17, statuses, 9, &writer, readers, 0) == CEFRODIL_BAD_WORDS);
-    MUST(cefrodil_open_with(&shape, 1, nine, 17, statuses, 9, &writer, readers, 0) == CEFRODIL_BAD_COUNT);
-    MUST(cefrodil_open_with(&shape, 1, nine, 18, statuses, 8, &writer, readers, 0) == CEFRODIL_BAD_COUNT);
-    MUST(cefrodil_open_with(&shape, 2, nine, 18, statuses, 9, &writer, readers, 0) == CEFRODIL_BAD_COUNT);
-    MUST(cefrodil_open_with(&shape, 1, nine, 18, statuses, 9, &writer, readers, 0) == CEFRODIL_BAD_MIX);
+    MUST(cefrodil_open_with(&shape, 3, 0, nine, 17, statuses, 9, handles, 0) == CEFRODIL_BAD_WORDS);
+    MUST(cefrodil_open_with(&shape, 3, 9, nine, 17, statuses, 9, handles, 0) == CEFRODIL_BAD_WORDS);
+    MUST(cefrodil_open_with(&shape, 3, 1, nine, 17, statuses, 9, handles, 0) == CEFRODIL_BAD_COUNT);
+    MUST(cefrodil_open_with(&shape, 3, 1, nine, 18, statuses, 8, handles, 0) == CEFRODIL_BAD_COUNT);
+    MUST(cefrodil_open_with(&shape, 3, 2, nine, 18, statuses, 9, handles, 0) == CEFRODIL_BAD_COUNT);
+    MUST(cefrodil_open_with(&shape, 3, 1, nine, 18, statuses, 9, handles, 0) == CEFRODIL_BAD_MIX);
     shape.mix = CEFRODIL_MIX_NONE;
-    MUST(cefrodil_open_with(&shape, 1, nine, 18, statuses, 9, &writer, readers, 0) == CEFRODIL_BAD_BUCKETS);
+    MUST(cefrodil_open_with(&shape, 3, 1, nine, 18, statuses, 9, handles, 0) == CEFRODIL_BAD_SHARDS);
+    MUST(cefrodil_open_with(&shape, 0, 1, nine, 18, statuses, 9, handles, 0) == CEFRODIL_BAD_SHARDS);
+    MUST(cefrodil_open_with(&shape, 512, 1, nine, 18, statuses, 9, handles, 0) == CEFRODIL_BAD_SHARDS);
+    MUST(cefrodil_open_with(&shape, 4, 1, nine, 18, statuses, 9, handles, 0) == CEFRODIL_BAD_BUCKETS);
     shape.buckets = 4;
-    MUST(cefrodil_open_with(&shape, 1, nine, 18, statuses, 9, &writer, readers, 0) == CEFRODIL_BAD_READERS);
-    MUST(!writer.live_ && !readers[0].live_ && !readers[1].live_);
-    MUST(cefrodil_open_with(&shape, 1, nine, 0, statuses, 0, &writer, readers, 1) == CEFRODIL_OK);
-    MUST(cefrodil_open_with(&shape, 0, nine, 17, statuses, 9, &writer, readers, 0) == CEFRODIL_IN_USE);
-    MUST(writer.live_ && readers[0].live_);
-    MUST(cefrodil_close(&writer) == CEFRODIL_OK);
-    MUST(cefrodil_open_with(&shape, 0, nine, 17, statuses, 9, &writer, readers, 2) == CEFRODIL_IN_USE);
-    MUST(cefrodil_close(&readers[0]) == CEFRODIL_OK);
+    MUST(cefrodil_open_with(&shape, 4, 1, nine, 18, statuses, 9, handles, 0) == CEFRODIL_BAD_HANDLES);
+    MUST(!one->live_ && !other->live_);
+    MUST(cefrodil_open_with(&shape, 1, 1, nine, 0, statuses, 0, other, 1) == CEFRODIL_OK);
+    MUST(cefrodil_open_with(&shape, 3, 0, nine, 17, statuses, 9, handles, 2) == CEFRODIL_IN_USE);
+    MUST(!one->live_ && other->live_ && cefrodil_get(other, 1, &value, 1, &reply) == CEFRODIL_ABSENT && cefrodil_close(other) == CEFRODIL_OK);
     for (int i = 0; i < 9; i++) {
         MUST(statuses[i] == 99);
     }
 }
 
-/* The list of a cache opens another one with the same keys. */
-static void listed(void) {
+/* The list of a cache opens another one with the same keys. A handle lists by tries, or holds. */
+static void listed(bool holds) {
     cefrodil_shape shape = shape_of(4, 3, most);
     uint64_t list[7] = {99, 99, 99, 99, 99, 99, 99}, count = 98;
     uint32_t statuses[4];
-    MUST(cefrodil_open_with(&shape, 1, nine, 8, statuses, 4, &writer, readers, 2) == CEFRODIL_OK);
-    MUST(cefrodil_entries(&readers[0], list, 6, &count) == CEFRODIL_KIND && count == 98);
-    MUST(cefrodil_entries(&writer, list, 5, &count) == CEFRODIL_BAD_COUNT && count == 3 && list[0] == 99);
+    MUST(cefrodil_open_with(&shape, 1, 1, nine, 8, statuses, 4, handles, 2) == CEFRODIL_OK);
+    MUST(!holds || cefrodil_hold(one) == CEFRODIL_OK);
+    MUST(cefrodil_entries(one, list, 5, &count) == CEFRODIL_BAD_COUNT && count == 3 && list[0] == 99);
     count = 98;
-    MUST(cefrodil_entries(&writer, list, 6, &count) == CEFRODIL_OK && count == 3 && list[6] == 99);
+    MUST(cefrodil_entries(one, list, 6, &count) == CEFRODIL_OK && count == 3 && list[6] == 99);
     for (size_t i = 0; i < 6; i++) {
         MUST(list[i] == nine[i]);
     }
     list[4] = 99;
-    MUST(cefrodil_remove(&writer, 4, &reply) == CEFRODIL_OK && cefrodil_entries(&writer, list, 7, &count) == CEFRODIL_OK && count == 2);
+    MUST(cefrodil_remove(one, 4, &reply) == CEFRODIL_OK && cefrodil_entries(one, list, 7, &count) == CEFRODIL_OK && count == 2);
     MUST(list[0] == 0 && list[2] == 8 && list[3] == 8 && list[4] == 99);
-    close_all();
+    close_both();
     shape = shape_of(8, 16, most);
-    MUST(cefrodil_open_with(&shape, 1, list, 2 * count, statuses, count, &writer, readers, 1) == CEFRODIL_OK);
-    MUST(cefrodil_get(&writer, 8, list, 1, &reply) == CEFRODIL_OK && list[0] == 8 && reply.at == 2 && reply.since == 2);
-    close_all();
+    MUST(cefrodil_open_with(&shape, 1, 1, list, 2 * count, statuses, count, handles, 2) == CEFRODIL_OK);
+    MUST(cefrodil_get(one, 8, list, 1, &reply) == CEFRODIL_OK && list[0] == 8 && reply.at == 2 && reply.since == 2);
+    close_both();
 }
 
 /* Values of each width are listed, and a cache without keys. */
@@ -131,85 +128,82 @@ static void listed_widths(void) {
         for (size_t i = 0; i < 18; i++) {
             entries[i] = 100 + i;
         }
-        MUST(cefrodil_open_with(&shape, words, entries, 2 * (words + 1), statuses, 2, &writer, readers, 1) == CEFRODIL_OK);
-        MUST(cefrodil_entries(&writer, list, 2 * (words + 1) - 1, &count) == CEFRODIL_BAD_COUNT && count == 2 && list[0] == 0);
-        MUST(cefrodil_entries(&writer, list, 18, &count) == CEFRODIL_OK && count == 2);
+        MUST(cefrodil_open_with(&shape, 1, words, entries, 2 * (words + 1), statuses, 2, handles, 2) == CEFRODIL_OK);
+        MUST(cefrodil_entries(one, list, 2 * (words + 1) - 1, &count) == CEFRODIL_BAD_COUNT && count == 2 && list[0] == 0);
+        MUST(cefrodil_entries(one, list, 18, &count) == CEFRODIL_OK && count == 2);
         for (size_t i = 0; i < 18; i++) {
             MUST(list[i] == (i < 2 * (words + 1) ? entries[i] : 0));
         }
-        close_all();
-        MUST(cefrodil_open(&shape, words, &writer, readers, 1) == CEFRODIL_OK);
-        MUST(cefrodil_entries(&writer, list, 0, &count) == CEFRODIL_OK && count == 0);
-        close_all();
-        MUST(cefrodil_open_with(&shape, words, NULL, 0, NULL, 0, &writer, readers, 1) == CEFRODIL_OK);
+        close_both();
+        MUST(cefrodil_open(&shape, 1, words, handles, 2) == CEFRODIL_OK);
+        MUST(cefrodil_entries(one, list, 0, &count) == CEFRODIL_OK && count == 0);
+        close_both();
+        MUST(cefrodil_open_with(&shape, 1, words, NULL, 0, NULL, 0, handles, 2) == CEFRODIL_OK);
         count = 98;
-        MUST(cefrodil_entries(&writer, NULL, 0, &count) == CEFRODIL_OK && count == 0);
-        close_all();
+        MUST(cefrodil_entries(one, NULL, 0, &count) == CEFRODIL_OK && count == 0);
+        close_both();
     }
 }
 
-/* A pass lists, too: at a desk, and of shards. */
-static void listed_by_turns(void) {
+/* Keys of one shard or of several are listed, by a handle that has put none. */
+static void listed_by_another(uint32_t shards) {
     cefrodil_shape shape = shape_of(8, 16, most);
-    for (int of_shards = 0; of_shards < 2; of_shards++) {
-        uint64_t list[20] = {0}, count, sum = 0;
-        shape.mix = CEFRODIL_MIX_FULL;
-        MUST((of_shards ? cefrodil_open_shards(&shape, 4, 1, readers, 2) : cefrodil_open_desk(&shape, 1, readers, 2)) == CEFRODIL_OK);
-        for (uint64_t key = 1; key <= 10; key++) {
-            MUST(cefrodil_put(&readers[0], key, &key, 1, &reply) == CEFRODIL_OK);
-        }
-        MUST(cefrodil_entries(&readers[1], list, 19, &count) == CEFRODIL_BAD_COUNT && count == 10 && list[0] == 0);
-        MUST(cefrodil_entries(&readers[1], list, 20, &count) == CEFRODIL_OK && count == 10);
-        for (size_t i = 0; i < 20; i += 2) {
-            MUST(list[i] == list[i + 1]);
-            sum += list[i];
-        }
-        MUST(sum == 55 && cefrodil_close(&readers[0]) == CEFRODIL_OK && cefrodil_close(&readers[1]) == CEFRODIL_OK);
+    uint64_t list[20] = {0}, count, sum = 0;
+    shape.mix = CEFRODIL_MIX_FULL;
+    MUST(cefrodil_open(&shape, shards, 1, handles, 2) == CEFRODIL_OK);
+    for (uint64_t key = 1; key <= 10; key++) {
+        MUST(cefrodil_put(one, key, &key, 1, &reply) == CEFRODIL_OK);
     }
+    MUST(cefrodil_entries(other, list, 19, &count) == CEFRODIL_BAD_COUNT && count == 10 && list[0] == 0);
+    MUST(cefrodil_entries(other, list, 20, &count) == CEFRODIL_OK && count == 10);
+    for (size_t i = 0; i < 20; i += 2) {
+        MUST(list[i] == list[i + 1]);
+        sum += list[i];
+    }
+    MUST(sum == 55);
+    close_both();
 }
 
 /* Each entry with the moment of its key's last put. */
-static void stamped(void) {
+static void stamped(bool holds) {
     cefrodil_shape shape = shape_of(4, 3, most);
     uint64_t list[10] = {99, 99, 99, 99, 99, 99, 99, 99, 99, 99}, count = 98, found[2];
-    MUST(cefrodil_open(&shape, 2, &writer, readers, 2) == CEFRODIL_OK);
-    MUST(cefrodil_stamped_entries(&writer, NULL, 0, &count) == CEFRODIL_OK && count == 0);
+    MUST(cefrodil_open(&shape, 1, 2, handles, 2) == CEFRODIL_OK && (!holds || cefrodil_hold(one) == CEFRODIL_OK));
+    MUST(cefrodil_stamped_entries(one, NULL, 0, &count) == CEFRODIL_OK && count == 0);
     for (uint64_t n = 0; n < 3; n++) {
         const uint64_t value[2] = {10 + n, 20 + n};
-        MUST(cefrodil_put(&writer, n % 2, value, 2, &reply) == CEFRODIL_OK);
+        MUST(cefrodil_put(one, n % 2, value, 2, &reply) == CEFRODIL_OK);
     }
     count = 98;
-    MUST(cefrodil_stamped_entries(&readers[0], list, 8, &count) == CEFRODIL_KIND && count == 98);
-    MUST(cefrodil_stamped_entries(&writer, list, 7, &count) == CEFRODIL_BAD_COUNT && count == 2 && list[0] == 99);
-    MUST(cefrodil_stamped_entries(&writer, list, 10, &count) == CEFRODIL_OK && count == 2 && list[8] == 99 && list[9] == 99);
+    MUST(cefrodil_stamped_entries(one, NULL, 0, &count) == CEFRODIL_BAD_COUNT && count == 2);
+    count = 98;
+    MUST(cefrodil_stamped_entries(one, list, 7, &count) == CEFRODIL_BAD_COUNT && count == 2 && list[0] == 99);
+    MUST(cefrodil_stamped_entries(one, list, 10, &count) == CEFRODIL_OK && count == 2 && list[8] == 99 && list[9] == 99);
     for (size_t i = 0; i < 8; i += 4) {
-        MUST(cefrodil_get(&readers[0], list[i], found, 2, &reply) == CEFRODIL_OK);
+        MUST(cefrodil_get(other, list[i], found, 2, &reply) == CEFRODIL_OK);
         MUST(list[i + 1] == found[0] && list[i + 2] == found[1] && list[i + 3] == reply.since && list[i + 3] == (list[i] == 0 ? 3 : 2));
     }
-    close_all();
+    close_both();
 }
 
-/* A pass at a desk lists entries with stamps, too. A pass of shards does not. */
-static void stamped_by_turns(void) {
-    cefrodil_shape shape = shape_of(8, 16, most);
-    for (int of_shards = 0; of_shards < 2; of_shards++) {
-        uint64_t list[3] = {99, 99, 99}, count = 98;
-        const uint64_t value = 7;
-        shape.mix = CEFRODIL_MIX_FULL;
-        MUST((of_shards ? cefrodil_open_shards(&shape, 4, 1, readers, 2) : cefrodil_open_desk(&shape, 1, readers, 2)) == CEFRODIL_OK);
-        MUST(cefrodil_put(&readers[0], 5, &value, 1, &reply) == CEFRODIL_OK);
-        MUST(cefrodil_put(&readers[0], 5, &value, 1, &reply) == CEFRODIL_OK);
-        if (of_shards) {
-            MUST(cefrodil_stamped_entries(&readers[1], list, 3, &count) == CEFRODIL_KIND && count == 98 && list[0] == 99);
-            MUST(cefrodil_stamped_entries(&readers[1], NULL, 0, &count) == CEFRODIL_KIND && count == 98);
-        } else {
-            MUST(cefrodil_stamped_entries(&readers[1], NULL, 0, &count) == CEFRODIL_BAD_COUNT && count == 1);
-            MUST(cefrodil_stamped_entries(&readers[1], list, 2, &count) == CEFRODIL_BAD_COUNT && count == 1 && list[0] == 99);
-            MUST(cefrodil_stamped_entries(&readers[1], list, 3, &count) == CEFRODIL_OK && count == 1);
-            MUST(list[0] == 5 && list[1] == 7 && list[2] == 2);
-        }
-        MUST(cefrodil_close(&readers[0]) == CEFRODIL_OK && cefrodil_close(&readers[1]) == CEFRODIL_OK);
+/* Keys of all shards are listed with stamps, each of which counts the changes of its key's shard. */
+static void stamped_in_shards(void) {
+    enum { KEYS = 40, ENTRY = 3 };
+    cefrodil_shape shape = shape_of(64, 100, most);
+    uint64_t list[KEYS * ENTRY], count = 98, found;
+    shape.mix = CEFRODIL_MIX_FULL;
+    MUST(cefrodil_open(&shape, 4, 1, handles, 2) == CEFRODIL_OK);
+    for (uint64_t n = 0; n < 2 * KEYS; n++) {
+        MUST(cefrodil_put(one, n % KEYS, &n, 1, &reply) == CEFRODIL_OK);
     }
+    MUST(cefrodil_stamped_entries(other, list, KEYS * ENTRY - 1, &count) == CEFRODIL_BAD_COUNT && count == KEYS);
+    MUST(cefrodil_stamped_entries(other, list, KEYS * ENTRY, &count) == CEFRODIL_OK && count == KEYS);
+    for (size_t i = 0; i < KEYS; i++) {
+        const uint64_t *entry = list + i * ENTRY;
+        MUST(cefrodil_get(other, entry[0], &found, 1, &reply) == CEFRODIL_OK && found == entry[0] + KEYS);
+        MUST(entry[1] == found && entry[2] == reply.since && entry[2] < 2 * KEYS);
+    }
+    close_both();
 }
 
 int main(void) {
@@ -220,10 +214,13 @@ int main(void) {
     twice();
     widths();
     refused();
-    listed();
+    listed(false);
+    listed(true);
     listed_widths();
-    listed_by_turns();
-    stamped();
-    stamped_by_turns();
+    listed_by_another(1);
+    listed_by_another(4);
+    stamped(false);
+    stamped(true);
+    stamped_in_shards();
     return outcome("entries");
 }

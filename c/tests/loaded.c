@@ -1,10 +1,10 @@
-/* Shards are opened with entries: what becomes of each, and what is refused. Then the last pass lists them for larger shards. */
+/* Shards are opened with entries: what becomes of each. Then a holder lists them for larger shards, and others look up meanwhile. */
 #include "cefrodil.h"
 #include "must.h"
 
 enum { SHARDS = 8, KEYS = 500 };
 
-static cefrodil_handle passes[2];
+static cefrodil_handle handles[2];
 static cefrodil_reply reply;
 
 /* `buckets` buckets, `items` items, one stripe, and chains of at most two, in each shard. */
@@ -20,14 +20,14 @@ static const uint64_t most = UINT64_C(1) << 62;
 static const uint64_t ten[20] = {0, 100, OTHER, 200, 4, 104, 8, 108, 12, 112, 16, 116, 20, 120, 24, 124, 28, 128, 2, 102};
 
 static void close_both(void) {
-    MUST(cefrodil_close(&passes[0]) == CEFRODIL_OK && cefrodil_close(&passes[1]) == CEFRODIL_OK);
+    MUST(cefrodil_close(&handles[0]) == CEFRODIL_OK && cefrodil_close(&handles[1]) == CEFRODIL_OK);
 }
 
-/* The pass finds the first `put` of these entries, and no others. Each key's shard counts its own puts. */
-static void finds(cefrodil_handle *pass, size_t count, size_t put) {
+/* The handle finds the first `put` of these entries, and no others. Each key's shard counts its own puts. */
+static void finds(cefrodil_handle *handle, size_t count, size_t put) {
     for (size_t i = 0; i < count; i++) {
         uint64_t value = 99;
-        const uint32_t status = cefrodil_get(pass, ten[2 * i], &value, 1, &reply);
+        const uint32_t status = cefrodil_get(handle, ten[2 * i], &value, 1, &reply);
         const uint64_t moment = i == 0 || ten[2 * i] == OTHER ? 1 : i;
         MUST(i < put ? status == CEFRODIL_OK && value == ten[2 * i + 1] && reply.since == moment : status == CEFRODIL_ABSENT);
         MUST(reply.at == (ten[2 * i] == OTHER ? 1 : put - 1));
@@ -40,12 +40,12 @@ static void loads(cefrodil_shape shape, size_t count, size_t put, uint32_t other
     for (size_t i = 0; i < 11; i++) {
         statuses[i] = 99;
     }
-    MUST(cefrodil_open_shards_with(&shape, 2, 1, ten, 2 * count, statuses, count, passes, 2) == CEFRODIL_OK);
+    MUST(cefrodil_open_with(&shape, 2, 1, ten, 2 * count, statuses, count, handles, 2) == CEFRODIL_OK);
     for (size_t i = 0; i < 11; i++) {
         MUST(statuses[i] == (i < put ? CEFRODIL_OK : i < count ? others : 99));
     }
-    finds(&passes[1], count, put);
-    finds(&passes[0], count, put);
+    finds(&handles[1], count, put);
+    finds(&handles[0], count, put);
     close_both();
 }
 
@@ -55,11 +55,11 @@ static void left_between(void) {
     const uint32_t expected[4] = {CEFRODIL_OK, CEFRODIL_NO_ITEM, CEFRODIL_OK, CEFRODIL_NO_ITEM};
     uint32_t statuses[4] = {99, 99, 99, 99};
     cefrodil_shape shape = shape_of(4, 1, most);
-    MUST(cefrodil_open_shards_with(&shape, 2, 1, entries, 8, statuses, 4, passes, 2) == CEFRODIL_OK);
+    MUST(cefrodil_open_with(&shape, 2, 1, entries, 8, statuses, 4, handles, 2) == CEFRODIL_OK);
     for (size_t i = 0; i < 4; i++) {
         uint64_t value = 99;
         MUST(statuses[i] == expected[i]);
-        MUST(cefrodil_get(&passes[i % 2], entries[2 * i], &value, 1, &reply) == (i % 2 == 0 ? CEFRODIL_OK : CEFRODIL_ABSENT));
+        MUST(cefrodil_get(&handles[i % 2], entries[2 * i], &value, 1, &reply) == (i % 2 == 0 ? CEFRODIL_OK : CEFRODIL_ABSENT));
         MUST(value == (i % 2 == 0 ? entries[2 * i + 1] : 99) && reply.at == 1);
     }
     close_both();
@@ -70,93 +70,68 @@ static void twice(void) {
     uint64_t value[2] = {0, 0};
     uint32_t statuses[3] = {99, 99, 99};
     cefrodil_shape shape = shape_of(4, 2, most);
-    MUST(cefrodil_open_shards_with(&shape, 4, 2, entries, 9, statuses, 3, passes, 2) == CEFRODIL_OK);
+    MUST(cefrodil_open_with(&shape, 4, 2, entries, 9, statuses, 3, handles, 2) == CEFRODIL_OK);
     MUST(statuses[0] == CEFRODIL_OK && statuses[1] == CEFRODIL_OK && statuses[2] == CEFRODIL_OK);
-    MUST(cefrodil_get(&passes[1], 5, value, 2, &reply) == CEFRODIL_OK && value[0] == 52 && value[1] == 53 && reply.since == 3);
-    MUST(cefrodil_put_if(&passes[0], 6, 2, value, 2, &reply) == CEFRODIL_OK && reply.at == 4);
+    MUST(cefrodil_get(&handles[1], 5, value, 2, &reply) == CEFRODIL_OK && value[0] == 52 && value[1] == 53 && reply.since == 3);
+    MUST(cefrodil_put_if(&handles[0], 6, 2, value, 2, &reply) == CEFRODIL_OK && reply.at == 4);
     close_both();
 }
 
-/* Each refusal, with the faults after it still there. */
-static void refused(void) {
-    cefrodil_shape shape = shape_of(3, 3, most);
-    cefrodil_handle writer = CEFRODIL_EMPTY;
-    uint64_t value;
-    uint32_t statuses[9] = {99, 99, 99, 99, 99, 99, 99, 99, 99};
-    shape.mix = 2;
-    MUST(cefrodil_open_shards_with(&shape, 3, 0, ten, 17, statuses, 9, passes, 0) == CEFRODIL_BAD_WORDS);
-    MUST(cefrodil_open_shards_with(&shape, 3, 9, ten, 17, statuses, 9, passes, 0) == CEFRODIL_BAD_WORDS);
-    MUST(cefrodil_open_shards_with(&shape, 3, 1, ten, 17, statuses, 9, passes, 0) == CEFRODIL_BAD_COUNT);
-    MUST(cefrodil_open_shards_with(&shape, 3, 1, ten, 18, statuses, 8, passes, 0) == CEFRODIL_BAD_COUNT);
-    MUST(cefrodil_open_shards_with(&shape, 3, 2, ten, 18, statuses, 9, passes, 0) == CEFRODIL_BAD_COUNT);
-    MUST(cefrodil_open_shards_with(&shape, 3, 1, ten, 18, statuses, 9, passes, 0) == CEFRODIL_BAD_MIX);
-    shape.mix = CEFRODIL_MIX_NONE;
-    MUST(cefrodil_open_shards_with(&shape, 3, 1, ten, 18, statuses, 9, passes, 0) == CEFRODIL_BAD_SHARDS);
-    MUST(cefrodil_open_shards_with(&shape, 0, 1, ten, 18, statuses, 9, passes, 0) == CEFRODIL_BAD_SHARDS);
-    MUST(cefrodil_open_shards_with(&shape, 512, 1, ten, 18, statuses, 9, passes, 0) == CEFRODIL_BAD_SHARDS);
-    MUST(cefrodil_open_shards_with(&shape, 4, 1, ten, 18, statuses, 9, passes, 0) == CEFRODIL_BAD_BUCKETS);
-    shape.buckets = 4;
-    MUST(cefrodil_open_shards_with(&shape, 4, 1, ten, 18, statuses, 9, passes, 0) == CEFRODIL_BAD_READERS);
-    MUST(!passes[0].live_ && !passes[1].live_);
-    MUST(cefrodil_open(&shape, 1, &writer, &passes[1], 1) == CEFRODIL_OK);
-    MUST(cefrodil_open_shards_with(&shape, 3, 0, ten, 17, statuses, 9, passes, 2) == CEFRODIL_IN_USE);
-    MUST(!passes[0].live_ && passes[1].live_ && cefrodil_get(&passes[1], 1, &value, 1, &reply) == CEFRODIL_ABSENT);
-    MUST(cefrodil_close(&writer) == CEFRODIL_OK && cefrodil_close(&passes[1]) == CEFRODIL_OK);
-    for (int i = 0; i < 9; i++) {
-        MUST(statuses[i] == 99);
-    }
-}
-
-/* The pass finds each of the keys with its number in every word. */
-static void has_all(cefrodil_handle *pass, size_t words) {
+/* The handle finds each of the keys with its number in every word. */
+static void has_all(cefrodil_handle *handle, size_t words) {
     static uint64_t keys[KEYS], values[8 * KEYS];
     static cefrodil_answer answers[KEYS];
     for (uint64_t key = 0; key < KEYS; key++) {
         keys[key] = key;
     }
-    MUST(cefrodil_get_many(pass, keys, KEYS, values, words * KEYS, answers, KEYS) == CEFRODIL_OK);
+    MUST(cefrodil_get_many(handle, keys, KEYS, values, words * KEYS, answers, KEYS) == CEFRODIL_OK);
     for (size_t i = 0; i < words * KEYS; i++) {
         MUST(answers[i / words].status == CEFRODIL_OK && values[i] == i / words);
     }
 }
 
-/* Many keys in all shards. The last pass lists them, is closed, and other shards open with its list. */
+/* Many keys in all shards. One handle holds and lists them, and a larger cache opens with its list. Meanwhile the other handle looks up in
+ * the old cache, and writes nothing that the new one has not. */
 static void grows(size_t words) {
     static uint64_t entries[9 * KEYS], list[9 * KEYS];
     static uint32_t statuses[KEYS];
+    cefrodil_handle larger[2] = {CEFRODIL_EMPTY, CEFRODIL_EMPTY};
     uint64_t count = 98;
     cefrodil_shape shape;
     for (size_t i = 0; i < (1 + words) * KEYS; i++) {
         entries[i] = i / (1 + words);
         statuses[i % KEYS] = 99;
     }
-    MUST(cefrodil_shape_for_shards(KEYS, SHARDS, &shape) == CEFRODIL_OK);
-    MUST(cefrodil_open_shards_with(&shape, SHARDS, words, entries, (1 + words) * KEYS, statuses, KEYS, passes, 2) == CEFRODIL_OK);
+    MUST(cefrodil_shape_for_items(KEYS, SHARDS, &shape) == CEFRODIL_OK);
+    MUST(cefrodil_open_with(&shape, SHARDS, words, entries, (1 + words) * KEYS, statuses, KEYS, handles, 2) == CEFRODIL_OK);
     for (size_t i = 0; i < KEYS; i++) {
         MUST(statuses[i] == CEFRODIL_OK);
         statuses[i] = 99;
     }
-    has_all(&passes[0], words);
-    has_all(&passes[1], words);
-    MUST(cefrodil_close(&passes[0]) == CEFRODIL_OK);
-    MUST(cefrodil_entries(&passes[1], list, (1 + words) * KEYS, &count) == CEFRODIL_OK && count == KEYS);
-    MUST(cefrodil_close(&passes[1]) == CEFRODIL_OK && cefrodil_shape_for_shards(2 * KEYS, 2 * SHARDS, &shape) == CEFRODIL_OK);
-    MUST(cefrodil_open_shards_with(&shape, 2 * SHARDS, words, list, (1 + words) * KEYS, statuses, KEYS, passes, 2) == CEFRODIL_OK);
+    has_all(&handles[0], words);
+    has_all(&handles[1], words);
+    MUST(cefrodil_hold(&handles[1]) == CEFRODIL_OK);
+    MUST(cefrodil_entries(&handles[1], list, (1 + words) * KEYS, &count) == CEFRODIL_OK && count == KEYS);
+    MUST(cefrodil_shape_for_items(2 * KEYS, 2 * SHARDS, &shape) == CEFRODIL_OK);
+    MUST(cefrodil_open_with(&shape, 2 * SHARDS, words, list, (1 + words) * KEYS, statuses, KEYS, larger, 2) == CEFRODIL_OK);
+    has_all(&handles[0], words);
+    MUST(cefrodil_put(&handles[0], 0, entries, words, &reply) == CEFRODIL_HELD);
+    close_both();
     for (size_t i = 0; i < KEYS; i++) {
         MUST(statuses[i] == CEFRODIL_OK);
     }
-    has_all(&passes[1], words);
-    has_all(&passes[0], words);
-    close_both();
+    has_all(&larger[1], words);
+    has_all(&larger[0], words);
+    MUST(cefrodil_close(&larger[0]) == CEFRODIL_OK && cefrodil_close(&larger[1]) == CEFRODIL_OK);
 }
 
 /* No entries: their arrays may be null, and the shards are empty. */
 static void none(void) {
     cefrodil_shape shape = shape_of(4, 16, most);
     uint64_t count = 98;
-    MUST(cefrodil_open_shards_with(&shape, 4, 1, NULL, 0, NULL, 0, passes, 2) == CEFRODIL_OK);
-    MUST(cefrodil_open_shards_with(&shape, 4, 1, NULL, 0, NULL, 0, passes, 2) == CEFRODIL_IN_USE);
-    MUST(cefrodil_len(&passes[1], &count) == CEFRODIL_OK && count == 0);
+    MUST(cefrodil_open_with(&shape, 4, 1, NULL, 0, NULL, 0, handles, 2) == CEFRODIL_OK);
+    MUST(cefrodil_open_with(&shape, 4, 1, NULL, 0, NULL, 0, handles, 2) == CEFRODIL_IN_USE);
+    MUST(cefrodil_len(&handles[1], &count) == CEFRODIL_OK && count == 0);
     close_both();
 }
 
@@ -167,7 +142,6 @@ int main(void) {
     loads(shape_of(4, 16, most), 2, 2, CEFRODIL_OK);
     left_between();
     twice();
-    refused();
     none();
     for (size_t words = 1; words <= 8; words++) {
         grows(words);

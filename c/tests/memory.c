@@ -1,7 +1,8 @@
-/* Each allocation of an opening is refused in turn: then no handle is open, and nothing leaks. So is that of a list of entries,
- * that of a pass that leaves its desk, and each of a desk for a writer. A list without room takes no memory. A list allocates in its turn,
- * so a batch of another pass is held meanwhile. Linked with --wrap. */
+/* Each allocation of an opening is refused in turn: then no handle is open, and nothing leaks. So is each of a list of entries, and each for
+ * more handles. Calls that take no memory, as a holder's, work without it. A list allocates in its turn, so a batch of another handle is held
+ * meanwhile: by a list with stamps in all shards. Linked with --wrap. */
 #include "cefrodil.h"
+#include <stdbool.h>
 #include <stdio.h>
 
 void *__real_malloc(size_t size);
@@ -45,47 +46,51 @@ void __wrap_free(void *block) {
     __real_free(block);
 }
 
-static cefrodil_handle writer, handles[4];
+static cefrodil_handle handles[4];
 
-enum how { APART, BY_TURNS, BY_SHARDS, WITH_ENTRIES, SHARDS_WITH_ENTRIES };
+/* How a cache is opened: with so many shards, and with entries or not. */
+struct how {
+    uint32_t shards;
+    bool with_entries;
+};
+
+static const struct how plain = {1, false}, loaded = {1, true}, in_shards = {4, false}, loaded_in_shards = {4, true};
 
 /* Three entries of 1 to 8 words, and their statuses. */
 static const uint64_t entries[27];
 static uint32_t statuses[3];
 
-static uint32_t open_one(const cefrodil_shape *shape, size_t words, enum how how) {
+static uint32_t open_one(const cefrodil_shape *shape, size_t words, struct how how) {
     statuses[0] = statuses[1] = statuses[2] = 99;
-    switch (how) {
-    case APART: return cefrodil_open(shape, words, &writer, handles, 4);
-    case BY_TURNS: return cefrodil_open_desk(shape, words, handles, 4);
-    case BY_SHARDS: return cefrodil_open_shards(shape, 4, words, handles, 4);
-    case WITH_ENTRIES: return cefrodil_open_with(shape, words, entries, 3 * (1 + words), statuses, 3, &writer, handles, 4);
-    default: return cefrodil_open_shards_with(shape, 4, words, entries, 3 * (1 + words), statuses, 3, handles, 4);
-    }
+    return how.with_entries ? cefrodil_open_with(shape, how.shards, words, entries, 3 * (1 + words), statuses, 3, handles, 4)
+                            : cefrodil_open(shape, how.shards, words, handles, 4);
 }
 
 static int is_told(uint32_t status) { return statuses[0] == status && statuses[1] == status && statuses[2] == status; }
 
 static int open_handles(void) {
-    int open = writer.live_;
+    int open = 0;
     for (int i = 0; i < 4; i++) {
         open += handles[i].live_;
     }
     return open;
 }
 
+static void close_all(void) {
+    for (int i = 0; i < 4; i++) {
+        cefrodil_close(&handles[i]);
+    }
+}
+
 /* How many allocations an opening takes; -1 if a refusal leaves something behind. */
-static long allocations(const cefrodil_shape *shape, size_t words, enum how how) {
-    for (long allowed = 0; allowed < 200; allowed++) {
+static long allocations(const cefrodil_shape *shape, size_t words, struct how how) {
+    for (long allowed = 0; allowed < 500; allowed++) {
         left = allowed, kept = 0;
         uint32_t status = open_one(shape, words, how);
         left = -1;
         if (status == CEFRODIL_OK) {
-            for (int i = 0; i < 4; i++) {
-                cefrodil_close(&handles[i]);
-            }
-            cefrodil_close(&writer);
-            return kept == 0 && is_told(how >= WITH_ENTRIES ? CEFRODIL_OK : 99) ? allowed : -1;
+            close_all();
+            return kept == 0 && is_told(how.with_entries ? CEFRODIL_OK : 99) ? allowed : -1;
         }
         if (status != CEFRODIL_NO_MEMORY || kept != 0 || open_handles() != 0 || !is_told(99)) {
             return -1;
@@ -115,91 +120,72 @@ static int lists(cefrodil_handle *lister, size_t words, bool stamped) {
     return 0;
 }
 
-/* A list without room makes none, so it takes no memory: by the writer and by a pass of a desk. A pass of shards has to list its shards. */
-static int counts(cefrodil_handle *lister, bool of_shards) {
+/* A list without room makes none, so it takes no memory. */
+static int counts(cefrodil_handle *lister) {
     uint64_t count = 98, stamped_count = 98;
     left = 0;
     uint32_t status = cefrodil_entries(lister, NULL, 0, &count), stamped = cefrodil_stamped_entries(lister, NULL, 0, &stamped_count);
     left = -1;
-    return of_shards ? status == CEFRODIL_BAD_COUNT && stamped == CEFRODIL_KIND && count == 1 && stamped_count == 98
-                     : status == CEFRODIL_BAD_COUNT && stamped == CEFRODIL_BAD_COUNT && count == 1 && stamped_count == 1;
+    return status == CEFRODIL_BAD_COUNT && stamped == CEFRODIL_BAD_COUNT && count == 1 && stamped_count == 1;
 }
 
-static int all_list(const cefrodil_shape *shape, size_t words) {
-    cefrodil_reply reply;
-    int listed = open_one(shape, words, WITH_ENTRIES) == CEFRODIL_OK && lists(&writer, words, false) &&
-                 lists(&writer, words, true) && counts(&writer, false);
-    for (enum how how = BY_TURNS; how <= BY_SHARDS; how++) {
-        for (int i = 0; i < 4; i++) {
-            cefrodil_close(&handles[i]);
-        }
-        cefrodil_close(&writer);
-        listed = listed && open_one(shape, words, how) == CEFRODIL_OK &&
-                 cefrodil_put(&handles[0], 0, entries, words, &reply) == CEFRODIL_OK && lists(&handles[0], words, false) &&
-                 (how == BY_SHARDS || lists(&handles[0], words, true)) && counts(&handles[0], how == BY_SHARDS);
-    }
-    for (int i = 0; i < 4; i++) {
-        cefrodil_close(&handles[i]);
-    }
+static int lists_and_counts(cefrodil_handle *lister, size_t words) {
+    return lists(lister, words, false) && lists(lister, words, true) && counts(lister);
+}
+
+/* By a handle that tries, and by one that holds. */
+static int all_list(const cefrodil_shape *shape, size_t words, struct how how) {
+    int listed = open_one(shape, words, how) == CEFRODIL_OK && lists_and_counts(&handles[3], words) && cefrodil_hold(&handles[0]) == CEFRODIL_OK &&
+                 lists_and_counts(&handles[0], words);
+    close_all();
     return listed;
 }
 
-/* Another handle gets KIND, whether there is memory or not. */
-static int leaves_by_kind_first(const cefrodil_shape *shape, size_t words) {
-    cefrodil_handle reader = CEFRODIL_EMPTY, its_writer = CEFRODIL_EMPTY, none = CEFRODIL_EMPTY;
-    int kind = cefrodil_open(shape, words, &its_writer, &reader, 1) == CEFRODIL_OK;
+/* To hold the turns, to use them and to give them back takes no memory. */
+static int holds(const cefrodil_shape *shape, size_t words, struct how how) {
+    cefrodil_reply reply;
+    uint64_t found[8], moment = 0, len = 0;
+    int held = open_one(shape, words, how) == CEFRODIL_OK;
+    const long before = kept;
     left = 0;
-    kind = kind && cefrodil_leave_desk(&reader, &none) == CEFRODIL_KIND && cefrodil_leave_desk(&its_writer, &none) == CEFRODIL_KIND;
+    held = held && cefrodil_moment(&handles[0], &moment) == CEFRODIL_OK && moment == 3 && cefrodil_hold(&handles[0]) == CEFRODIL_OK &&
+           cefrodil_put(&handles[0], 1, entries, words, &reply) == CEFRODIL_OK && cefrodil_get(&handles[0], 1, found, words, &reply) == CEFRODIL_OK &&
+           cefrodil_hold(&handles[1]) == CEFRODIL_HELD && cefrodil_moment(&handles[0], &moment) == CEFRODIL_OK && moment == 4 &&
+           cefrodil_len(&handles[0], &len) == CEFRODIL_OK && len == 2 && cefrodil_release(&handles[0]) == CEFRODIL_OK &&
+           cefrodil_put(&handles[1], 2, entries, words, &reply) == CEFRODIL_OK && cefrodil_get_or_turn(&handles[2], 2, found, words, &reply) == CEFRODIL_OK;
     left = -1;
-    cefrodil_close(&reader);
-    cefrodil_close(&its_writer);
-    return kind && !none.live_;
+    held = held && kept == before;
+    close_all();
+    return held && kept == 0;
 }
 
-/* A pass that finds no memory is still at its desk. The writer's handle is all that leaving keeps. */
-static int leaves(const cefrodil_shape *shape, size_t words) {
+/* Each allocation for more handles is refused in turn: then none is open, and nothing is kept or used up. */
+static int gives_more(const cefrodil_shape *shape, size_t words, struct how how) {
+    enum { SPARE = 64 };
+    static cefrodil_handle more[SPARE];
     cefrodil_reply reply;
-    long before;
-    int left_it = open_one(shape, words, BY_TURNS) == CEFRODIL_OK;
-    for (int i = 1; i < 4; i++) {
-        cefrodil_close(&handles[i]);
-    }
-    before = kept, left = 0;
-    left_it = left_it && cefrodil_leave_desk(&handles[0], &writer) == CEFRODIL_NO_MEMORY && !writer.live_;
-    left = -1;
-    left_it = left_it && leaves_by_kind_first(shape, words);
-    left_it = left_it && kept == before && cefrodil_put(&handles[0], 1, entries, words, &reply) == CEFRODIL_OK &&
-              cefrodil_leave_desk(&handles[0], &writer) == CEFRODIL_OK && cefrodil_put(&writer, 2, entries, words, &reply) == CEFRODIL_OK;
-    cefrodil_close(&handles[0]);
-    cefrodil_close(&writer);
-    return left_it;
-}
-
-/* Each allocation of a desk for a writer is refused in turn: then the writer stays, and no pass is open. */
-static int makes_desk(const cefrodil_shape *shape, size_t words) {
-    cefrodil_handle passes[3] = {CEFRODIL_EMPTY, CEFRODIL_EMPTY, CEFRODIL_EMPTY};
-    cefrodil_reply reply;
-    int made = open_one(shape, words, WITH_ENTRIES) == CEFRODIL_OK;
+    int given = open_one(shape, words, how) == CEFRODIL_OK;
     long allowed = 0, before = kept;
     uint32_t status = CEFRODIL_NO_MEMORY;
-    for (; made && allowed < 20 && status != CEFRODIL_OK; allowed++) {
+    for (; given && allowed < 1000 && status != CEFRODIL_OK; allowed++) {
         left = allowed;
-        status = cefrodil_make_desk(&writer, passes, 3);
+        status = cefrodil_more(&handles[0], more, SPARE);
         left = -1;
-        made = status == CEFRODIL_OK ? !writer.live_ && cefrodil_put(&passes[2], 1, entries, words, &reply) == CEFRODIL_OK
-                                     : status == CEFRODIL_NO_MEMORY && kept == before && !passes[0].live_ && !passes[1].live_ && !passes[2].live_ &&
-                                           cefrodil_put(&writer, 0, entries, words, &reply) == CEFRODIL_OK;
+        given = status == CEFRODIL_OK || (status == CEFRODIL_NO_MEMORY && kept == before);
+        for (int i = 0; i < SPARE; i++) {
+            given = given && more[i].live_ == (status == CEFRODIL_OK);
+        }
+        given = given && cefrodil_put(&handles[0], 0, entries, words, &reply) == CEFRODIL_OK;
     }
-    for (int i = 0; i < 3; i++) {
-        cefrodil_close(&passes[i]);
+    given = given && cefrodil_put(&more[SPARE - 1], 1, entries, words, &reply) == CEFRODIL_OK && cefrodil_hold(&more[0]) == CEFRODIL_OK;
+    for (int i = 0; i < SPARE; i++) {
+        cefrodil_close(&more[i]);
     }
-    for (int i = 0; i < 4; i++) {
-        cefrodil_close(&handles[i]);
-    }
-    return made && status == CEFRODIL_OK && allowed > 5 && kept == 0;
+    close_all();
+    return given && status == CEFRODIL_OK && allowed > 1 && kept == 0;
 }
 
-/* Two groups of sixteen keys, and a third of eight. */
+/* So many keys are put at once. */
 enum { BATCH = 40 };
 static uint64_t batch[BATCH], batch_values[BATCH * 8];
 static cefrodil_put_answer batch_answers[BATCH];
@@ -221,7 +207,7 @@ static int is_answered(uint32_t status, uint64_t at) {
     return answered;
 }
 
-/* While a list has the turn, each group of a batch is held, and nothing is changed. Behind it all are put. */
+/* While a list has the turn of the one shard, each key of a batch is held, and nothing is changed. Behind it all are put. */
 static int batches(const cefrodil_shape *shape, size_t words) {
     uint64_t list[9], count = 0, found[8];
     cefrodil_reply reply;
@@ -230,7 +216,7 @@ static int batches(const cefrodil_shape *shape, size_t words) {
         batch[i] = 100 + i;
         batch_values[i * words] = batch_values[i * words + words - 1] = i;
     }
-    int put = open_one(shape, words, BY_TURNS) == CEFRODIL_OK && cefrodil_put(&handles[0], 0, entries, words, &reply) == CEFRODIL_OK;
+    int put = open_one(shape, words, plain) == CEFRODIL_OK && cefrodil_put(&handles[0], 0, entries, words, &reply) == CEFRODIL_OK;
     in_turn = put_batch;
     put = put && cefrodil_entries(&handles[0], list, 1 + words, &count) == CEFRODIL_OK && count == 1 && in_turn == NULL;
     put = put && is_answered(CEFRODIL_HELD, 0) && cefrodil_len(&handles[1], &count) == CEFRODIL_OK && count == 1;
@@ -239,39 +225,76 @@ static int batches(const cefrodil_shape *shape, size_t words) {
     for (uint64_t i = 0; i < BATCH; i++) {
         put = put && cefrodil_get(&handles[0], 100 + i, found, words, &reply) == CEFRODIL_OK && found[words - 1] == i && reply.since == 2 + i;
     }
-    for (int i = 0; i < 4; i++) {
-        cefrodil_close(&handles[i]);
-    }
+    close_all();
     return put;
+}
+
+static bool all_held;
+
+/* Notes whether the whole batch is held, at each allocation from here on. */
+static void note_batch(void) {
+    put_batch();
+    all_held = all_held || is_answered(CEFRODIL_HELD, 0);
+    in_turn = note_batch;
+}
+
+/* While a list with stamps is made, it has the turns of all shards at once. Behind it all are free. */
+static int stamps_at_once(const cefrodil_shape *shape, size_t words) {
+    static uint64_t list[(1 + BATCH) * 10];
+    uint64_t count = 0;
+    batch_words = words;
+    int stamped = open_one(shape, words, loaded_in_shards) == CEFRODIL_OK;
+    all_held = false, in_turn = note_batch;
+    stamped = stamped && cefrodil_stamped_entries(&handles[0], list, (1 + BATCH) * (2 + words), &count) == CEFRODIL_OK && count >= 1 && all_held;
+    in_turn = NULL;
+    put_batch();
+    for (size_t i = 0; i < BATCH; i++) {
+        stamped = stamped && batch_answers[i].status == CEFRODIL_OK;
+    }
+    close_all();
+    return stamped;
+}
+
+/* Each opening takes memory, shards more than one, and one more with entries. */
+static int opens(const cefrodil_shape *shape, size_t words) {
+    const long one = allocations(shape, words, plain), four = allocations(shape, words, in_shards);
+    const long with = allocations(shape, words, loaded), both = allocations(shape, words, loaded_in_shards);
+    if (one >= 5 && four >= one + 3 && with == one + 1 && both == four + 1) {
+        return 1;
+    }
+    printf("memory: allocations for %zu words: %ld, %ld; with entries %ld, %ld\n", words, one, four, with, both);
+    return 0;
+}
+
+/* What fails with values of so many words, or null. */
+static const char *failure(const cefrodil_shape *shape, size_t words) {
+    if (!opens(shape, words)) {
+        return "an opening";
+    }
+    if (!all_list(shape, words, loaded) || !all_list(shape, words, loaded_in_shards)) {
+        return "a list";
+    }
+    if (!holds(shape, words, loaded) || !holds(shape, words, loaded_in_shards)) {
+        return "a holder";
+    }
+    if (!gives_more(shape, words, loaded) || !gives_more(shape, words, loaded_in_shards)) {
+        return "more handles";
+    }
+    if (!batches(shape, words)) {
+        return "a batch";
+    }
+    return stamps_at_once(shape, words) ? NULL : "a list with stamps";
 }
 
 int main(void) {
     cefrodil_shape shape;
-    if (cefrodil_shape_for_items(100, &shape) != CEFRODIL_OK) {
+    if (cefrodil_shape_for_items(100, 1, &shape) != CEFRODIL_OK) {
         return 1;
     }
     for (size_t words = 1; words <= 8; words++) {
-        long apart = allocations(&shape, words, APART), by_turns = allocations(&shape, words, BY_TURNS);
-        long by_shards = allocations(&shape, words, BY_SHARDS), with_entries = allocations(&shape, words, WITH_ENTRIES);
-        long both = allocations(&shape, words, SHARDS_WITH_ENTRIES);
-        if (apart < 5 || by_turns < 5 || by_shards < 40 || with_entries != apart + 2 || both != by_shards + 1) {
-            printf("memory: %zu words: %ld, %ld, %ld, %ld, %ld\n", words, apart, by_turns, by_shards, with_entries, both);
-            return 1;
-        }
-        if (!all_list(&shape, words)) {
-            printf("memory: a list of %zu words\n", words);
-            return 1;
-        }
-        if (!makes_desk(&shape, words)) {
-            printf("memory: a desk for a writer of %zu words\n", words);
-            return 1;
-        }
-        if (!batches(&shape, words)) {
-            printf("memory: a batch of %zu words\n", words);
-            return 1;
-        }
-        if (!leaves(&shape, words)) {
-            printf("memory: a desk of %zu words\n", words);
+        const char *const failed = failure(&shape, words);
+        if (failed != NULL) {
+            printf("memory: %s of %zu words\n", failed, words);
             return 1;
         }
     }

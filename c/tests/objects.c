@@ -80,31 +80,21 @@ static void replace(void) {
     MUST(cefrodil_take(&handle, 7, &old, 1, &reply) == CEFRODIL_CLOSED && cefrodil_take_if(&handle, 7, 1, &old, 1, &reply) == CEFRODIL_CLOSED);
 }
 
-static void by_a_reader(cefrodil_handle *reader) {
-    cefrodil_reply reply;
-    uint64_t value = 70, old = 0;
-    MUST(cefrodil_swap(reader, 7, &value, 1, &old, 1, &reply) == CEFRODIL_KIND && cefrodil_take(reader, 7, &old, 1, &reply) == CEFRODIL_KIND);
-    MUST(cefrodil_swap_if(reader, 7, 1, &value, 1, &old, 1, &reply) == CEFRODIL_KIND);
-    MUST(cefrodil_take_if(reader, 7, 1, &old, 1, &reply) == CEFRODIL_KIND);
-    MUST(cefrodil_close(reader) == CEFRODIL_OK);
+/* A cache with room for ITEMS keys, in one shard or in several. The handle tries, or holds the turns. */
+static void opened(uint32_t shards, bool hold) {
+    cefrodil_shape shape;
+    MUST(cefrodil_shape_for_items(ITEMS, shards, &shape) == CEFRODIL_OK && cefrodil_open(&shape, shards, 1, &handle, 1) == CEFRODIL_OK);
+    MUST(!hold || cefrodil_hold(&handle) == CEFRODIL_OK);
 }
 
 int main(void) {
-    cefrodil_shape shape, of_shard;
-    cefrodil_handle reader = CEFRODIL_EMPTY;
-    MUST(cefrodil_shape_for_items(ITEMS, &shape) == CEFRODIL_OK && cefrodil_shape_for_shards(ITEMS, 4, &of_shard) == CEFRODIL_OK);
-    MUST(cefrodil_open(&shape, 1, &handle, &reader, 1) == CEFRODIL_OK);
-    keep_all();
-    by_a_reader(&reader);
-    MUST(cefrodil_open_desk(&shape, 1, &handle, 1) == CEFRODIL_OK);
-    keep_all();
-    MUST(cefrodil_open_shards(&of_shard, 4, 1, &handle, 1) == CEFRODIL_OK);
-    keep_all();
-    MUST(cefrodil_open(&shape, 1, &handle, &reader, 1) == CEFRODIL_OK && cefrodil_close(&reader) == CEFRODIL_OK);
-    replace();
-    MUST(cefrodil_open_desk(&shape, 1, &handle, 1) == CEFRODIL_OK);
-    replace();
-    MUST(cefrodil_open_shards(&of_shard, 4, 1, &handle, 1) == CEFRODIL_OK);
-    replace();
+    for (uint32_t shards = 1; shards <= 4; shards *= 4) {
+        for (int hold = 0; hold < 2; hold++) {
+            opened(shards, hold != 0);
+            keep_all();
+            opened(shards, hold != 0);
+            replace();
+        }
+    }
     return outcome("objects");
 }

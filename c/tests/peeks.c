@@ -9,38 +9,38 @@ static cefrodil_shape shape;
 /* What is done with a key before another one is evicted. */
 enum touch { NOTHING, PEEK, GET };
 
-static void put_new(cefrodil_handle *writer, uint64_t key, uint32_t put, cefrodil_reply *reply) {
-    MUST(cefrodil_put(writer, key, &key, 1, reply) == CEFRODIL_OK && reply->put == put);
+static void put_new(cefrodil_handle *handle, uint64_t key, uint32_t put, cefrodil_reply *reply) {
+    MUST(cefrodil_put(handle, key, &key, 1, reply) == CEFRODIL_OK && reply->put == put);
 }
 
 /* Fills a cache and evicts one key, which leaves no other key used. Touches this key, and returns the key that another put evicts. */
-static uint64_t evicted_after(enum touch touch, uint64_t key) {
-    cefrodil_handle writer = CEFRODIL_EMPTY, reader = CEFRODIL_EMPTY;
+static uint64_t evicted_after(enum touch touch, uint64_t key, bool holds) {
+    cefrodil_handle handle = CEFRODIL_EMPTY;
     cefrodil_reply reply;
     uint64_t value = 0;
-    MUST(cefrodil_open(&shape, 1, &writer, &reader, 1) == CEFRODIL_OK && cefrodil_close(&reader) == CEFRODIL_OK);
+    MUST(cefrodil_open(&shape, 1, 1, &handle, 1) == CEFRODIL_OK && (!holds || cefrodil_hold(&handle) == CEFRODIL_OK));
     for (uint64_t n = 1; n <= ITEMS; n++) {
-        put_new(&writer, n, CEFRODIL_PUT_STORED, &reply);
+        put_new(&handle, n, CEFRODIL_PUT_STORED, &reply);
     }
-    put_new(&writer, ITEMS + 1, CEFRODIL_PUT_EVICTED, &reply);
+    put_new(&handle, ITEMS + 1, CEFRODIL_PUT_EVICTED, &reply);
     if (touch == PEEK) {
-        MUST(cefrodil_peek(&writer, key, &value, 1, &reply) == CEFRODIL_OK && value == key && reply.at == ITEMS + 2 && reply.since == key);
+        MUST(cefrodil_peek(&handle, key, &value, 1, &reply) == CEFRODIL_OK && value == key && reply.at == ITEMS + 2 && reply.since == key);
     }
     if (touch == GET) {
-        MUST(cefrodil_get(&writer, key, &value, 1, &reply) == CEFRODIL_OK && value == key);
+        MUST(cefrodil_get(&handle, key, &value, 1, &reply) == CEFRODIL_OK && value == key);
     }
-    put_new(&writer, ITEMS + 2, CEFRODIL_PUT_EVICTED, &reply);
-    MUST(cefrodil_close(&writer) == CEFRODIL_OK);
+    put_new(&handle, ITEMS + 2, CEFRODIL_PUT_EVICTED, &reply);
+    MUST(cefrodil_close(&handle) == CEFRODIL_OK);
     return reply.evicted;
 }
 
-static void is_no_use(void) {
-    const uint64_t victim = evicted_after(NOTHING, 0);
-    MUST(evicted_after(PEEK, victim) == victim);
-    MUST(evicted_after(GET, victim) != victim);
+static void is_no_use(bool holds) {
+    const uint64_t victim = evicted_after(NOTHING, 0, holds);
+    MUST(evicted_after(PEEK, victim, holds) == victim);
+    MUST(evicted_after(GET, victim, holds) != victim);
 }
 
-/* By the writer of a cache, or by a pass. */
+/* By a handle that tries, or holds. */
 static void answers(cefrodil_handle *handle) {
     uint64_t value[2] = {7, 70}, found[2] = {1, 2};
     cefrodil_reply reply;
@@ -54,26 +54,24 @@ static void answers(cefrodil_handle *handle) {
     MUST(cefrodil_remove(handle, 5, &reply) == CEFRODIL_OK && cefrodil_peek(handle, 5, found, 2, &reply) == CEFRODIL_ABSENT && reply.at == 3);
 }
 
-static void by_each_handle(void) {
-    cefrodil_handle writer = CEFRODIL_EMPTY, reader = CEFRODIL_EMPTY, passes[2] = {CEFRODIL_EMPTY, CEFRODIL_EMPTY};
+static void in_each_way(void) {
+    cefrodil_handle handles[2] = {CEFRODIL_EMPTY, CEFRODIL_EMPTY};
     cefrodil_reply reply;
     uint64_t found[2] = {1, 2};
-    MUST(cefrodil_open(&shape, 2, &writer, &reader, 1) == CEFRODIL_OK);
-    answers(&writer);
-    MUST(cefrodil_peek(&reader, 5, found, 2, &reply) == CEFRODIL_KIND && found[0] == 1);
-    MUST(cefrodil_close(&writer) == CEFRODIL_OK && cefrodil_close(&reader) == CEFRODIL_OK);
-    MUST(cefrodil_peek(&writer, 5, found, 2, &reply) == CEFRODIL_CLOSED && found[0] == 1);
-    MUST(cefrodil_open_desk(&shape, 2, passes, 2) == CEFRODIL_OK);
-    answers(&passes[1]);
-    MUST(cefrodil_close(&passes[0]) == CEFRODIL_OK && cefrodil_close(&passes[1]) == CEFRODIL_OK);
-    MUST(cefrodil_open_shards(&shape, 1, 2, passes, 2) == CEFRODIL_OK);
-    answers(&passes[0]);
-    MUST(cefrodil_close(&passes[0]) == CEFRODIL_OK && cefrodil_close(&passes[1]) == CEFRODIL_OK);
+    MUST(cefrodil_open(&shape, 1, 2, handles, 2) == CEFRODIL_OK);
+    answers(&handles[1]);
+    MUST(cefrodil_close(&handles[0]) == CEFRODIL_OK && cefrodil_close(&handles[1]) == CEFRODIL_OK);
+    MUST(cefrodil_peek(&handles[1], 5, found, 2, &reply) == CEFRODIL_CLOSED && found[0] == 1);
+    MUST(cefrodil_open(&shape, 1, 2, handles, 2) == CEFRODIL_OK && cefrodil_hold(&handles[0]) == CEFRODIL_OK);
+    answers(&handles[0]);
+    MUST(cefrodil_peek(&handles[1], 5, found, 2, &reply) == CEFRODIL_HELD && found[0] == 1 && reply.at == 0);
+    MUST(cefrodil_close(&handles[0]) == CEFRODIL_OK && cefrodil_close(&handles[1]) == CEFRODIL_OK);
 }
 
 int main(void) {
-    MUST(cefrodil_shape_for_items(ITEMS, &shape) == CEFRODIL_OK);
-    is_no_use();
-    by_each_handle();
+    shape = (cefrodil_shape){.buckets = 4, .items = ITEMS, .stripes = 4, .depth = 5, .tries = 8, .limit = UINT64_C(1) << 62};
+    is_no_use(false);
+    is_no_use(true);
+    in_each_way();
     return outcome("peeks");
 }

@@ -15,12 +15,8 @@ static int some_cpuid(unsigned leaf, unsigned *a, unsigned *b, unsigned *c, unsi
 
 /* The openings are guarded here, and not called. */
 #pragma weak proved_cefrodil_shape_for_items
-#pragma weak proved_cefrodil_shape_for_shards
 #pragma weak proved_cefrodil_open
 #pragma weak proved_cefrodil_open_with
-#pragma weak proved_cefrodil_open_desk
-#pragma weak proved_cefrodil_open_shards
-#pragma weak proved_cefrodil_open_shards_with
 
 /* In ECX of leaf 1: SSE3, SSSE3, CMPXCHG16B, SSE4.1, SSE4.2, POPCNT. */
 static const unsigned parts[] = {1u << 0, 1u << 9, 1u << 13, 1u << 19, 1u << 20, 1u << 23};

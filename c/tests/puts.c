@@ -49,65 +49,49 @@ static void have_same_values(struct pair *pair, uint64_t keys) {
     MUST(cefrodil_close(&pair->many) == CEFRODIL_OK && cefrodil_close(&pair->single) == CEFRODIL_OK);
 }
 
-static void by_writers(const cefrodil_shape *shape, int rounds, uint64_t keys) {
+/* Two caches of so many shards, by handles that try, or that hold the turns. */
+static void alike(const cefrodil_shape *shape, uint32_t shards, bool hold, int rounds, uint64_t keys) {
     struct pair pair = {CEFRODIL_EMPTY, CEFRODIL_EMPTY};
-    cefrodil_handle readers[2] = {CEFRODIL_EMPTY, CEFRODIL_EMPTY};
-    MUST(cefrodil_open(shape, WORDS, &pair.many, &readers[0], 1) == CEFRODIL_OK);
-    MUST(cefrodil_open(shape, WORDS, &pair.single, &readers[1], 1) == CEFRODIL_OK);
-    MUST(cefrodil_close(&readers[0]) == CEFRODIL_OK && cefrodil_close(&readers[1]) == CEFRODIL_OK);
+    MUST(cefrodil_open(shape, shards, WORDS, &pair.many, 1) == CEFRODIL_OK && cefrodil_open(shape, shards, WORDS, &pair.single, 1) == CEFRODIL_OK);
+    MUST(!hold || (cefrodil_hold(&pair.many) == CEFRODIL_OK && cefrodil_hold(&pair.single) == CEFRODIL_OK));
     for (int n = 0; n < rounds; n++) {
         put_in_both(&pair, n % (MOST + 1), keys);
     }
     have_same_values(&pair, keys);
 }
 
-static void by_passes(const cefrodil_shape *shape, const cefrodil_shape *of_shard) {
-    struct pair pair = {CEFRODIL_EMPTY, CEFRODIL_EMPTY};
-    MUST(cefrodil_open_desk(shape, WORDS, &pair.many, 1) == CEFRODIL_OK && cefrodil_open_desk(shape, WORDS, &pair.single, 1) == CEFRODIL_OK);
-    /* None, parts of a group of sixteen, and up to two groups and a half. */
-    for (size_t count = 0; count <= MOST; count++) {
-        put_in_both(&pair, count, 60);
-    }
-    have_same_values(&pair, 60);
-    MUST(cefrodil_open_shards(of_shard, 4, WORDS, &pair.many, 1) == CEFRODIL_OK);
-    MUST(cefrodil_open_shards(of_shard, 4, WORDS, &pair.single, 1) == CEFRODIL_OK);
-    put_in_both(&pair, MOST, 60);
-    have_same_values(&pair, 60);
-}
-
 static void misused(const cefrodil_shape *shape) {
-    cefrodil_handle writer = CEFRODIL_EMPTY, reader = CEFRODIL_EMPTY;
+    cefrodil_handle handle = CEFRODIL_EMPTY;
     const uint64_t keys[2] = {1, 2}, values[4] = {10, 11, 20, 21};
     cefrodil_put_answer answers[2] = {{{99, 99, 99, 99, 99}, 99, 99}, {{99, 99, 99, 99, 99}, 99, 99}};
     const cefrodil_reply untouched = answers[0].reply;
     uint64_t len = 99;
-    MUST(cefrodil_put_many(&writer, keys, 2, values, 4, answers, 2) == CEFRODIL_CLOSED);
-    MUST(cefrodil_open(shape, WORDS, &writer, &reader, 1) == CEFRODIL_OK);
-    MUST(cefrodil_put_many(&writer, keys, 2, values, 4, answers, 1) == CEFRODIL_BAD_COUNT);
-    MUST(cefrodil_put_many(&writer, keys, 2, values, 3, answers, 2) == CEFRODIL_WIDTH);
-    MUST(cefrodil_put_many(&writer, NULL, 0, NULL, 0, NULL, 0) == CEFRODIL_OK);
-    MUST(answers[0].status == 99 && answers[0].reply.at == untouched.at && cefrodil_len(&writer, &len) == CEFRODIL_OK && len == 0);
-    MUST(cefrodil_put_many(&reader, keys, 2, values, 4, answers, 2) == CEFRODIL_OK);
-    MUST(answers[0].status == CEFRODIL_KIND && answers[1].status == CEFRODIL_KIND && answers[0].reply.at == 0);
-    MUST(cefrodil_close(&writer) == CEFRODIL_OK && cefrodil_close(&reader) == CEFRODIL_OK);
+    MUST(cefrodil_put_many(&handle, keys, 2, values, 4, answers, 2) == CEFRODIL_CLOSED);
+    MUST(cefrodil_open(shape, 1, WORDS, &handle, 1) == CEFRODIL_OK);
+    MUST(cefrodil_put_many(&handle, keys, 2, values, 4, answers, 1) == CEFRODIL_BAD_COUNT);
+    MUST(cefrodil_put_many(&handle, keys, 2, values, 3, answers, 2) == CEFRODIL_WIDTH);
+    MUST(cefrodil_put_many(&handle, NULL, 0, NULL, 0, NULL, 0) == CEFRODIL_OK);
+    MUST(answers[0].status == 99 && answers[0].reply.at == untouched.at && cefrodil_len(&handle, &len) == CEFRODIL_OK && len == 0);
+    MUST(cefrodil_close(&handle) == CEFRODIL_OK);
 }
 
 int main(void) {
     cefrodil_shape shape, narrow, large, of_shard;
-    MUST(cefrodil_shape_for_items(30, &shape) == CEFRODIL_OK && cefrodil_shape_for_items(240000, &large) == CEFRODIL_OK);
-    MUST(cefrodil_shape_for_shards(30, 4, &of_shard) == CEFRODIL_OK);
+    MUST(cefrodil_shape_for_items(30, 1, &shape) == CEFRODIL_OK && cefrodil_shape_for_items(240000, 1, &large) == CEFRODIL_OK);
+    MUST(cefrodil_shape_for_items(30, 4, &of_shard) == CEFRODIL_OK);
+    shape.items = 30;
     /* Full buckets without moves, so some puts are refused. */
     narrow = (cefrodil_shape){.buckets = 8, .items = 32, .stripes = 1, .depth = 0, .tries = 4, .mix = CEFRODIL_MIX_FULL, .limit = 400};
-    by_writers(&shape, 100, 60);
-    by_writers(&narrow, 100, 60);
-    MUST(refused > 0);
     /* Large enough that words are loaded ahead. */
     MUST(large.buckets >= 131072);
-    by_writers(&large, 3000, 250000);
-    by_passes(&shape, &of_shard);
-    refused = 0;
-    by_passes(&narrow, &of_shard);
-    MUST(refused > 0);
+    for (int hold = 0; hold < 2; hold++) {
+        alike(&shape, 1, hold != 0, 100, 60);
+        alike(&of_shard, 4, hold != 0, 100, 60);
+        refused = 0;
+        alike(&narrow, 1, hold != 0, 100, 60);
+        MUST(refused > 0);
+        alike(&large, 1, hold != 0, 3000, 250000);
+    }
     misused(&shape);
     return outcome("puts");
 }

@@ -17,7 +17,7 @@ static const struct {
     {CEFRODIL_CHANGED, "changed"},
     {CEFRODIL_HELD, "held"},
     {CEFRODIL_CLOSED, "the handle is not open"},
-    {CEFRODIL_KIND, "a handle of this kind has no such call"},
+    {CEFRODIL_HOLDS, "the handle holds the turns already"},
     {CEFRODIL_WIDTH, "values of this cache have another number of words"},
     {CEFRODIL_IN_USE, "the handle is open already"},
     {CEFRODIL_NO_MEMORY, "no memory"},
@@ -29,12 +29,12 @@ static const struct {
     {CEFRODIL_BAD_DEPTH, "depth must be from 0 to 8"},
     {CEFRODIL_BAD_TRIES, "tries must be from 1 to 64"},
     {CEFRODIL_BAD_LIMIT, "limit must be from 0 to 4611686018427387904"},
-    {CEFRODIL_BAD_READERS, "readers or passes must be from 1 to 1024, and no more than there are to spare"},
+    {CEFRODIL_BAD_HANDLES, "handles must be from 1 to 1024, and no more than there are to spare"},
     {CEFRODIL_BAD_COUNT, "counts that belong together do not fit"},
     {CEFRODIL_NO_ITEM, "no item"},
     {CEFRODIL_BAD_SHARDS, "shards must be a power of two from 1 to 256"},
     {CEFRODIL_PRESENT, "present"},
-    {CEFRODIL_NOT_LAST, "other passes are at the desk"},
+    {CEFRODIL_HOLDS_NOT, "the handle holds no turns"},
     {CEFRODIL_PROCESSOR, "the processor is older than x86-64-v2"},
 };
 

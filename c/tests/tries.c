@@ -1,11 +1,10 @@
-/* Puts whose tries are all held: a list allocates in its turn, and there another pass puts. Under callgrind, which counts the instructions of
+/* Puts whose tries are all held: a list allocates in its turn, and there another handle puts. Under callgrind, which counts the instructions of
  * `put_while_held` alone, the counts say how many tries were made. Linked with --wrap.
  *
- * usage: tries [TRIES [KIND]]     KIND: desk or shards; without arguments, each with three tries */
+ * usage: tries [TRIES]     none: three tries */
 #include "cefrodil.h"
 #include "must.h"
 #include <stdlib.h>
-#include <string.h>
 
 enum { KEYS = 100, ENTRY = 2 };
 
@@ -13,7 +12,7 @@ void *__real_malloc(size_t size);
 void *__real_realloc(void *block, size_t size);
 void __real_free(void *block);
 
-static cefrodil_handle passes[2];
+static cefrodil_handle handles[2];
 static uint32_t tries;
 static bool is_listing;
 static int calls;
@@ -22,7 +21,7 @@ __attribute__((noinline)) static void put_while_held(void) {
     cefrodil_reply reply;
     uint64_t value = 7;
     calls++;
-    MUST(cefrodil_put_within(&passes[1], tries, 1, &value, 1, &reply) == CEFRODIL_HELD);
+    MUST(cefrodil_put_within(&handles[1], tries, 1, &value, 1, &reply) == CEFRODIL_HELD);
 }
 
 void *__wrap_malloc(size_t size) {
@@ -41,27 +40,16 @@ void __wrap_free(void *block) {
     __real_free(block);
 }
 
-static void list_and_put(bool by_shards) {
+int main(int argc, char **argv) {
     static uint64_t list[KEYS * ENTRY];
     cefrodil_shape shape;
     cefrodil_reply reply;
-    uint64_t count, value = 5;
-    MUST(cefrodil_shape_for_items(KEYS, &shape) == CEFRODIL_OK);
-    MUST((by_shards ? cefrodil_open_shards(&shape, 1, 1, passes, 2) : cefrodil_open_desk(&shape, 1, passes, 2)) == CEFRODIL_OK);
-    MUST(cefrodil_put(&passes[0], 2, &value, 1, &reply) == CEFRODIL_OK);
-    calls = 0;
-    is_listing = true;
-    MUST(cefrodil_entries(&passes[0], list, KEYS * ENTRY, &count) == CEFRODIL_OK && count == 1 && calls == 1);
-    MUST(cefrodil_close(&passes[0]) == CEFRODIL_OK && cefrodil_close(&passes[1]) == CEFRODIL_OK);
-}
-
-int main(int argc, char **argv) {
+    uint64_t count = 0, value = 5;
     tries = argc > 1 ? (uint32_t)strtoul(argv[1], NULL, 10) : 3;
-    if (argc < 3 || strcmp(argv[2], "desk") == 0) {
-        list_and_put(false);
-    }
-    if (argc < 3 || strcmp(argv[2], "shards") == 0) {
-        list_and_put(true);
-    }
+    MUST(cefrodil_shape_for_items(KEYS, 1, &shape) == CEFRODIL_OK && cefrodil_open(&shape, 1, 1, handles, 2) == CEFRODIL_OK);
+    MUST(cefrodil_put(&handles[0], 2, &value, 1, &reply) == CEFRODIL_OK);
+    is_listing = true;
+    MUST(cefrodil_entries(&handles[0], list, KEYS * ENTRY, &count) == CEFRODIL_OK && count == 1 && calls == 1);
+    MUST(cefrodil_close(&handles[0]) == CEFRODIL_OK && cefrodil_close(&handles[1]) == CEFRODIL_OK);
     return outcome("tries");
 }

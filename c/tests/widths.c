@@ -1,8 +1,9 @@
-/* cefrodil_get, cefrodil_put and cefrodil_get_or_desk for values of each width: where the compiler knows `words`, and where it does not. */
+/* cefrodil_get, cefrodil_put and cefrodil_get_or_turn for values of each width: where the compiler knows `words`, and where it does not. */
 #include "cefrodil.h"
 #include "must.h"
 
-static cefrodil_handle writer, reader, none;
+static cefrodil_handle handles[2], none;
+static cefrodil_handle *const one = &handles[0], *const other = &handles[1];
 static cefrodil_reply reply;
 
 /* A number that the compiler does not know. */
@@ -21,77 +22,73 @@ static bool is_found(const uint64_t *found, const uint64_t *value, size_t words)
     return found[words] == 9;
 }
 
-/* Values of `words` words are put and found. Those of `other` words are refused. The compiler knows both numbers. */
-static inline __attribute__((always_inline)) void serves(size_t words, size_t other) {
+/* Values of `words` words are put and found. Those of `wrong` words are refused. The compiler knows both numbers. */
+static inline __attribute__((always_inline)) void serves(size_t words, size_t wrong) {
     const uint64_t first[8] = {1, 2, 3, 4, 5, 6, 7, 8}, second[8] = {11, 12, 13, 14, 15, 16, 17, 18};
-    uint64_t found[9] = {9, 9, 9, 9, 9, 9, 9, 9, 9};
-    cefrodil_shape shape;
-    MUST(cefrodil_shape_for_items(20, &shape) == CEFRODIL_OK && cefrodil_open(&shape, words, &writer, &reader, 1) == CEFRODIL_OK);
+    uint64_t found[9] = {9, 9, 9, 9, 9, 9, 9, 9, 9}, again[9] = {9, 9, 9, 9, 9, 9, 9, 9, 9};
 
-    MUST(cefrodil_get(&reader, 5, found, words, &reply) == CEFRODIL_ABSENT && reply.at == 0 && found[0] == 9);
-    MUST(cefrodil_put(&writer, 5, first, words, &reply) == CEFRODIL_OK && reply.at == 1 && reply.put == CEFRODIL_PUT_STORED);
-    MUST(cefrodil_get(&reader, 5, found, unknown(words), &reply) == CEFRODIL_OK && reply.since == 1 && is_found(found, first, words));
-    MUST(cefrodil_put(&writer, 5, second, unknown(words), &reply) == CEFRODIL_OK && reply.at == 2 && reply.put == CEFRODIL_PUT_RENEWED);
-    MUST(cefrodil_get(&reader, 5, found, words, &reply) == CEFRODIL_OK && reply.since == 2 && is_found(found, second, words));
-    MUST(cefrodil_get(&writer, 5, found, words, NULL) == CEFRODIL_OK && is_found(found, second, words));
+    MUST(cefrodil_get(other, 5, found, words, &reply) == CEFRODIL_ABSENT && reply.at == 0 && found[0] == 9);
+    MUST(cefrodil_get_or_turn(other, 5, found, words, &reply) == CEFRODIL_ABSENT && reply.at == 0 && found[0] == 9);
+    MUST(cefrodil_put(one, 5, first, words, &reply) == CEFRODIL_OK && reply.at == 1 && reply.put == CEFRODIL_PUT_STORED);
+    MUST(cefrodil_get(other, 5, found, unknown(words), &reply) == CEFRODIL_OK && reply.since == 1 && is_found(found, first, words));
+    MUST(cefrodil_get_or_turn(other, 5, again, words, &reply) == CEFRODIL_OK && reply.since == 1 && is_found(again, first, words));
+    MUST(cefrodil_put(one, 5, second, unknown(words), &reply) == CEFRODIL_OK && reply.at == 2 && reply.put == CEFRODIL_PUT_RENEWED);
+    MUST(cefrodil_get(other, 5, found, words, &reply) == CEFRODIL_OK && reply.since == 2 && is_found(found, second, words));
+    MUST(cefrodil_get_or_turn(other, 5, again, unknown(words), &reply) == CEFRODIL_OK && reply.since == 2 && is_found(again, second, words));
+    MUST(cefrodil_get(one, 5, found, words, NULL) == CEFRODIL_OK && is_found(found, second, words));
 
-    MUST(cefrodil_put(&writer, 5, first, other, &reply) == CEFRODIL_WIDTH && reply.at == 0);
-    MUST(cefrodil_put(&writer, 5, first, unknown(other), &reply) == CEFRODIL_WIDTH && reply.at == 0);
-    MUST(cefrodil_get(&reader, 5, found, other, &reply) == CEFRODIL_WIDTH && reply.at == 0 && is_found(found, second, words));
-    MUST(cefrodil_get(&reader, 5, found, unknown(other), &reply) == CEFRODIL_WIDTH && is_found(found, second, words));
-    MUST(cefrodil_get(&writer, 5, found, words, &reply) == CEFRODIL_OK && reply.at == 2);
+    MUST(cefrodil_put(one, 5, first, wrong, &reply) == CEFRODIL_WIDTH && reply.at == 0);
+    MUST(cefrodil_put(one, 5, first, unknown(wrong), &reply) == CEFRODIL_WIDTH && reply.at == 0);
+    MUST(cefrodil_get(other, 5, found, wrong, &reply) == CEFRODIL_WIDTH && reply.at == 0 && is_found(found, second, words));
+    MUST(cefrodil_get(other, 5, found, unknown(wrong), &reply) == CEFRODIL_WIDTH && is_found(found, second, words));
+    MUST(cefrodil_get_or_turn(other, 5, found, wrong, &reply) == CEFRODIL_WIDTH && reply.since == 0 && is_found(found, second, words));
+    MUST(cefrodil_get_or_turn(other, 5, found, unknown(wrong), &reply) == CEFRODIL_WIDTH && is_found(found, second, words));
+    MUST(cefrodil_get(one, 5, found, words, &reply) == CEFRODIL_OK && reply.at == 2);
 
-    MUST(cefrodil_put(&reader, 5, first, words, &reply) == CEFRODIL_KIND && cefrodil_put(&reader, 5, first, unknown(words), &reply) == CEFRODIL_KIND);
-    MUST(cefrodil_put(&reader, 5, first, other, &reply) == CEFRODIL_KIND && cefrodil_put(&reader, 5, first, unknown(other), &reply) == CEFRODIL_KIND);
-    MUST(cefrodil_get_or_desk(&reader, 5, found, words, &reply) == CEFRODIL_KIND);
-    MUST(cefrodil_get_or_desk(&reader, 5, found, unknown(words), &reply) == CEFRODIL_KIND);
-    MUST(cefrodil_get_or_desk(&writer, 5, found, words, &reply) == CEFRODIL_KIND);
-    MUST(cefrodil_get_or_desk(&writer, 5, found, unknown(words), &reply) == CEFRODIL_KIND);
-    MUST(cefrodil_get_or_desk(&none, 5, found, words, &reply) == CEFRODIL_CLOSED);
-    MUST(cefrodil_get_or_desk(&none, 5, found, unknown(words), &reply) == CEFRODIL_CLOSED);
-    MUST(cefrodil_put(&none, 5, first, words, &reply) == CEFRODIL_CLOSED && cefrodil_get(&none, 5, found, words, &reply) == CEFRODIL_CLOSED);
+    MUST(cefrodil_get_or_turn(&none, 5, found, words, &reply) == CEFRODIL_CLOSED);
+    MUST(cefrodil_get_or_turn(&none, 5, found, unknown(words), &reply) == CEFRODIL_CLOSED);
+    MUST(cefrodil_put(&none, 5, first, words, &reply) == CEFRODIL_CLOSED && cefrodil_put(&none, 5, first, unknown(words), &reply) == CEFRODIL_CLOSED);
+    MUST(cefrodil_get(&none, 5, found, words, &reply) == CEFRODIL_CLOSED);
     MUST(cefrodil_get(&none, 5, found, unknown(words), &reply) == CEFRODIL_CLOSED && is_found(found, second, words));
-    MUST(cefrodil_close(&reader) == CEFRODIL_OK && cefrodil_close(&writer) == CEFRODIL_OK);
 }
 
-/* The same by a pass, which may ask the desk. */
-static inline __attribute__((always_inline)) void serves_by_a_pass(size_t words, size_t other) {
-    const uint64_t value[8] = {1, 2, 3, 4, 5, 6, 7, 8};
-    uint64_t found[9] = {9, 9, 9, 9, 9, 9, 9, 9, 9}, again[9] = {9, 9, 9, 9, 9, 9, 9, 9, 9};
-    cefrodil_handle pass = CEFRODIL_EMPTY;
+static void opened(size_t words) {
     cefrodil_shape shape;
-    MUST(cefrodil_shape_for_items(20, &shape) == CEFRODIL_OK && cefrodil_open_desk(&shape, words, &pass, 1) == CEFRODIL_OK);
-    MUST(cefrodil_get_or_desk(&pass, 5, found, words, &reply) == CEFRODIL_ABSENT && reply.at == 0 && found[0] == 9);
-    MUST(cefrodil_put(&pass, 5, value, words, &reply) == CEFRODIL_OK && reply.at == 1);
-    MUST(cefrodil_get_or_desk(&pass, 5, found, words, &reply) == CEFRODIL_OK && reply.since == 1 && is_found(found, value, words));
-    MUST(cefrodil_get_or_desk(&pass, 5, again, unknown(words), &reply) == CEFRODIL_OK && reply.since == 1 && is_found(again, value, words));
-    MUST(cefrodil_get_or_desk(&pass, 5, found, other, &reply) == CEFRODIL_WIDTH && reply.since == 0 && is_found(found, value, words));
-    MUST(cefrodil_get_or_desk(&pass, 5, found, unknown(other), &reply) == CEFRODIL_WIDTH && is_found(found, value, words));
-    MUST(cefrodil_close(&pass) == CEFRODIL_OK && cefrodil_get_or_desk(&pass, 5, found, words, &reply) == CEFRODIL_CLOSED);
+    MUST(cefrodil_shape_for_items(20, 1, &shape) == CEFRODIL_OK && cefrodil_open(&shape, 1, words, handles, 2) == CEFRODIL_OK);
+}
+
+static void close_both(void) { MUST(cefrodil_close(one) == CEFRODIL_OK && cefrodil_close(other) == CEFRODIL_OK); }
+
+/* By a handle that tries, and by one that holds the turns. */
+static inline __attribute__((always_inline)) void serves_in_each_way(size_t words, size_t wrong) {
+    opened(words);
+    serves(words, wrong);
+    close_both();
+    opened(words);
+    MUST(cefrodil_hold(one) == CEFRODIL_OK);
+    serves(words, wrong);
+    close_both();
+    opened(words);
+    MUST(cefrodil_hold(other) == CEFRODIL_OK);
+    const uint64_t value[8] = {1, 2, 3, 4, 5, 6, 7, 8};
+    MUST(cefrodil_put(one, 5, value, words, &reply) == CEFRODIL_HELD && cefrodil_put(one, 5, value, unknown(words), &reply) == CEFRODIL_HELD);
+    close_both();
 }
 
 int main(void) {
     uint64_t value[9] = {0};
-    serves(1, 2);
-    serves(2, 3);
-    serves(3, 4);
-    serves(4, 5);
-    serves(5, 6);
-    serves(6, 7);
-    serves(7, 8);
-    serves(8, 1);
-    serves_by_a_pass(1, 2);
-    serves_by_a_pass(2, 3);
-    serves_by_a_pass(3, 4);
-    serves_by_a_pass(4, 5);
-    serves_by_a_pass(5, 6);
-    serves_by_a_pass(6, 7);
-    serves_by_a_pass(7, 8);
-    serves_by_a_pass(8, 1);
-    cefrodil_shape shape;
-    MUST(cefrodil_shape_for_items(20, &shape) == CEFRODIL_OK && cefrodil_open(&shape, 8, &writer, &reader, 1) == CEFRODIL_OK);
-    MUST(cefrodil_get(&reader, 1, value, 9, &reply) == CEFRODIL_WIDTH && cefrodil_put(&writer, 1, value, 9, &reply) == CEFRODIL_WIDTH);
-    MUST(cefrodil_get(&reader, 1, value, 0, &reply) == CEFRODIL_WIDTH && cefrodil_put(&writer, 1, value, 0, &reply) == CEFRODIL_WIDTH);
-    MUST(cefrodil_close(&reader) == CEFRODIL_OK && cefrodil_close(&writer) == CEFRODIL_OK);
+    serves_in_each_way(1, 2);
+    serves_in_each_way(2, 3);
+    serves_in_each_way(3, 4);
+    serves_in_each_way(4, 5);
+    serves_in_each_way(5, 6);
+    serves_in_each_way(6, 7);
+    serves_in_each_way(7, 8);
+    serves_in_each_way(8, 1);
+    opened(8);
+    MUST(cefrodil_get(other, 1, value, 9, &reply) == CEFRODIL_WIDTH && cefrodil_put(one, 1, value, 9, &reply) == CEFRODIL_WIDTH);
+    MUST(cefrodil_get(other, 1, value, 0, &reply) == CEFRODIL_WIDTH && cefrodil_put(one, 1, value, 0, &reply) == CEFRODIL_WIDTH);
+    MUST(cefrodil_get_or_turn(one, 1, value, 9, &reply) == CEFRODIL_WIDTH && cefrodil_get_or_turn(one, 1, value, 0, &reply) == CEFRODIL_WIDTH);
+    close_both();
     return outcome("widths");
 }

@@ -1,6 +1,6 @@
-/* Threads that write by turns: each adds to counters of the cache, and no addition is lost. Reads as C and as C++.
+/* Threads add to counters of the cache, and no addition is lost: each writes only over what it has read. Reads as C and as C++.
  *
- * usage: desk [ADDITIONS]     how many each thread makes; none: 20000 */
+ * usage: counters [ADDITIONS]     how many each thread makes; none: 20000 */
 #include "cefrodil.h"
 #include <pthread.h>
 #include <sched.h>
@@ -9,7 +9,7 @@
 
 enum { THREADS = 4, COUNTERS = 8 };
 
-static cefrodil_handle passes[THREADS];
+static cefrodil_handle handles[THREADS];
 static uint64_t additions = 20000;
 
 static void must(uint32_t status, const char *what) {
@@ -20,24 +20,24 @@ static void must(uint32_t status, const char *what) {
 }
 
 /* Reads the counter, and puts one more if nobody has put it since. */
-static uint32_t add_one(cefrodil_handle *pass, uint64_t key) {
+static uint32_t add_one(cefrodil_handle *handle, uint64_t key) {
     uint64_t value = 0;
     cefrodil_reply reply;
-    uint32_t status = cefrodil_get(pass, key, &value, 1, &reply);
+    uint32_t status = cefrodil_get(handle, key, &value, 1, &reply);
     if (status != CEFRODIL_OK) {
         return status;
     }
     value++;
-    return cefrodil_put_if(pass, key, reply.since, &value, 1, &reply);
+    return cefrodil_put_if(handle, key, reply.since, &value, 1, &reply);
 }
 
-static void *add_many(void *handle) {
-    cefrodil_handle *pass = (cefrodil_handle *)handle;
+static void *add_many(void *argument) {
+    cefrodil_handle *handle = (cefrodil_handle *)argument;
     for (uint64_t i = 0; i < additions; i++) {
-        uint32_t status = add_one(pass, i % COUNTERS);
+        uint32_t status = add_one(handle, i % COUNTERS);
         while (status == CEFRODIL_BUSY || status == CEFRODIL_HELD || status == CEFRODIL_CHANGED) {
             sched_yield();
-            status = add_one(pass, i % COUNTERS);
+            status = add_one(handle, i % COUNTERS);
         }
         must(status, "add");
     }
@@ -52,14 +52,14 @@ int main(int argc, char **argv) {
     if (argc > 1) {
         additions = strtoull(argv[1], NULL, 10);
     }
-    must(cefrodil_shape_for_items(100, &shape), "shape");
-    must(cefrodil_open_desk(&shape, 1, passes, THREADS), "open");
+    must(cefrodil_shape_for_items(100, 1, &shape), "shape");
+    must(cefrodil_open(&shape, 1, 1, handles, THREADS), "open");
     for (uint64_t key = 0; key < COUNTERS; key++) {
         uint64_t none = 0;
-        must(cefrodil_put(&passes[0], key, &none, 1, &reply), "put");
+        must(cefrodil_put(&handles[0], key, &none, 1, &reply), "put");
     }
     for (int i = 0; i < THREADS; i++) {
-        if (pthread_create(&threads[i], NULL, add_many, &passes[i]) != 0) {
+        if (pthread_create(&threads[i], NULL, add_many, &handles[i]) != 0) {
             return 1;
         }
     }
@@ -68,11 +68,11 @@ int main(int argc, char **argv) {
     }
     for (uint64_t key = 0; key < COUNTERS; key++) {
         uint64_t value = 0;
-        must(cefrodil_get_or_desk(&passes[0], key, &value, 1, &reply), "get");
+        must(cefrodil_get_or_turn(&handles[0], key, &value, 1, &reply), "get");
         sum += value;
     }
     for (int i = 0; i < THREADS; i++) {
-        must(cefrodil_close(&passes[i]), "close");
+        must(cefrodil_close(&handles[i]), "close");
     }
     printf("%llu additions\n", (unsigned long long)sum);
     return sum != THREADS * additions;
