@@ -102,6 +102,7 @@ int main() {
     for (uint64_t key = 0; key < KEYS; key++) {
         MUST(map.insert(key, key).status == Status::ok);
     }
+    MUST(writing.put(1, {1}).status == Status::ok && writing.get(1).status == Status::ok && writing.meter().counts().hits == 1);
     std::vector<std::thread> threads;
     threads.emplace_back(churn);
     threads.emplace_back(write_on);
