@@ -101,9 +101,9 @@ template <size_t Words> class Handle : public inside::Calls<Words> {
     [[nodiscard]] Status hold(Writing<Words> &writing) & noexcept { return writing.begin(*this, this); }
 };
 
-// Holds the turns of all shards. Nobody else writes meanwhile: its writes are never held, its lookups never busy, and each list and number is that
-// of one moment, of all shards. It begins by Handle::hold, or by `own`. It ends with its scope, or before. Of one that holds nothing, each call is
-// closed.
+// A guard that holds the turns of all shards. Nobody else writes meanwhile: its writes are never held, its lookups never busy, and each list and
+// number is that of one moment, of all shards. It begins by Handle::hold or by `own`, and ends with its scope or by `end`. A guard that holds nothing
+// returns closed from each call.
 template <size_t Words> class Writing : private inside::Calls<Words> {
     using Calls = inside::Calls<Words>;
 
@@ -121,9 +121,9 @@ template <size_t Words> class Writing : private inside::Calls<Words> {
     }
     ~Writing() { end(); }
 
-    // Like Handle::hold, but this keeps the handle, too: for a program that writes in one place for good. Unless ok, `handle` is as it was.
+    // Like Handle::hold, but the guard keeps the handle, too: for a program that writes in one place for good. Unless ok, `handle` is as it was.
     [[nodiscard]] Status own(Handle<Words> &&handle) noexcept { return begin(handle, nullptr); }
-    // Gives the turns back, and returns the handle that `own` took. If that took none, does nothing, and the handle that it returns is not open.
+    // Gives the turns back, and returns the handle that `own` took. A guard that owns none does nothing, and returns a handle that is not open.
     [[nodiscard]] Handle<Words> disown() noexcept {
         Handle<Words> handle;
         if (lender_ == nullptr && holds()) {
@@ -180,13 +180,13 @@ template <size_t Words> class Writing : private inside::Calls<Words> {
         return status;
     }
     void release_to(Handle<Words> &handle) noexcept {
-        // This holds, so it can't fail.
+        // It holds, so this can't fail.
         const cefrodil_status released = cefrodil_release(this->raw());
         static_cast<void>(released);
         inside::Counting::move(*this, handle);
     }
 
-    Handle<Words> *lender_ = nullptr; // null: this owns the handle
+    Handle<Words> *lender_ = nullptr; // null: the guard owns the handle
 };
 
 // The shape of each of `shards` shards that hold `items` items together, or none if one of both is out of range. There is none, either, if no cache

@@ -18,7 +18,8 @@ static_assert(!std::is_copy_constructible_v<Writing<2>> && std::is_nothrow_move_
 static_assert(!std::is_copy_assignable_v<Writing<2>> && std::is_nothrow_move_assignable_v<Writing<2>>);
 static_assert(!std::is_convertible_v<Status, bool>);
 // A handle has one width, and what it is made of is none.
-static_assert(!std::is_constructible_v<Handle<4>, Handle<1>> && !std::is_default_constructible_v<OpenHandle> && !std::is_move_constructible_v<OpenHandle>);
+static_assert(!std::is_constructible_v<Handle<4>, Handle<1>>);
+static_assert(!std::is_default_constructible_v<OpenHandle> && !std::is_move_constructible_v<OpenHandle>);
 static_assert(!std::is_default_constructible_v<cefrodil::inside::Calls<1>> && !std::is_move_constructible_v<cefrodil::inside::Calls<1>>);
 // A guard is no handle, nor does it become one, but by its end.
 static_assert(!std::is_constructible_v<Handle<1>, Writing<1>> && !std::is_convertible_v<Writing<1> &, OpenHandle &>);
@@ -44,7 +45,8 @@ static_assert(noexcept(any<Handle<1>>().try_swap(1, {1})) && noexcept(any<Handle
 static_assert(noexcept(any<Handle<1>>().try_take(1)) && noexcept(any<Handle<1>>().try_take_if(1, 1)));
 static_assert(noexcept(any<Handle<1>>().try_len(any<uint64_t>())) && noexcept(any<Handle<1>>().try_moment(any<uint64_t>())));
 static_assert(noexcept(any<Handle<1>>().hold(any<Writing<1>>())) && noexcept(any<Handle<1>>().raw()) && noexcept(any<Handle<1>>().meter()));
-static_assert(noexcept(any<Writing<1>>().own(std::declval<Handle<1>>())) && noexcept(any<Writing<1>>().disown()) && noexcept(any<Writing<1>>().end()));
+static_assert(noexcept(any<Writing<1>>().own(std::declval<Handle<1>>())) && noexcept(any<Writing<1>>().disown()));
+static_assert(noexcept(any<Writing<1>>().end()));
 static_assert(noexcept(any<Writing<1>>().holds()) && noexcept(any<Writing<1>>().get(1)) && noexcept(any<Writing<1>>().peek(1)));
 static_assert(noexcept(any<Writing<1>>().put(1, {1})) && noexcept(any<Writing<1>>().put_if(1, 1, {1})) && noexcept(any<Writing<1>>().remove(1)));
 static_assert(noexcept(any<Writing<1>>().put_if_absent(1, {1})) && noexcept(any<Writing<1>>().put_many(nullptr, 0, nullptr, nullptr)));
