@@ -2,28 +2,28 @@
 #include "cefrodil.h"
 #include <mutex>
 
-// The cache as programs in C call it. A thread has a handle of its own while it looks up.
+// The cache as programs in C call it: with one shard, whose turn one handle holds. A thread has another handle while it looks up.
 struct Door {
     enum { READERS = 8 };
     cefrodil_shape shape;
-    cefrodil_handle writer = CEFRODIL_EMPTY;
-    cefrodil_handle readers[READERS] = {};
+    cefrodil_handle handles[READERS + 1] = {}; // the last one holds
     int left = READERS;
     std::mutex lending;
     static thread_local cefrodil_handle mine;
 
     // Of the size of the other tables, at most 0.96 full.
     explicit Door(size_t keys) {
-        if (cefrodil_shape_for_items(uint32_t(keys), &shape) != CEFRODIL_OK) abort();
+        if (cefrodil_shape_for_shards(uint32_t(keys), 1, &shape) != CEFRODIL_OK) abort();
+        shape.items = uint32_t(keys);
         shape.buckets = 2;
         while (384 * size_t(shape.buckets) < 100 * keys) shape.buckets *= 2;
         shape.stripes = 8192;
-        if (cefrodil_open(&shape, 4, &writer, readers, READERS) != CEFRODIL_OK) abort();
+        if (cefrodil_open_shards(&shape, 1, 4, handles, READERS + 1) != CEFRODIL_OK) abort();
+        if (cefrodil_hold(&handles[READERS]) != CEFRODIL_OK) abort();
     }
 
     ~Door() {
-        for (auto &reader : readers) cefrodil_close(&reader);
-        cefrodil_close(&writer);
+        for (auto &handle : handles) cefrodil_close(&handle);
     }
 
     bool get(uint64_t key, Value &value) {
@@ -41,12 +41,12 @@ struct Door {
 
     bool put(uint64_t key, const Value &value) {
         cefrodil_reply reply;
-        return cefrodil_put(&writer, key, value.data(), value.size(), &reply) == CEFRODIL_OK;
+        return cefrodil_put(&handles[READERS], key, value.data(), value.size(), &reply) == CEFRODIL_OK;
     }
 
     size_t put_many(const uint64_t *keys, const Value *values, size_t many) {
         cefrodil_put_answer answers[MOST];
-        if (cefrodil_put_many(&writer, keys, many, values[0].data(), 4 * many, answers, many) != CEFRODIL_OK) abort();
+        if (cefrodil_put_many(&handles[READERS], keys, many, values[0].data(), 4 * many, answers, many) != CEFRODIL_OK) abort();
         size_t refused = 0;
         for (size_t n = 0; n < many; n++) refused += answers[n].status != CEFRODIL_OK;
         return refused;
@@ -58,15 +58,15 @@ struct Door {
     void enter() {
         std::lock_guard<std::mutex> lent(lending);
         if (left == 0) abort();
-        mine = readers[--left];
-        readers[left] = CEFRODIL_EMPTY;
+        mine = handles[--left];
+        handles[left] = CEFRODIL_EMPTY;
     }
 
     void tick() {}
 
     void leave() {
         std::lock_guard<std::mutex> lent(lending);
-        readers[left++] = mine;
+        handles[left++] = mine;
         mine = CEFRODIL_EMPTY;
     }
 };

@@ -8,27 +8,27 @@
 #include <malloc.h>
 #include <vector>
 
+// A table of one shard. The first handle holds its turn.
 struct Open {
-    cefrodil_handle writer = CEFRODIL_EMPTY;
-    std::vector<cefrodil_handle> readers;
+    std::vector<cefrodil_handle> handles;
     double seconds;
 
-    Open(const cefrodil_shape &shape, size_t many) : readers(many, cefrodil_handle(CEFRODIL_EMPTY)) {
+    Open(const cefrodil_shape &shape, size_t many) : handles(many, cefrodil_handle(CEFRODIL_EMPTY)) {
         double began = now(true);
-        if (cefrodil_open(&shape, 4, &writer, readers.data(), many) != CEFRODIL_OK) abort();
+        if (cefrodil_open_shards(&shape, 1, 4, handles.data(), many) != CEFRODIL_OK) abort();
         seconds = now(true) - began;
+        if (cefrodil_hold(&handles[0]) != CEFRODIL_OK) abort();
     }
 
     ~Open() {
-        for (auto &reader : readers) cefrodil_close(&reader);
-        cefrodil_close(&writer);
+        for (auto &handle : handles) cefrodil_close(&handle);
     }
 
     // What a put of the key answers, and how long it took.
     uint32_t put(uint64_t key, cefrodil_reply &reply, double &took) {
         uint64_t value[4] = {1, 1, 1, 1};
         double began = now(true);
-        uint32_t status = cefrodil_put(&writer, key, value, 4, &reply);
+        uint32_t status = cefrodil_put(&handles[0], key, value, 4, &reply);
         took = now(true) - began;
         return status;
     }
@@ -36,7 +36,7 @@ struct Open {
     bool get(uint64_t key) {
         uint64_t value[4];
         cefrodil_reply reply;
-        return cefrodil_get(&readers[0], key, value, 4, &reply) == CEFRODIL_OK;
+        return cefrodil_get(&handles[1], key, value, 4, &reply) == CEFRODIL_OK;
     }
 };
 
@@ -47,7 +47,7 @@ static double median(std::vector<double> values) {
 
 // Fills a table, looks every key up, and puts a new one, for which the hand passes all items once. The median of three such puts.
 static double put_when_all_are_used(const cefrodil_shape &shape, uint64_t first, double &opening) {
-    Open table(shape, 1);
+    Open table(shape, 2);
     opening = table.seconds;
     cefrodil_reply reply;
     double took;
@@ -74,24 +74,25 @@ static double refused_put(cefrodil_shape shape, uint64_t first) {
     return median(spent);
 }
 
-// The heap of a table with `many` readers.
+// The heap of a table with `many` handles.
 static double heap_of(const cefrodil_shape &shape, size_t many) {
     double before = mallinfo2().uordblks;
     Open table(shape, many);
-    return mallinfo2().uordblks - before - table.readers.capacity() * sizeof(cefrodil_handle);
+    return mallinfo2().uordblks - before - table.handles.capacity() * sizeof(cefrodil_handle);
 }
 
-// The heap that one more reader takes.
+// The heap that one more handle takes.
 static double reader_bytes(const cefrodil_shape &shape) { return (heap_of(shape, 1001) - heap_of(shape, 1)) / 1000; }
 
 int main(int count, char **words) {
     if (count != 3) return 2;
     cefrodil_shape shape;
-    if (cefrodil_shape_for_items(uint32_t(atol(words[1])), &shape) != CEFRODIL_OK) return 2;
+    if (cefrodil_shape_for_shards(uint32_t(atol(words[1])), 1, &shape) != CEFRODIL_OK) return 2;
+    shape.items = uint32_t(atol(words[1]));
     uint64_t first = strtoull(words[2], nullptr, 10) << 32;
     double opening, used = put_when_all_are_used(shape, first, opening);
     cefrodil_shape small;
-    cefrodil_shape_for_items(1000, &small);
+    if (cefrodil_shape_for_shards(1000, 1, &small) != CEFRODIL_OK) return 2;
     printf("{\"opening_ms\":%.4f,\"all_used_ms\":%.4f,\"refused_us\":%.4f,\"reader_bytes\":%.1f}\n", opening * 1e3, used * 1e3,
         refused_put(shape, first) * 1e6, reader_bytes(small));
 }

@@ -16,14 +16,14 @@ class Prices {
   public:
     bool open() {
         const auto shape = cefrodil::shape_for_items(products);
-        return shape && cefrodil::open(*shape, 1, writer_, readers_) == cefrodil::Status::ok;
+        return shape && cefrodil::open(*shape, 1, 1, handles_) == cefrodil::Status::ok;
     }
 
     // What the order costs, or 0 if the lookup failed.
     uint64_t total(const Order &order) {
         std::array<std::array<uint64_t, 1>, lines> found;
         std::array<cefrodil_answer, lines> answers;
-        if (readers_[0].get_many(order.data(), lines, found.data(), answers.data()) != cefrodil::Status::ok) {
+        if (handles_[0].get_many(order.data(), lines, found.data(), answers.data()) != cefrodil::Status::ok) {
             return 0;
         }
         uint64_t sum = 0;
@@ -31,7 +31,7 @@ class Prices {
             if (answers[line].status != CEFRODIL_OK) {
                 found[line] = {listed(order[line])};
                 misses_++;
-                writer_.put(order[line], found[line]); // a price that finds no place is read from the list again
+                (void)handles_[0].try_put(order[line], found[line]); // a price that finds no place is read from the list again
             }
             sum += found[line][0];
         }
@@ -41,8 +41,7 @@ class Prices {
     uint64_t misses() const { return misses_; }
 
   private:
-    cefrodil::Writer<1> writer_;
-    std::vector<cefrodil::Reader<1>> readers_;
+    std::vector<cefrodil::Handle<1>> handles_;
     uint64_t misses_ = 0;
 };
 

@@ -6,9 +6,9 @@
 constexpr int threads = 3;
 constexpr uint64_t lookups = 10000, names = 500;
 
-static void serve(cefrodil::Reader<1> &reader) {
+static void serve(cefrodil::Handle<1> &handle) {
     for (uint64_t key = 0; key < lookups; key++) {
-        (void)reader.get(key % (2 * names));
+        (void)handle.get(key % (2 * names));
     }
 }
 
@@ -16,21 +16,20 @@ static void serve(cefrodil::Reader<1> &reader) {
 static std::string metrics(const cefrodil::Meter &meter) { return cefrodil::prometheus({{"names", meter.counts()}}); }
 
 int main() {
-    cefrodil::Writer<1> writer;
-    std::vector<cefrodil::Reader<1>> readers;
+    std::vector<cefrodil::Handle<1>> handles;
     const auto shape = cefrodil::shape_for_items(names);
-    if (!shape || cefrodil::open(*shape, threads, writer, readers) != cefrodil::Status::ok) {
+    if (!shape || cefrodil::open(*shape, 1, threads, handles) != cefrodil::Status::ok) {
         return 1;
     }
     for (uint64_t key = 0; key < names; key++) {
-        if (writer.put(key, {key}).status != cefrodil::Status::ok) {
+        if (handles[0].try_put(key, {key}).status != cefrodil::Status::ok) {
             return 1;
         }
     }
-    const cefrodil::Meter meter = writer.meter();
+    const cefrodil::Meter meter = handles[0].meter();
     std::vector<std::thread> running;
-    for (auto &reader : readers) {
-        running.emplace_back([&reader] { serve(reader); });
+    for (auto &handle : handles) {
+        running.emplace_back([&handle] { serve(handle); });
     }
     for (auto &thread : running) {
         thread.join();

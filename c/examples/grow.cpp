@@ -8,7 +8,7 @@
 
 using cefrodil::Status;
 
-// A table for one thread. Readers in other threads would keep the old table: give them readers of the new one.
+// A table for one thread. Handles in other threads would keep the old table: give them handles of the new one.
 class Table {
   public:
     explicit Table(uint32_t items) {
@@ -19,26 +19,31 @@ class Table {
 
     // Puts the key. Grows first if the table is full, or if the key finds no place in it.
     void put(uint64_t key, uint64_t value) {
-        if (number(&cefrodil::Writer<1>::len) == number(&cefrodil::Writer<1>::capacity) && !get(key)) {
+        if (len() == capacity() && !get(key)) {
             grow();
         }
-        Status status = writer_.put(key, {value}).status;
+        Status status = writing_.put(key, {value}).status;
         while (status == Status::no_path) {
             grow();
-            status = writer_.put(key, {value}).status;
+            status = writing_.put(key, {value}).status;
         }
         must(status);
     }
 
     std::optional<uint64_t> get(uint64_t key) {
-        const auto found = writer_.get(key).value;
+        const auto found = writing_.get(key).value;
         return found ? std::optional((*found)[0]) : std::nullopt;
     }
 
-    uint64_t number(Status (cefrodil::Writer<1>::*call)(uint64_t &)) {
-        uint64_t result = 0;
-        must((writer_.*call)(result));
-        return result;
+    uint64_t len() {
+        uint64_t number = 0;
+        must(writing_.len(number));
+        return number;
+    }
+    uint64_t capacity() {
+        uint64_t number = 0;
+        must(writing_.capacity(number));
+        return number;
     }
 
   private:
@@ -51,33 +56,33 @@ class Table {
     // Opens a table for `items` items with these entries, in place of this one. False if one of them finds no place in it.
     bool opens(uint64_t items, const std::vector<uint64_t> &entries) {
         const auto shape = cefrodil::shape_for_items(static_cast<uint32_t>(items));
-        cefrodil::Writer<1> writer;
-        std::vector<cefrodil::Reader<1>> readers;
+        std::vector<cefrodil::Handle<1>> handles;
         std::vector<Status> statuses;
         if (!shape) {
             throw std::runtime_error("the table is too large");
         }
-        must(cefrodil::open_with(*shape, 1, entries, writer, readers, statuses));
+        must(cefrodil::open_with(*shape, 1, 1, entries, handles, statuses));
         for (const Status status : statuses) {
             if (status != Status::ok) {
                 return false;
             }
         }
-        writer_ = std::move(writer);
+        writing_.end();
+        must(writing_.own(std::move(handles[0])));
         return true;
     }
 
     // Moves all entries to a table of twice the size, or of four times, until each has a place there.
     void grow() {
         std::vector<uint64_t> entries;
-        must(writer_.entries(entries));
-        uint64_t items = 2 * number(&cefrodil::Writer<1>::capacity);
+        must(writing_.entries(entries));
+        uint64_t items = 2 * capacity();
         while (!opens(items, entries)) {
             items *= 2;
         }
     }
 
-    cefrodil::Writer<1> writer_;
+    cefrodil::Writing<1> writing_;
 };
 
 int main() {
@@ -90,7 +95,7 @@ int main() {
     for (uint64_t key = 0; key < keys; key++) {
         found += table.get(key) == key * key;
     }
-    const uint64_t capacity = table.number(&cefrodil::Writer<1>::capacity);
+    const uint64_t capacity = table.capacity();
     std::printf("%d of %d keys, in a table for %d\n", static_cast<int>(found), static_cast<int>(keys), static_cast<int>(capacity));
-    return found != keys || table.number(&cefrodil::Writer<1>::len) != keys;
+    return found != keys || table.len() != keys;
 }

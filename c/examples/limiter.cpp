@@ -1,25 +1,25 @@
 // A rate limiter for a service of several threads: each client may make `limit` requests in a window of time. The cache holds a window
-// and a count for each client. Threads write by turns at a desk.
+// and a count for each client. Threads write by turns.
 #include "cefrodil.hpp"
 #include <atomic>
 #include <cstdio>
 #include <stdexcept>
 #include <thread>
 
-using cefrodil::Pass;
+using cefrodil::Handle;
 using cefrodil::Status;
 
-constexpr int threads = 4;
+constexpr int threads = 4, shards = 4;
 constexpr uint64_t clients = 200, windows = 3, requests = 4, limit = 5;
 
 // A thread's part of the limiter.
 class Limiter {
   public:
-    explicit Limiter(Pass<2> pass) : pass_(std::move(pass)) {}
+    explicit Limiter(Handle<2> handle) : handle_(std::move(handle)) {}
 
     // A client begins with no requests.
     void greet(uint64_t client) {
-        if (const Status status = pass_.try_put(client, {0, 0}).status; status != Status::ok) {
+        if (const Status status = handle_.try_put(client, {0, 0}).status; status != Status::ok) {
             throw std::runtime_error(cefrodil::text(status));
         }
     }
@@ -27,7 +27,7 @@ class Limiter {
     // Counts one request of the client in this window, unless it has made `limit` of them, or is unknown.
     bool allow(uint64_t client, uint64_t window) {
         for (;; std::this_thread::yield()) {
-            const auto found = pass_.get_or_desk(client);
+            const auto found = handle_.get_or_turn(client);
             if (found.status == Status::busy) {
                 continue;
             }
@@ -39,7 +39,7 @@ class Limiter {
             if (count == limit) {
                 return false;
             }
-            const Status status = pass_.try_put_if(client, found.since, {window, count + 1}).status;
+            const Status status = handle_.try_put_if(client, found.since, {window, count + 1}).status;
             if (status == Status::ok) {
                 return true;
             }
@@ -51,7 +51,7 @@ class Limiter {
     }
 
   private:
-    Pass<2> pass_;
+    Handle<2> handle_;
 };
 
 // How many requests all threads let through in this window. Each client sends `requests` requests to each thread.
@@ -72,14 +72,14 @@ static uint64_t serve_all(std::vector<Limiter> &limiters, uint64_t window) {
 }
 
 int main() {
-    std::vector<Pass<2>> passes;
-    const auto shape = cefrodil::shape_for_items(2 * clients);
-    if (!shape || cefrodil::open_desk(*shape, threads, passes) != Status::ok) {
+    std::vector<Handle<2>> handles;
+    const auto shape = cefrodil::shape_for_items(2 * clients, shards);
+    if (!shape || cefrodil::open(*shape, shards, threads, handles) != Status::ok) {
         return 1;
     }
     std::vector<Limiter> limiters;
-    for (Pass<2> &pass : passes) {
-        limiters.emplace_back(std::move(pass));
+    for (Handle<2> &handle : handles) {
+        limiters.emplace_back(std::move(handle));
     }
     for (uint64_t client = 0; client < clients; client++) {
         limiters[0].greet(client);

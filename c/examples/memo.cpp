@@ -4,13 +4,13 @@
 #include <cstdio>
 #include <thread>
 
-constexpr int threads = 4;
+constexpr int threads = 4, shards = 4;
 constexpr uint64_t numbers = 10000, items = 8000;
 
 // A thread's access to the results. The function gets an argument, and the memo for its own calls.
 template <class Function> class Memo {
   public:
-    Memo(cefrodil::Pass<1> known, Function function) : known_(std::move(known)), function_(function) {}
+    Memo(cefrodil::Handle<1> known, Function function) : known_(std::move(known)), function_(function) {}
 
     uint64_t operator()(uint64_t argument) {
         if (const auto found = known_.get(argument).value) {
@@ -25,7 +25,7 @@ template <class Function> class Memo {
     uint64_t computed() const { return computed_; }
 
   private:
-    cefrodil::Pass<1> known_;
+    cefrodil::Handle<1> known_;
     Function function_;
     uint64_t computed_ = 0;
 };
@@ -49,15 +49,15 @@ static uint64_t plain_sum() {
 }
 
 int main() {
-    std::vector<cefrodil::Pass<1>> passes;
-    const auto shape = cefrodil::shape_for_items(items);
-    if (!shape || cefrodil::open_desk(*shape, threads, passes) != cefrodil::Status::ok) {
+    std::vector<cefrodil::Handle<1>> handles;
+    const auto shape = cefrodil::shape_for_items(items, shards);
+    if (!shape || cefrodil::open(*shape, shards, threads, handles) != cefrodil::Status::ok) {
         return 1;
     }
     std::array<uint64_t, threads> sums{}, computed{};
     std::vector<std::thread> running;
     for (size_t i = 0; i < threads; i++) {
-        running.emplace_back([i, &sums, &computed, steps = Memo<Steps>(std::move(passes[i]), Steps())]() mutable {
+        running.emplace_back([i, &sums, &computed, steps = Memo<Steps>(std::move(handles[i]), Steps())]() mutable {
             for (uint64_t number = 1; number <= numbers; number++) {
                 sums[i] += steps(number);
             }

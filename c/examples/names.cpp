@@ -1,4 +1,4 @@
-// A cache of host names for a server of several threads, each with a reader. If a thread doesn't find a name, it resolves the name the
+// A cache of host names for a server of several threads, each with a handle. If a thread doesn't find a name, it resolves the name the
 // slow way, and queues the answer for the one thread that writes. The key is a hash of the name. The value keeps a second hash, which
 // tells apart names of one key. If strangers choose the names, take a keyed hash.
 #include "cefrodil.hpp"
@@ -23,7 +23,7 @@ constexpr uint64_t hash(std::string_view name, uint64_t basis) {
 // The slow way: asks a name server.
 static uint32_t resolve(const std::string &name) { return 0x0A000000u + static_cast<uint32_t>(std::stoul(name.substr(4))); }
 
-// Answers on their way to the writer.
+// Answers on their way to the thread that writes.
 class Queue {
   public:
     void offer(uint64_t key, const Value &value) {
@@ -52,12 +52,12 @@ class Queue {
 
 // What a thread of the server has, and what it counted.
 struct Server {
-    cefrodil::Reader<2> reader;
+    cefrodil::Handle<2> handle;
     long hits = 0, wrong = 0;
 
     uint32_t look_up(const std::string &name, Queue &queue) {
         const uint64_t key = hash(name, 14695981039346656037u), check = hash(name, 1);
-        const auto found = reader.get(key).value;
+        const auto found = handle.get(key).value;
         if (found && (*found)[0] == check) {
             hits++;
             return static_cast<uint32_t>((*found)[1]);
@@ -83,16 +83,18 @@ struct Server {
 };
 
 int main() {
-    cefrodil::Writer<2> writer;
-    std::vector<cefrodil::Reader<2>> readers;
+    std::vector<cefrodil::Handle<2>> handles;
+    cefrodil::Writing<2> writing;
     const auto shape = cefrodil::shape_for_items(2 * names);
-    if (!shape || cefrodil::open(*shape, threads, writer, readers) != cefrodil::Status::ok) {
+    if (!shape || cefrodil::open(*shape, 1, threads + 1, handles) != cefrodil::Status::ok ||
+        writing.own(std::move(handles.back())) != cefrodil::Status::ok) {
         return 1;
     }
+    handles.pop_back();
     Queue queue;
     std::vector<Server> servers;
-    for (auto &reader : readers) {
-        servers.push_back(Server{std::move(reader)});
+    for (auto &handle : handles) {
+        servers.push_back(Server{std::move(handle)});
     }
     std::vector<std::thread> running;
     for (Server &server : servers) {
@@ -100,7 +102,7 @@ int main() {
     }
     for (auto batch = queue.take(); !batch.empty(); batch = queue.take()) {
         for (const auto &[key, value] : batch) {
-            writer.put(key, value); // if it fails, the name is resolved again later
+            writing.put(key, value); // if it fails, the name is resolved again later
         }
     }
     long hits = 0, wrong = 0;

@@ -14,7 +14,7 @@ constexpr int threads = 3, rounds = 5000;
 // Stands for a database.
 static std::array<std::atomic<uint64_t>, keys> store;
 
-// What a thread asks of the writer: to fill a key with what it read, or to remove a key that it changed.
+// What a thread asks of the one that writes: to fill a key with what it read, or to remove a key that it changed.
 struct Request {
     uint64_t key;
     std::optional<std::pair<cefrodil::Ticket, uint64_t>> read;
@@ -46,13 +46,13 @@ class Queue {
     int senders_ = threads;
 };
 
-static void serve(cefrodil::Reader<1> &reader, const cefrodil::Tickets &tickets, Queue &queue) {
+static void serve(cefrodil::Handle<1> &handle, const cefrodil::Tickets &tickets, Queue &queue) {
     for (int round = 0; round < rounds; round++) {
         const uint64_t key = static_cast<uint64_t>(round) * 7 % keys;
         if (round % 9 == 0) {
             store[key]++; // first the store, then the cache
             queue.send({key, std::nullopt});
-        } else if (!reader.get(key).value) {
+        } else if (!handle.get(key).value) {
             const cefrodil::Ticket ticket = tickets.take(); // before the store is read
             const uint64_t value = store[key];
             std::this_thread::sleep_for(std::chrono::microseconds(20));
@@ -63,17 +63,19 @@ static void serve(cefrodil::Reader<1> &reader, const cefrodil::Tickets &tickets,
 }
 
 int main() {
-    cefrodil::Writer<1> writer;
-    std::vector<cefrodil::Reader<1>> readers;
+    std::vector<cefrodil::Handle<1>> handles;
+    cefrodil::Writing<1> writing;
     const auto shape = cefrodil::shape_for_items(2 * keys);
-    if (!shape || cefrodil::open(*shape, threads, writer, readers) != cefrodil::Status::ok) {
+    if (!shape || cefrodil::open(*shape, 1, threads + 1, handles) != cefrodil::Status::ok ||
+        writing.own(std::move(handles.back())) != cefrodil::Status::ok) {
         return 1;
     }
-    cefrodil::Filler<1> filler(std::move(writer), 1024);
+    handles.pop_back();
+    cefrodil::Filler<1> filler(std::move(writing), 1024);
     Queue queue;
     std::vector<std::thread> running;
-    for (auto &reader : readers) {
-        running.emplace_back([&reader, &queue, tickets = filler.tickets()] { serve(reader, tickets, queue); });
+    for (auto &handle : handles) {
+        running.emplace_back([&handle, &queue, tickets = filler.tickets()] { serve(handle, tickets, queue); });
     }
     long refused = 0, old = 0;
     for (auto batch = queue.take(); !batch.empty(); batch = queue.take()) {
@@ -86,7 +88,7 @@ int main() {
         thread.join();
     }
     for (uint64_t key = 0; key < keys; key++) {
-        const auto kept = filler.writer().get(key).value;
+        const auto kept = filler.writing().get(key).value;
         old += kept && (*kept)[0] != store[key];
     }
     std::printf("%ld old values were refused, and %ld are in the cache\n", refused, old);

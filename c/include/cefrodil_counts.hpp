@@ -10,9 +10,7 @@
 #include <chrono>
 #include <cstddef>
 #include <cstdint>
-#include <deque>
 #include <memory>
-#include <mutex>
 #include <string>
 #include <utility>
 #include <vector>
@@ -28,7 +26,7 @@ struct Counts {
     uint64_t hits = 0;      // lookups that found their key
     uint64_t misses = 0;    // lookups of a key that was absent
     uint64_t busy = 0;      // lookups that were busy
-    uint64_t held = 0;      // writes, lists and peeks by a pass whose try for the turn did not win
+    uint64_t held = 0;      // writes, lists and peeks whose try for a turn did not win
     uint64_t evictions = 0; // puts that evicted another key
     uint64_t refusals = 0;  // writes that were refused: no_path, all_recent or spent
     uint64_t given_up = 0;  // calls of a map that were held or busy at each try, for over a tenth of a second
@@ -41,11 +39,9 @@ namespace inside {
 enum Counted : size_t { hits = CEFRODIL_OK, misses = CEFRODIL_ABSENT, busy = CEFRODIL_BUSY, held, evictions, refusals, all_counted };
 
 // What a handle has counted. One thread at a time adds, and any thread reads. The processor loads cache lines in pairs, so it has a pair of its own.
-// A number says nothing of other memory, so its loads and stores are relaxed. The lock of `Lines` orders those of two handles that have a line one
-// after the other.
+// A number says nothing of other memory, so its loads and stores are relaxed.
 struct alignas(128) Line {
     std::array<std::atomic<uint64_t>, all_counted> numbers{};
-    Line *next = nullptr; // the next line that no handle has
 
     [[gnu::always_inline]] void add(size_t which, uint64_t more) noexcept {
         numbers[which].store(numbers[which].load(std::memory_order_relaxed) + more, std::memory_order_relaxed);
@@ -81,40 +77,17 @@ class Stalls {
     std::atomic<uint64_t> number_{0};
 };
 
-// The lines of a cache's handles. The line of a handle that is closed keeps its numbers, and the next handle that takes it counts on from
-// them.
+// The lines of a cache's handles. The line of a handle that is closed keeps its numbers.
 class Lines {
   public:
-    // Makes lines until `count` of them are free.
-    void reserve(size_t count) {
-        const std::lock_guard<std::mutex> guard(lock_);
-        while (free_count_ < count) {
-            push(&lines_.emplace_back());
-        }
-    }
-    // A line that no handle has, or null.
-    Line *take() noexcept {
-        const std::lock_guard<std::mutex> guard(lock_);
-        if (free_ == nullptr) {
-            return nullptr;
-        }
-        free_count_--;
-        return std::exchange(free_, free_->next);
-    }
-    // In a forked child the lock may be held for ever.
-    void give(Line *line) noexcept {
-        if (!maker_.is_this_process()) {
-            return;
-        }
-        const std::lock_guard<std::mutex> guard(lock_);
-        push(line);
-    }
+    explicit Lines(size_t handles) : lines_(handles) {}
+
+    Line *line(size_t handle) noexcept { return &lines_[handle]; }
     // In a forked child nothing is known of the parent's handles.
-    Counts sum() noexcept {
+    Counts sum() const noexcept {
         if (!maker_.is_this_process()) {
             return {};
         }
-        const std::lock_guard<std::mutex> guard(lock_);
         std::array<uint64_t, all_counted> all{};
         for (const Line &line : lines_) {
             for (size_t which = 0; which < all_counted; which++) {
@@ -126,14 +99,7 @@ class Lines {
     Stalls &stalls() noexcept { return stalls_; }
 
   private:
-    void push(Line *line) noexcept {
-        line->next = std::exchange(free_, line);
-        free_count_++;
-    }
-    std::mutex lock_{};
-    std::deque<Line> lines_{};
-    Line *free_ = nullptr;
-    size_t free_count_ = 0;
+    std::vector<Line> lines_;
     const Maker maker_{};
     Stalls stalls_{};
 };
@@ -142,21 +108,15 @@ class Lines {
 class Counter {
   public:
     Counter() noexcept = default;
-    explicit Counter(std::shared_ptr<Lines> lines) noexcept : lines_(std::move(lines)), line_(lines_ ? lines_->take() : nullptr) {}
+    Counter(std::shared_ptr<Lines> lines, size_t handle) noexcept : lines_(std::move(lines)), line_(lines_ ? lines_->line(handle) : nullptr) {}
     Counter(Counter &&other) noexcept : lines_(std::move(other.lines_)), line_(std::exchange(other.line_, nullptr)) {}
     Counter &operator=(Counter &&other) noexcept {
-        Counter taken(std::move(other));
-        std::swap(lines_, taken.lines_);
-        std::swap(line_, taken.line_);
+        lines_ = std::move(other.lines_);
+        line_ = std::exchange(other.line_, nullptr);
         return *this;
     }
     Counter(const Counter &) = delete;
     Counter &operator=(const Counter &) = delete;
-    ~Counter() {
-        if (line_ != nullptr) {
-            lines_->give(line_);
-        }
-    }
 
     const std::shared_ptr<Lines> &lines() const noexcept { return lines_; }
 
@@ -176,7 +136,6 @@ class Counter {
             }
         }
     }
-    // A call by a pass, or by the writer.
     void tried(cefrodil_status status) noexcept {
         if (line_ != nullptr && status == CEFRODIL_HELD) {
             line_->add(held, 1);
@@ -200,12 +159,10 @@ class Counter {
     Line *line_ = nullptr;
 };
 
-// The lines of a cache that is to be opened with `count` handles beside its writer.
-inline std::shared_ptr<Lines> lines_for(size_t count) {
+// The lines of a cache that is to be opened with so many handles.
+inline std::shared_ptr<Lines> lines_for(size_t handles) {
     if constexpr (CEFRODIL_COUNTS != 0) {
-        const auto lines = std::make_shared<Lines>();
-        lines->reserve(count + 1);
-        return lines;
+        return std::make_shared<Lines>(handles);
     } else {
         return nullptr;
     }

@@ -26,37 +26,38 @@ class Tickets {
     std::shared_ptr<const std::atomic<uint64_t>> changes_;
 };
 
-// A cache's writer that knows the last changes of the store, each by its key. It belongs to one thread at a time.
+// Writes a cache, and knows the last changes of the store, each by its key. It belongs to one thread at a time.
 template <size_t Words> class Filler {
   public:
     using Value = std::array<uint64_t, Words>;
 
     // `changes`: how many it knows, at least one. A fill is refused if more have come since its ticket, so take what may come while a thread
     // reads the store, and some more.
-    // It may throw std::bad_alloc, and then `writer` is as it was. A filler that was moved from must not be called.
-    Filler(Writer<Words> &&writer, size_t changes)
-        : count_(std::make_shared<std::atomic<uint64_t>>(0)), keys_(changes != 0 ? changes : 1), writer_(std::move(writer)) {}
+    // `writing`: one that owns its handle (Writing::own), so that all may be moved. It may throw std::bad_alloc, and then `writing` is as it was. A
+    // filler that was moved from must not be called.
+    Filler(Writing<Words> &&writing, size_t changes)
+        : count_(std::make_shared<std::atomic<uint64_t>>(0)), keys_(changes != 0 ? changes : 1), writing_(std::move(writing)) {}
 
     Tickets tickets() const noexcept { return Tickets(count_); }
 
     // Puts a value that was read in the store after the ticket was taken, if the key is absent. stale: the key was changed since, or that is
-    // not known any more. Otherwise as by Writer::put_if_absent.
+    // not known any more. Otherwise as by Writing::put_if_absent.
     [[nodiscard]] Written fill(uint64_t key, Ticket ticket, const Value &value) noexcept {
-        return is_stale(key, ticket) ? Written{Status::stale, std::nullopt, 0, 0, false} : writer_.put_if_absent(key, value);
+        return is_stale(key, ticket) ? Written{Status::stale, std::nullopt, 0, 0, false} : writing_.put_if_absent(key, value);
     }
     // Removes a key that was changed in the store before. spent: the key is still there, and no removal will succeed. Open a new cache.
     [[nodiscard]] Written remove(uint64_t key) noexcept {
         changed(key);
-        return writer_.remove(key);
+        return writing_.remove(key);
     }
     // Puts the key's new value, which is in the store. Only one thread may change the store then: of two, the later change's put could come
     // first. So remove the key if several do. If it fails, the key's old value may still be there: remove the key.
     [[nodiscard]] Written put(uint64_t key, const Value &value) noexcept {
         changed(key);
-        return writer_.put(key, value);
+        return writing_.put(key, value);
     }
-    // The writer, for all other calls. What it puts and removes is no change of the store.
-    Writer<Words> &writer() noexcept { return writer_; }
+    // For all other calls. What it puts and removes is no change of the store.
+    Writing<Words> &writing() noexcept { return writing_; }
 
   private:
     // Release: the store was changed before, so a thread whose ticket knows the change sees that of the store. The loads here are relaxed, since no
@@ -81,7 +82,7 @@ template <size_t Words> class Filler {
 
     std::shared_ptr<std::atomic<uint64_t>> count_;
     std::vector<uint64_t> keys_; // of the last changes: change n at place n, modulo their number
-    Writer<Words> writer_;
+    Writing<Words> writing_;
 };
 
 } // namespace cefrodil

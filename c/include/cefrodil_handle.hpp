@@ -1,4 +1,4 @@
-// Statuses, answers, and what the handles of cefrodil.hpp have in common.
+// Statuses, answers, and how handles are opened, moved and closed, for cefrodil.hpp.
 #ifndef CEFRODIL_HANDLE_HPP
 #define CEFRODIL_HANDLE_HPP
 
@@ -133,35 +133,15 @@ namespace inside {
 inline Status status_of(Status status) noexcept { return status; }
 template <class Told> Status status_of(const Told &told) noexcept { return told.status; }
 
-inline Written written(cefrodil_status status, const cefrodil_reply &reply) noexcept {
-    std::optional<uint64_t> evicted;
-    if (reply.put == CEFRODIL_PUT_EVICTED) {
-        evicted = reply.evicted;
-    }
-    return {static_cast<Status>(status), evicted, reply.at, reply.since, reply.put == CEFRODIL_PUT_RENEWED};
-}
-
-// `gone`: an entry gives way if the call is done.
-template <size_t Words> Swapped<Words> swapped(const Written &write, const std::array<uint64_t, Words> &old, bool gone) noexcept {
-    const bool done = write.status == Status::ok && gone;
-    Swapped<Words> told{write.status, write.evicted, std::nullopt, write.at, done ? write.since : 0, done ? 0 : write.since};
-    if (done) {
-        told.old = old;
-    }
-    return told;
-}
-
 struct Counting;
 
-} // namespace inside
-
-// What a Writer, a Reader and a Pass have in common: a handle that moves, and closes itself.
-class Handle {
+// A handle of C that moves, and closes itself.
+class OpenHandle {
   public:
     bool is_open() const noexcept { return raw_.live_; }
     // Closes the handle now. Closing the last handle frees the cache. Until then, the others stay open.
     Status close() noexcept {
-        counter_ = inside::Counter();
+        counter_ = Counter();
         return static_cast<Status>(cefrodil_close_unless_null(&raw_));
     }
     // The handle for calls of cefrodil.h. These calls are not counted.
@@ -170,10 +150,10 @@ class Handle {
     Meter meter() const noexcept { return Meter(counter_.lines()); }
 
   protected:
-    friend struct inside::Counting;
-    Handle() noexcept {}
-    Handle(Handle &&other) noexcept : raw_(std::exchange(other.raw_, cefrodil_handle{})), counter_(std::move(other.counter_)) {}
-    Handle &operator=(Handle &&other) noexcept {
+    friend struct Counting;
+    OpenHandle() noexcept {}
+    OpenHandle(OpenHandle &&other) noexcept : raw_(std::exchange(other.raw_, cefrodil_handle{})), counter_(std::move(other.counter_)) {}
+    OpenHandle &operator=(OpenHandle &&other) noexcept {
         if (this != &other) {
             cefrodil_close_unless_null(&raw_);
             raw_ = std::exchange(other.raw_, cefrodil_handle{});
@@ -181,138 +161,55 @@ class Handle {
         }
         return *this;
     }
-    Handle(const Handle &) = delete;
-    Handle &operator=(const Handle &) = delete;
-    ~Handle() { cefrodil_close_unless_null(&raw_); }
+    OpenHandle(const OpenHandle &) = delete;
+    OpenHandle &operator=(const OpenHandle &) = delete;
+    ~OpenHandle() { cefrodil_close_unless_null(&raw_); }
 
-    // Moves this handle to an empty one, of another kind.
-    void move_to(Handle &other) noexcept { other = std::move(*this); }
-
-    // A call's answer, which is counted.
-    template <size_t Words>
-    Answer<Words> looked(cefrodil_status status, const cefrodil_reply &reply, const std::array<uint64_t, Words> &value) noexcept {
-        counter_.looked(status);
-        Answer<Words> told{static_cast<Status>(status), std::nullopt, reply.at, reply.since};
-        if (status == CEFRODIL_OK) {
-            told.value = value;
-        }
-        return told;
-    }
-    Status looked_up(cefrodil_status status, const cefrodil_answer *answers, size_t count) noexcept {
-        counter_.looked(answers, status == CEFRODIL_OK ? count : 0);
-        return static_cast<Status>(status);
-    }
-    Written wrote(cefrodil_status status, const cefrodil_reply &reply) noexcept {
-        counter_.wrote(status, reply);
-        return inside::written(status, reply);
-    }
-    Status tried(cefrodil_status status) noexcept {
-        counter_.tried(status);
-        return static_cast<Status>(status);
-    }
-
-    template <size_t Words>
-    Status put_words(const uint64_t *keys, size_t count, const std::array<uint64_t, Words> *values, cefrodil_put_answer *answers) noexcept {
-        static_assert(sizeof(*values) == Words * sizeof(uint64_t), "values lie one after the other");
-        const uint64_t *words = count != 0 ? values->data() : nullptr;
-        const cefrodil_status status = cefrodil_put_many_or_none(&raw_, keys, count, words, Words * count, answers, count);
-        for (size_t i = 0; status == CEFRODIL_OK && i < count; i++) {
-            counter_.wrote(static_cast<cefrodil_status>(answers[i].status), answers[i].reply);
-        }
-        return static_cast<Status>(status);
-    }
-
-    // It is no use of the key, so it isn't counted as a lookup.
-    template <size_t Words> Answer<Words> peek_words(uint64_t key) noexcept {
-        cefrodil_reply reply;
-        Answer<Words> told{};
-        std::array<uint64_t, Words> value;
-        told.status = tried(cefrodil_peek(&raw_, key, value.data(), Words, &reply));
-        told.at = reply.at;
-        told.since = reply.since;
-        if (told.status == Status::ok) {
-            told.value = value;
-        }
-        return told;
-    }
-
-    // The calls by the writer or a pass that return the entry which gives way.
-    template <size_t Words> Swapped<Words> swap_words(uint64_t key, const std::array<uint64_t, Words> &value) noexcept {
-        cefrodil_reply reply;
-        std::array<uint64_t, Words> old{};
-        const cefrodil_status status = cefrodil_swap(&raw_, key, value.data(), Words, old.data(), Words, &reply);
-        return inside::swapped<Words>(wrote(status, reply), old, reply.put != CEFRODIL_PUT_STORED);
-    }
-    template <size_t Words> Swapped<Words> swap_words_if(uint64_t key, uint64_t since, const std::array<uint64_t, Words> &value) noexcept {
-        cefrodil_reply reply;
-        std::array<uint64_t, Words> old{};
-        const cefrodil_status status = cefrodil_swap_if(&raw_, key, since, value.data(), Words, old.data(), Words, &reply);
-        return inside::swapped<Words>(wrote(status, reply), old, true);
-    }
-    template <size_t Words> Swapped<Words> take_words(uint64_t key) noexcept {
-        cefrodil_reply reply;
-        std::array<uint64_t, Words> old{};
-        const cefrodil_status status = cefrodil_take(&raw_, key, old.data(), Words, &reply);
-        return inside::swapped<Words>(wrote(status, reply), old, true);
-    }
-    template <size_t Words> Swapped<Words> take_words_if(uint64_t key, uint64_t since) noexcept {
-        cefrodil_reply reply;
-        std::array<uint64_t, Words> old{};
-        const cefrodil_status status = cefrodil_take_if(&raw_, key, since, old.data(), Words, &reply);
-        return inside::swapped<Words>(wrote(status, reply), old, true);
-    }
-
-    // Lists entries of `each` words by one call of C. `most`: gives how many there are at most, so that they all have room.
-    template <class Most, class List> [[nodiscard]] Status list(size_t each, std::vector<uint64_t> &words, Most most, List call) noexcept {
-        uint64_t count = 0;
-        Status status = static_cast<Status>(most(&raw_, &count));
-        if (status == Status::ok && !inside::has_memory([&] { words.resize(count * each); })) {
-            status = Status::no_memory;
-        }
-        if (status == Status::ok) {
-            status = tried(call(&raw_, words.data(), words.size(), &count));
-        }
-        words.resize(status == Status::ok ? count * each : 0);
-        return status;
-    }
+    Counter &counter() noexcept { return counter_; }
 
   private:
     cefrodil_handle raw_ = CEFRODIL_EMPTY;
-    inside::Counter counter_{};
+    Counter counter_{};
 };
 
-namespace inside {
-
-// In which lines a handle counts, and a lookup that it counts.
+// What this header's own functions do with any handle.
 struct Counting {
-    static const std::shared_ptr<Lines> &lines(const Handle &handle) noexcept { return handle.counter_.lines(); }
-    static void in(Handle &handle, const std::shared_ptr<Lines> &lines) noexcept { handle.counter_ = Counter(lines); }
-    static void move(Handle &from, Handle &to) noexcept { from.move_to(to); }
-    static Status tried(Handle &handle, cefrodil_status status) noexcept { return handle.tried(status); }
-    // Like Pass::get_or_desk, but a value that is found is written where it stays.
+    static const std::shared_ptr<Lines> &lines(const OpenHandle &handle) noexcept { return handle.counter_.lines(); }
+    static void open(OpenHandle &handle, const cefrodil_handle &raw, Counter &&counter) noexcept {
+        handle.raw_ = raw;
+        handle.counter_ = std::move(counter);
+    }
+    static void move(OpenHandle &from, OpenHandle &to) noexcept { to = std::move(from); }
+    static Status tried(OpenHandle &handle, cefrodil_status status) noexcept {
+        handle.counter_.tried(status);
+        return static_cast<Status>(status);
+    }
+    // Like Handle::get_or_turn, but a value that is found is written where it stays.
     template <size_t Words>
-    static Status get_or_desk(Handle &handle, uint64_t key, std::array<uint64_t, Words> &value, cefrodil_reply &reply) noexcept {
+    static Status get_or_turn(OpenHandle &handle, uint64_t key, std::array<uint64_t, Words> &value, cefrodil_reply &reply) noexcept {
         const cefrodil_status status = cefrodil_get_or_desk_of_width(&handle.raw_, key, value.data(), Words, &reply);
         handle.counter_.looked(status);
         return static_cast<Status>(status);
     }
 };
 
-// A number of readers or passes that the archive may allow; it refuses 0 for the same reason as a larger one.
+// A number of handles that the archive may allow; it refuses 0 for the same reason as a larger one.
 inline size_t allowed(size_t count) noexcept { return count <= 1024 ? count : 0; }
 
 // Opens `count` handles by a call of C, which takes an array of them. If it succeeds, they take the place of `handles`. All memory is taken
-// before the call: what `grow` takes, too. After it `lines` has a line for each handle. An archive of another version is not called.
-template <class Kind, class Grow, class Open>
-[[nodiscard]] Status open_all(std::vector<Kind> &handles, size_t count, const std::shared_ptr<Lines> &lines, Grow grow, Open open) noexcept {
+// before the call: what `grow` takes, too. An archive of another version is not called.
+template <class Each, class Grow, class Open>
+[[nodiscard]] Status open_all(std::vector<Each> &handles, size_t count, Grow grow, Open open) noexcept {
     if (!same_version()) {
         return Status::other_version;
     }
     std::vector<cefrodil_handle> raw;
-    std::vector<Kind> opened;
+    std::vector<Each> opened;
+    std::shared_ptr<Lines> lines;
     const auto take_all = [&] {
         raw.resize(count != 0 ? count : 1);
         opened.resize(count);
+        lines = lines_for(count);
         grow();
     };
     if (!has_memory(take_all)) {
@@ -321,8 +218,7 @@ template <class Kind, class Grow, class Open>
     const auto status = static_cast<Status>(open(raw.data(), count));
     if (status == Status::ok) {
         for (size_t i = 0; i < count; i++) {
-            *opened[i].raw() = raw[i];
-            Counting::in(opened[i], lines);
+            Counting::open(opened[i], raw[i], Counter(lines, i));
         }
         handles = std::move(opened);
     }
@@ -351,24 +247,6 @@ class EntryStatuses {
     std::vector<uint32_t> raw_{};
     std::vector<Status> told_{};
 };
-
-// Opens all of these, with entries. `statuses` gets the status of each entry.
-template <class Kind, class Open>
-Status open_all_with(std::vector<Kind> &all, size_t count, std::shared_ptr<Lines> &lines, size_t entries, std::vector<Status> &statuses,
-                     Open open) noexcept {
-    EntryStatuses told(entries);
-    const auto grow = [&] {
-        lines = lines_for(count);
-        told.allocate();
-    };
-    const Status status = open_all(all, count, lines, grow, [&](cefrodil_handle *raw, size_t many) {
-        return open(told.raw(), told.count(), raw, many);
-    });
-    if (status == Status::ok) {
-        told.move_to(statuses);
-    }
-    return status;
-}
 
 } // namespace inside
 

@@ -52,7 +52,7 @@ template <class K, class V> class Objects {
     ~Objects() {
         std::vector<uint64_t> list;
         if (is_open_) {
-            static_cast<void>(turns_.repeated([&](Slot<1> &slot) { return slot.pass.try_entries(list); }));
+            static_cast<void>(turns_.repeated([&](Slot<1> &slot) { return slot.handle.try_entries(list); }));
         }
         for (size_t at = 1; at < list.size(); at += 2) {
             static_cast<void>(Own(Each::at(list[at])));
@@ -97,14 +97,14 @@ template <class K, class V> class Objects {
     static Changed refused(Status status) noexcept { return {status, nullptr, Left::replaced, false, false}; }
     // Puts whatever is there.
     Changed put(uint64_t index, Own &object) noexcept {
-        return ended(object, in_stripe(index, [&](Slot<1> &slot) { return counted(slot, slot.pass.try_swap(index, object->word())); }));
+        return ended(object, in_stripe(index, [&](Slot<1> &slot) { return counted(slot, slot.handle.try_swap(index, object->word())); }));
     }
     // Puts only where nothing is. The lock keeps other threads from putting the key between the two calls.
     Changed put_absent(uint64_t index, Own &object) noexcept {
         return ended(object, in_stripe(index, [&](Slot<1> &slot) {
-            const Status status = slot.pass.get_or_desk(index).status;
+            const Status status = slot.handle.get_or_turn(index).status;
             if (status == Status::absent) {
-                return counted(slot, slot.pass.try_swap(index, object->word()));
+                return counted(slot, slot.handle.try_swap(index, object->word()));
             }
             Swapped<1> none{};
             none.status = status == Status::ok ? Status::changed : status;
@@ -113,11 +113,11 @@ template <class K, class V> class Objects {
     }
     // Puts over what was put at that moment.
     Changed put_over(uint64_t index, uint64_t since, Own &object) noexcept {
-        return ended(object, turns_.repeated([&](Slot<1> &slot) { return slot.pass.try_swap_if(index, since, object->word()); }));
+        return ended(object, turns_.repeated([&](Slot<1> &slot) { return slot.handle.try_swap_if(index, since, object->word()); }));
     }
     // Removes what was put at that moment.
     Changed take(uint64_t index, uint64_t since) noexcept {
-        return removed([&](Slot<1> &slot) { return slot.pass.try_take_if(index, since); });
+        return removed([&](Slot<1> &slot) { return slot.handle.try_take_if(index, since); });
     }
     // Ends a change: the listener hears of what gave way, and then it is retired. Call it when the caller has no pin of its own any more.
     Status end(const Changed &change) noexcept {
@@ -133,9 +133,9 @@ template <class K, class V> class Objects {
     // Each shard is listed at a moment of its own, and each key that is listed is removed.
     Status clear() noexcept {
         std::vector<uint64_t> list;
-        Status status = turns_.repeated([&](Slot<1> &slot) { return slot.pass.try_entries(list); });
+        Status status = turns_.repeated([&](Slot<1> &slot) { return slot.handle.try_entries(list); });
         for (size_t at = 0; at < list.size() && status == Status::ok; at += 2) {
-            status = end(removed([&](Slot<1> &slot) { return slot.pass.try_take(list[at]); }));
+            status = end(removed([&](Slot<1> &slot) { return slot.handle.try_take(list[at]); }));
             status = status == Status::absent ? Status::ok : status;
         }
         return status;

@@ -1,5 +1,5 @@
-// Passes that threads take by themselves, for cefrodil_map.hpp. A thread takes one at its first call, and gives it back at its end. A thread
-// that finds none shares one with others, behind a lock. Calls by them are repeated until they have their turn.
+// Handles of the index that threads take by themselves (passes), for cefrodil_map.hpp. A thread takes one at its first call, and gives it back at its
+// end. A thread that finds none shares one with others, behind a lock. Calls by them are repeated until they have their turn.
 #ifndef CEFRODIL_PASSES_HPP
 #define CEFRODIL_PASSES_HPP
 
@@ -142,16 +142,16 @@ class Claims {
     std::unordered_map<std::shared_ptr<FreePasses>, size_t> claims_{};
 };
 
-// A pass with what its thread alone writes, in pairs of cache lines of its own.
+// A handle with what its thread alone writes, in pairs of cache lines of its own.
 template <size_t Words> struct alignas(128) Slot {
-    Pass<Words> pass{};
+    Handle<Words> handle{};
     // How many keys its calls added, less those that they removed. It is only added up, so its steps need no order.
     std::atomic<int64_t> keys{0};
 
     void add(int64_t more) noexcept { keys.store(keys.load(std::memory_order_relaxed) + more, std::memory_order_relaxed); }
 };
 
-// The passes of shards. All but opening and ending may be called by any thread.
+// The passes of an index. All but opening and ending may be called by any thread.
 template <size_t Words> class Passes {
   public:
     Passes() noexcept {}
@@ -163,10 +163,10 @@ template <size_t Words> class Passes {
         }
     }
 
-    // Statuses are those of open_shards. Unless ok, nothing is open.
+    // Statuses are those of cefrodil::open. Unless ok, nothing is open.
     [[nodiscard]] Status open(const cefrodil_shape &shape, uint32_t shards, size_t count) noexcept {
-        std::vector<Pass<Words>> passes;
-        const Status status = open_shards(shape, shards, count, passes);
+        std::vector<Handle<Words>> handles;
+        const Status status = cefrodil::open(shape, shards, count, handles);
         if (status != Status::ok) {
             return status;
         }
@@ -178,7 +178,7 @@ template <size_t Words> class Passes {
             return Status::no_memory;
         }
         for (size_t i = 0; i < count; i++) {
-            slots_[i].pass = std::move(passes[i]);
+            slots_[i].handle = std::move(handles[i]);
         }
         count_ = count;
         return Status::ok;
@@ -206,7 +206,7 @@ template <size_t Words> class Passes {
     }
     // How many calls the shared pass made.
     uint64_t shared_calls() const noexcept { return shared_calls_.load(std::memory_order_relaxed); }
-    const Pass<Words> &shared() const noexcept { return slots_[0].pass; }
+    const Handle<Words> &shared() const noexcept { return slots_[0].handle; }
 
   private:
     template <class Call> [[gnu::cold]] [[gnu::noinline]] auto call_shared(Call &made) noexcept {
@@ -269,7 +269,7 @@ struct Seen {
     uint64_t since;
 };
 
-// Calls by the passes of shards. A call that other threads keep from its turn is repeated.
+// Calls by the passes of an index. A call that other threads keep from its turn is repeated.
 template <size_t Words> class Turns {
   public:
     [[nodiscard]] Status open(uint32_t entries, uint32_t shards, uint32_t passes, uint32_t tries, uint32_t mix) noexcept {
@@ -288,11 +288,11 @@ template <size_t Words> class Turns {
         return passes_.open(shape, shards, passes);
     }
 
-    // Looks a key up: ok, absent, or busy if it was that once and then so often. A value that is found is written. By `get_or_desk`, whose export
-    // is shorter for a pass.
+    // Looks a key up: ok, absent, or busy if it was that once and then so often. A value that is found is written. By `get_or_turn`, whose export
+    // is shorter.
     Seen get(uint64_t key, uint32_t most, std::array<uint64_t, Words> &value) noexcept {
         cefrodil_reply reply;
-        const Status status = passes_.call([&](Slot<Words> &slot) { return Counting::get_or_desk(slot.pass, key, value, reply); });
+        const Status status = passes_.call([&](Slot<Words> &slot) { return Counting::get_or_turn(slot.handle, key, value, reply); });
         return status == Status::busy ? get_again(key, most, value) : Seen{status, reply.since};
     }
 
@@ -315,7 +315,7 @@ template <size_t Words> class Turns {
     // Makes a put, and counts a new key.
     template <class Write> Written write(Write make) noexcept {
         return repeated([&](Slot<Words> &slot) {
-            const Written tried = make(slot.pass);
+            const Written tried = make(slot.handle);
             slot.add(tried.status == Status::ok && !tried.renewed && !tried.evicted ? 1 : 0);
             return tried;
         });
@@ -323,7 +323,7 @@ template <size_t Words> class Turns {
     // Makes a removal, and counts it.
     template <class Removal> Status removal(Removal make) noexcept {
         return repeated([&](Slot<Words> &slot) {
-            const Status status = make(slot.pass);
+            const Status status = make(slot.handle);
             slot.add(status == Status::ok ? -1 : 0);
             return status;
         });
@@ -350,7 +350,7 @@ template <size_t Words> class Turns {
     [[gnu::cold]] [[gnu::noinline]] Seen get_again(uint64_t key, uint32_t most, std::array<uint64_t, Words> &value) noexcept {
         for (uint32_t repeat = 0; repeat < most; repeat++) {
             wait_before(repeat);
-            const Answer<Words> found = passes_.call([&](Slot<Words> &slot) { return slot.pass.get_or_desk(key); });
+            const Answer<Words> found = passes_.call([&](Slot<Words> &slot) { return slot.handle.get_or_turn(key); });
             if (found.status != Status::busy) {
                 value = found.value.value_or(value);
                 return {found.status, found.since};

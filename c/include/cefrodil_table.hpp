@@ -53,8 +53,8 @@ template <class V> class Table : private Packing<V> {
         std::array<Words, few> found;
         std::array<cefrodil_answer, few> answers;
         std::transform(keys, keys + count, indices.begin(), [](const Identity &key) { return key.index; });
-        // An open pass has an answer for each key.
-        static_cast<void>(turns_.call([&](Slot<words> &slot) { return slot.pass.get_many(indices.data(), count, found.data(), answers.data()); }));
+        // An open handle has an answer for each key.
+        static_cast<void>(turns_.call([&](Slot<words> &slot) { return slot.handle.get_many(indices.data(), count, found.data(), answers.data()); }));
         for (size_t i = 0; i < count; i++) {
             if (answers[i].status == CEFRODIL_OK) {
                 static_cast<void>(set_value(keys[i], found[i], values[i]));
@@ -73,14 +73,14 @@ template <class V> class Table : private Packing<V> {
 
     Stored put(const Identity &key, const V &value) noexcept {
         const Words packed = pack(key, value);
-        return write([&](Pass<words> &pass) { return pass.try_put(key.index, packed); });
+        return write([&](Handle<words> &handle) { return handle.try_put(key.index, packed); });
     }
 
     // Another key's entry under the same number gives way.
     Stored put_if_absent(const Identity &key, const V &value) noexcept {
         const Words packed = pack(key, value);
         for (uint32_t repeat = 0;; repeat++) {
-            const Stored stored = write([&](Pass<words> &pass) { return pass.try_put_if_absent(key.index, packed); });
+            const Stored stored = write([&](Handle<words> &handle) { return handle.try_put_if_absent(key.index, packed); });
             if (stored.status != Status::present) {
                 return stored;
             }
@@ -119,7 +119,7 @@ template <class V> class Table : private Packing<V> {
             if (entry.status != Status::ok) {
                 return entry.status;
             }
-            const Status status = turns_.removal([&](Pass<words> &pass) { return pass.try_take_if(key.index, entry.since).status; });
+            const Status status = turns_.removal([&](Handle<words> &handle) { return handle.try_take_if(key.index, entry.since).status; });
             if (status != Status::changed || repeat >= turns_.tries()) {
                 return status;
             }
@@ -129,9 +129,9 @@ template <class V> class Table : private Packing<V> {
     // Each shard is listed at a moment of its own, and each key that is listed is removed.
     Status clear() noexcept {
         std::vector<uint64_t> list;
-        Status status = turns_.repeated([&](Slot<words> &slot) { return slot.pass.try_entries(list); });
+        Status status = turns_.repeated([&](Slot<words> &slot) { return slot.handle.try_entries(list); });
         for (size_t at = 0; at < list.size() && status == Status::ok; at += 1 + words) {
-            status = turns_.removal([&](Pass<words> &pass) { return pass.try_remove(list[at]).status; });
+            status = turns_.removal([&](Handle<words> &handle) { return handle.try_remove(list[at]).status; });
             status = status == Status::absent ? Status::ok : status;
         }
         return status;
@@ -154,7 +154,7 @@ template <class V> class Table : private Packing<V> {
         return {written.status, written.renewed, written.evicted.has_value()};
     }
     Status put_over(const Identity &key, uint64_t since, const Words &packed) noexcept {
-        return write([&](Pass<words> &pass) { return pass.try_put_if(key.index, since, packed); }).status;
+        return write([&](Handle<words> &handle) { return handle.try_put_if(key.index, since, packed); }).status;
     }
     // Puts what the function makes of an entry's value, if the entry is still the same.
     template <class Function> Found<V> renew(const Identity &key, const Entry &entry, const Function &function) {

@@ -16,9 +16,8 @@ enum { CHILDREN = 200, KEYS = 1000 };
 
 static Map map;
 static cefrodil::object_map<uint64_t, std::string> names;
-static cefrodil::Writer<1> writer;
-static std::vector<cefrodil::Reader<1>> readers;
-static std::vector<cefrodil::Pass<1>> passes;
+static std::vector<cefrodil::Handle<1>> handles, of_shards;
+static cefrodil::Writing<1> writing;
 static std::atomic<bool> is_over{false};
 
 static bool open_and_close() {
@@ -40,19 +39,19 @@ static void compute_slowly() {
 static void write_on() {
     for (uint64_t n = 0; !is_over; n++) {
         MUST(map.insert_or_assign(n % KEYS, n).status == Status::ok);
-        MUST(writer.put(n % KEYS, {n}).status == Status::ok);
+        MUST(writing.put(n % KEYS, {n}).status == Status::ok);
         MUST(names.insert_or_assign(n % KEYS, std::string(n % 100, 'x')).status == Status::ok);
     }
 }
 
-// Readers and passes come and go, and so do threads that take passes of the map.
+// Handles and guards come and go, and so do threads that take passes of the map.
 static void churn() {
     const auto shape = cefrodil::shape_for_items(1000);
     while (!is_over) {
-        cefrodil::Writer<1> other;
-        std::vector<cefrodil::Reader<1>> its;
-        MUST(shape && cefrodil::open(*shape, 2, other, its) == Status::ok && open_and_close());
-        static_cast<void>(writer.meter().counts());
+        std::vector<cefrodil::Handle<1>> others;
+        cefrodil::Writing<1> other;
+        MUST(shape && cefrodil::open(*shape, 1, 2, others) == Status::ok && others[0].hold(other) == Status::ok && open_and_close());
+        static_cast<void>(writing.meter().counts());
         std::thread([] { MUST(map.find(1).has_value()); }).join();
     }
 }
@@ -69,7 +68,7 @@ static bool sees_nothing_open() {
 
 static void be_child(int number) {
     alarm(20);
-    bool is_right = sees_nothing_open() && open_and_close() && writer.meter().counts().hits == 0;
+    bool is_right = sees_nothing_open() && open_and_close() && writing.meter().counts().hits == 0;
     if (number % 2 == 0) {
         Map moved = std::move(map);
         is_right = is_right && !moved.is_open() && map.close() == Status::closed && map.open({100}) == Status::ok;
@@ -97,11 +96,13 @@ static int children_end_well() {
 
 int main() {
     const auto shape = cefrodil::shape_for_items(2000);
-    MUST(shape && map.open({100000}) == Status::ok && cefrodil::open(*shape, 2, writer, readers) == Status::ok);
-    MUST(cefrodil::open_shards(*shape, 2, 3, passes) == Status::ok && names.open({KEYS}) == Status::ok);
+    MUST(shape && map.open({100000}) == Status::ok && cefrodil::open(*shape, 1, 3, handles) == Status::ok);
+    MUST(writing.own(std::move(handles[2])) == Status::ok);
+    MUST(cefrodil::open(*shape, 2, 3, of_shards) == Status::ok && names.open({KEYS}) == Status::ok);
     for (uint64_t key = 0; key < KEYS; key++) {
         MUST(map.insert(key, key).status == Status::ok);
     }
+    MUST(writing.put(1, {1}).status == Status::ok && writing.get(1).status == Status::ok && writing.meter().counts().hits == 1);
     std::vector<std::thread> threads;
     threads.emplace_back(churn);
     threads.emplace_back(write_on);
@@ -110,6 +111,6 @@ int main() {
     MUST(children_end_well() == CHILDREN);
     is_over = true;
     std::for_each(threads.begin(), threads.end(), [](std::thread &thread) { thread.join(); });
-    MUST(map.find(1).has_value() && readers[0].get(1).status == Status::ok && map.size() >= KEYS);
+    MUST(map.find(1).has_value() && handles[0].get(1).status == Status::ok && map.size() >= KEYS);
     return outcome("forks");
 }

@@ -1,4 +1,4 @@
-// A list is one call of the archive, with room for each entry. So a pass tries once for a turn.
+// A list is one call of the archive, with room for each entry. So a handle tries once for a turn.
 #include "cefrodil.h"
 #include <cstddef>
 #include <cstdint>
@@ -21,6 +21,7 @@ static cefrodil_status counted_stamped_entries(cefrodil_handle *handle, uint64_t
 #define cefrodil_stamped_entries_or_none counted_stamped_entries
 #include "cefrodil.hpp"
 #include "must.h"
+#include "stamps.hpp"
 
 using namespace cefrodil;
 
@@ -30,22 +31,46 @@ static bool once(Status status, const std::vector<uint64_t> &list, size_t words,
     return status == Status::ok && list.size() == words && ++before == calls && last_room == room;
 }
 
+// A guard knows how many entries there are, and a handle how many there can be.
+static void of_one_shard(const cefrodil_shape &shape) {
+    std::vector<Handle<2>> handles;
+    Writing<2> writing;
+    std::vector<uint64_t> list;
+    MUST(open(shape, 1, 1, handles) == Status::ok && handles[0].hold(writing) == Status::ok && once(writing.entries(list), list, 0, 0));
+    for (uint64_t key = 0; key < 100; key++) {
+        MUST(writing.put(key, {key, key}).status == Status::ok);
+    }
+    MUST(once(writing.entries(list), list, 300, 300) && writing.remove(7).status == Status::ok && once(writing.entries(list), list, 297, 297));
+    writing.end();
+    MUST(once(handles[0].try_entries(list), list, 297, 300));
+}
+
+static void of_four_shards(const cefrodil_shape &shape) {
+    std::vector<Handle<2>> handles;
+    std::vector<uint64_t> list;
+    MUST(open(shape, 4, 1, handles) == Status::ok && handles[0].try_put(1, {2, 3}).status == Status::ok);
+    MUST(once(handles[0].try_entries(list), list, 3, 1200) && list == std::vector<uint64_t>({1, 2, 3}));
+}
+
+// With stamps each entry has one word more.
+static void with_stamps(const cefrodil_shape &shape, uint32_t shards) {
+    std::vector<Handle<2>> handles;
+    Writing<2> writing;
+    std::vector<uint64_t> list;
+    MUST(open(shape, shards, 1, handles) == Status::ok && handles[0].hold(writing) == Status::ok && once(writing.stamped_entries(list), list, 0, 0));
+    MUST(writing.put(1, {7, 8}).status == Status::ok && writing.put(1, {9, 10}).status == Status::ok);
+    MUST(once(writing.stamped_entries(list), list, 4, 4) && list == std::vector<uint64_t>({1, 9, 10, 2}));
+    writing.end();
+    MUST(once(handles[0].try_stamped_entries(list), list, 4, 400 * shards) && list == std::vector<uint64_t>({1, 9, 10, 2}));
+}
+
 int main() {
     const cefrodil_shape shape{uint64_t(1) << 62, 64, 100, 64, 5, 8, CEFRODIL_MIX_FULL};
-    Writer<2> writer;
-    std::vector<Reader<2>> readers;
-    std::vector<Pass<2>> passes;
-    std::vector<uint64_t> list;
-    MUST(open(shape, 1, writer, readers) == Status::ok && once(writer.entries(list), list, 0, 0) && once(writer.stamped_entries(list), list, 0, 0));
-    for (uint64_t key = 0; key < 100; key++) {
-        MUST(writer.put(key, {key, key}).status == Status::ok);
+    of_one_shard(shape);
+    of_four_shards(shape);
+    if (LISTS_STAMPS) {
+        with_stamps(shape, 1);
+        with_stamps(shape, 4);
     }
-    // The writer knows how many there are, and a pass how many there can be.
-    MUST(once(writer.entries(list), list, 300, 300) && once(writer.stamped_entries(list), list, 400, 400) && writer.remove(7).status == Status::ok);
-    MUST(once(writer.entries(list), list, 297, 297) && once(writer.stamped_entries(list), list, 396, 396));
-    MUST(make_desk(writer, 1, passes) == Status::ok);
-    MUST(once(passes[0].try_entries(list), list, 297, 300) && once(passes[0].try_stamped_entries(list), list, 396, 400));
-    MUST(open_shards(shape, 4, 1, passes) == Status::ok && passes[0].try_put(1, {2, 3}).status == Status::ok);
-    MUST(once(passes[0].try_entries(list), list, 3, 1200) && list == std::vector<uint64_t>({1, 2, 3}));
     return outcome("lists");
 }

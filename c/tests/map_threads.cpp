@@ -50,7 +50,7 @@ static void passes() {
     cefrodil::inside::Passes<1> two;
     MUST(cefrodil_shape_for_shards(100, 1, &shape) == CEFRODIL_OK && two.open(shape, 1, 2) == Status::ok && two.free_count() == 1);
     using Slot = cefrodil::inside::Slot<1>;
-    const auto is_own = [&](Slot &slot) { return &slot.pass != &two.shared(); };
+    const auto is_own = [&](Slot &slot) { return &slot.handle != &two.shared(); };
     for (int round = 0; round < 20; round++) {
         std::thread([&] { MUST(two.call(is_own) && two.free_count() == 0 && two.call(is_own)); }).join();
         MUST(two.free_count() == 1);
@@ -121,7 +121,7 @@ static void passes_in_any_order() {
 struct CalledLast {
     cefrodil::inside::Passes<1> *passes = nullptr;
     ~CalledLast() {
-        const auto is_shared = [&](cefrodil::inside::Slot<1> &slot) { return &slot.pass == &passes->shared(); };
+        const auto is_shared = [&](cefrodil::inside::Slot<1> &slot) { return &slot.handle == &passes->shared(); };
         MUST(passes == nullptr || (passes->free_count() == 1 && passes->call(is_shared)));
     }
 };

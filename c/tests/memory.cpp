@@ -3,6 +3,7 @@
 #include "cefrodil_filler.hpp"
 #include "cefrodil_object_map.hpp"
 #include "must.h"
+#include "stamps.hpp"
 #include <chrono>
 #include <cstdlib>
 #include <new>
@@ -68,8 +69,8 @@ void operator delete(void *block, std::align_val_t) noexcept { __wrap_free(block
 void operator delete(void *block, size_t, std::align_val_t) noexcept { __wrap_free(block); }
 
 // Refuses each allocation of the call in turn. `as_before`: whether all is as it was. Returns whether the call succeeds at last, after some of the
-// library's allocations and at least `own` of C++. `for_cache`: what was taken stays with a cache that is open, for its next handles.
-template <class Call, class AsBefore> static bool at_last(long own, Call call, AsBefore as_before, bool for_cache = false) {
+// library's allocations and at least `own` of C++.
+template <class Call, class AsBefore> static bool at_last(long own, Call call, AsBefore as_before) {
     for (long allowed = 0; allowed < 500; allowed++) {
         const long before = kept;
         left = allowed, of_library = 0;
@@ -78,7 +79,7 @@ template <class Call, class AsBefore> static bool at_last(long own, Call call, A
         if (status == Status::ok) {
             return of_library > 0 && allowed - of_library >= own;
         }
-        MUST(status == Status::no_memory && (kept == before || for_cache) && as_before());
+        MUST(status == Status::no_memory && kept == before && as_before());
     }
     return false;
 }
@@ -100,27 +101,60 @@ template <class List> static void lists(size_t words, List list) {
     MUST(at_last(1, call, [&] { return listed.empty(); }) && listed.size() == words && listed[0] == 7 && listed[1] == 70);
 }
 
-static void apart() {
-    Writer<1> writer, other;
-    std::vector<Reader<1>> readers, others;
-    std::vector<Pass<1>> passes;
-    std::vector<Status> statuses{Status::busy};
-    MUST(at_last(4, [&] { return open(shape, 2, writer, readers); }, [&] { return !writer.is_open() && readers.empty(); }));
-    MUST(writer.put(7, {70}).status == Status::ok && readers[1].get(7).value && writer.meter().counts().hits == 1);
-    lists(2, [&](std::vector<uint64_t> &list) { return writer.entries(list); });
-    lists(3, [&](std::vector<uint64_t> &list) { return writer.stamped_entries(list); });
-    const std::vector<uint64_t> entries{7, 70, 8, 80};
-    const auto none = [&] { return !other.is_open() && others.empty() && statuses.size() == 1 && statuses[0] == Status::busy; };
-    MUST(at_last(6, [&] { return open_with(shape, 2, entries, other, others, statuses); }, none));
-    MUST(statuses.size() == 2 && statuses[0] == Status::ok && statuses[1] == Status::ok && others[1].get(8).value);
-    const auto goes_on = [&] { return passes.empty() && writer.put(7, {70}).status == Status::ok; };
-    MUST(at_last(2, [&] { return make_desk(writer, 40, passes); }, goes_on, true));
-    MUST(!writer.is_open() && passes.size() == 40 && passes[39].get(7).value && readers[0].meter().counts().hits == 2);
+// By a handle, and by a guard.
+static void lists_of(std::vector<Handle<1>> &handles) {
+    Writing<1> writing;
+    lists(2, [&](std::vector<uint64_t> &list) { return handles[1].try_entries(list); });
+    if (LISTS_STAMPS) {
+        lists(3, [&](std::vector<uint64_t> &list) { return handles[1].try_stamped_entries(list); });
+    }
+    MUST(handles[0].hold(writing) == Status::ok);
+    lists(2, [&](std::vector<uint64_t> &list) { return writing.entries(list); });
+    if (LISTS_STAMPS) {
+        lists(3, [&](std::vector<uint64_t> &list) { return writing.stamped_entries(list); });
+    }
 }
 
-static std::vector<Pass<1>> at_desk;
+static void openings(uint32_t shards) {
+    std::vector<Handle<1>> handles, loaded;
+    std::vector<Status> statuses{Status::busy};
+    MUST(at_last(4, [&] { return open(shape, shards, 2, handles); }, [&] { return handles.empty(); }));
+    MUST(handles.size() == 2 && handles[0].try_put(7, {70}).status == Status::ok);
+    MUST(handles[1].get(7).value && handles[0].meter().counts().hits == 1);
+    lists_of(handles);
+    const std::vector<uint64_t> entries{7, 70, 8, 80};
+    const auto none = [&] { return loaded.empty() && statuses.size() == 1 && statuses[0] == Status::busy; };
+    MUST(at_last(6, [&] { return open_with(shape, shards, 2, entries, loaded, statuses); }, none));
+    MUST(statuses.size() == 2 && statuses[0] == Status::ok && statuses[1] == Status::ok && loaded.size() == 2 && loaded[1].get(8).value);
+    // What is open already stays so.
+    const auto is_as_before = [&] { return handles.size() == 2 && handles[1].get(7).value.has_value(); };
+    MUST(at_last(4, [&] { return open(shape, shards, 3, handles); }, is_as_before));
+    MUST(handles.size() == 3 && !handles[1].get(7).value);
+}
 
-// Forty keys are two groups of sixteen and a third of eight. `at`: the first change of theirs, 0 if they are held.
+// To hold and to release take no memory, nor does what a guard does with its handle.
+static void guards() {
+    std::vector<Handle<1>> handles;
+    MUST(open(shape, 4, 2, handles) == Status::ok);
+    const long before = kept;
+    uint64_t moment = 9;
+    left = 0;
+    {
+        Writing<1> writing, other;
+        MUST(handles[0].hold(writing) == Status::ok && writing.put(7, {70}).status == Status::ok && handles[1].hold(other) == Status::held);
+        writing.end();
+        MUST(other.own(std::move(handles[1])) == Status::ok);
+        writing = std::move(other);
+        handles[1] = writing.disown();
+    }
+    MUST(handles[0].try_moment(moment) == Status::ok && moment == 1 && handles[1].is_open());
+    left = -1;
+    MUST(kept == before);
+}
+
+static std::vector<Handle<1>> both;
+
+// Puts forty keys. `at`: the first change of theirs, 0 if they are held.
 static void put_batch(Status expected, uint64_t at) {
     uint64_t keys[40];
     std::array<uint64_t, 1> values[40];
@@ -128,92 +162,75 @@ static void put_batch(Status expected, uint64_t at) {
     for (uint64_t i = 0; i < 40; i++) {
         keys[i] = 100 + i, values[i] = {i};
     }
-    const uint64_t before = at_desk[1].meter().counts().held;
-    MUST(at_desk[1].try_put_many(keys, 40, values, answers) == Status::ok);
+    const uint64_t before = both[1].meter().counts().held;
+    MUST(both[1].try_put_many(keys, 40, values, answers) == Status::ok);
     for (uint64_t i = 0; i < 40; i++) {
         MUST(Status(answers[i].status) == expected && answers[i].reply.at == (at != 0 ? at + i : 0));
     }
-    MUST(at_desk[1].meter().counts().held == before + (expected == Status::held ? 40 : 0));
+    MUST(both[1].meter().counts().held == before + (expected == Status::held ? 40 : 0));
 }
 
-// Whether a call by the other pass is held, and counted once.
+// Whether a call by the other handle is held, and counted once.
 template <class Call> static bool is_held(Call call) {
-    const uint64_t before = at_desk[1].meter().counts().held;
-    return inside::status_of(call(at_desk[1])) == Status::held && at_desk[1].meter().counts().held == before + 1;
+    const uint64_t before = both[1].meter().counts().held;
+    return inside::status_of(call(both[1])) == Status::held && both[1].meter().counts().held == before + 1;
 }
 
 static void each_call_is_held() {
     std::vector<uint64_t> list{1, 2};
     uint64_t len = 99;
-    MUST(is_held([](auto &pass) { return pass.try_put(7, {71}); }) && is_held([](auto &pass) { return pass.put_within(3, 7, {71}); }));
-    MUST(is_held([](auto &pass) { return pass.try_put_if(7, 1, {71}); }) && is_held([](auto &pass) { return pass.try_put_if_absent(8, {80}); }));
-    MUST(is_held([](auto &pass) { return pass.try_remove(7); }) && is_held([](auto &pass) { return pass.try_swap(7, {71}); }));
-    MUST(is_held([](auto &pass) { return pass.try_swap_if(7, 1, {71}); }) && is_held([](auto &pass) { return pass.try_take(7); }));
-    MUST(is_held([](auto &pass) { return pass.try_take_if(7, 1); }) && is_held([](auto &pass) { return pass.try_peek(7); }));
-    MUST(is_held([&](auto &pass) { return pass.try_len(len); }) && len == 99);
-    MUST(is_held([&](auto &pass) { return pass.try_entries(list); }) && list.empty());
-    MUST(is_held([&](auto &pass) { return pass.try_stamped_entries(list); }) && list.empty());
+    MUST(is_held([](auto &handle) { return handle.try_put(7, {71}); }) && is_held([](auto &handle) { return handle.put_within(3, 7, {71}); }));
+    MUST(is_held([](auto &handle) { return handle.try_put_if(7, 1, {71}); }) && is_held([](auto &handle) { return handle.try_put_if_absent(8, {80}); }));
+    MUST(is_held([](auto &handle) { return handle.try_remove(7); }) && is_held([](auto &handle) { return handle.try_swap(7, {71}); }));
+    MUST(is_held([](auto &handle) { return handle.try_swap_if(7, 1, {71}); }) && is_held([](auto &handle) { return handle.try_take(7); }));
+    MUST(is_held([](auto &handle) { return handle.try_take_if(7, 1); }) && is_held([](auto &handle) { return handle.try_peek(7); }));
+    MUST(is_held([&](auto &handle) { return handle.try_len(len); }) && len == 99);
+    MUST(is_held([&](auto &handle) { return handle.try_moment(len); }) && len == 99);
+    MUST(is_held([&](auto &handle) { return handle.try_entries(list); }) && list.empty());
+    MUST(!LISTS_STAMPS || (is_held([&](auto &handle) { return handle.try_stamped_entries(list); }) && list.empty()));
+    Writing<1> writing;
+    MUST(is_held([&](auto &handle) { return handle.hold(writing); }) && !writing.holds());
     // Lookups need no turn.
-    MUST(at_desk[1].get(7).since == 1 && at_desk[1].get_or_desk(7).since == 1 && at_desk[1].get(8).status == Status::absent);
+    MUST(both[1].get(7).since == 1 && both[1].get_or_turn(7).since == 1 && both[1].get(8).status == Status::absent);
 }
 
-// While a list has the turn, each call that needs it is held, and each group of a batch, and nothing is changed.
+// While a list has the turn, each call that needs it is held, and each put of a batch, and nothing is changed.
 static void batch_beside_a_list() {
     std::vector<uint64_t> list;
     list.reserve(100);
-    MUST(open_desk(shape, 2, at_desk) == Status::ok && at_desk[0].try_put(7, {70}).status == Status::ok);
+    MUST(open(shape, 1, 2, both) == Status::ok && both[0].try_put(7, {70}).status == Status::ok);
     in_turn = [] {
         put_batch(Status::held, 0);
         each_call_is_held();
     };
-    MUST(at_desk[0].try_entries(list) == Status::ok && list.size() == 2 && in_turn == nullptr);
+    MUST(both[0].try_entries(list) == Status::ok && list.size() == 2 && in_turn == nullptr);
     put_batch(Status::ok, 2);
-    MUST(at_desk[0].try_entries(list) == Status::ok && list.size() == 82 && at_desk[0].get(139).since == 41);
-    std::vector<Pass<1>>().swap(at_desk);
+    MUST(both[0].try_entries(list) == Status::ok && list.size() == 82 && both[0].get(139).since == 41);
+    std::vector<Handle<1>>().swap(both);
 }
 
-static void by_passes() {
-    std::vector<Pass<1>> passes, of_shards;
-    MUST(at_last(4, [&] { return open_desk(shape, 2, passes); }, [&] { return passes.empty(); }));
-    MUST(passes.size() == 2 && passes[0].try_put(7, {70}).status == Status::ok);
-    lists(2, [&](std::vector<uint64_t> &list) { return passes[1].try_entries(list); });
-    lists(3, [&](std::vector<uint64_t> &list) { return passes[1].try_stamped_entries(list); });
-    MUST(at_last(4, [&] { return open_shards(shape, 4, 2, of_shards); }, [&] { return of_shards.empty(); }));
-    std::vector<Pass<1>> loaded;
-    std::vector<Status> statuses{Status::busy};
-    const std::vector<uint64_t> entries{7, 70, 8, 80};
-    const auto none = [&] { return loaded.empty() && statuses.size() == 1 && statuses[0] == Status::busy; };
-    MUST(at_last(6, [&] { return open_shards_with(shape, 4, 2, entries, loaded, statuses); }, none));
-    MUST(statuses.size() == 2 && statuses[0] == Status::ok && statuses[1] == Status::ok && loaded[1].get(8).value);
-    MUST(of_shards.size() == 2 && of_shards[0].try_put(7, {70}).status == Status::ok);
-    lists(2, [&](std::vector<uint64_t> &list) { return of_shards[1].try_entries(list); });
-    // What is open already stays so.
-    MUST(at_last(4, [&] { return open_desk(shape, 3, passes); }, [&] { return passes.size() == 2 && passes[1].get(7).value.has_value(); }));
-    MUST(passes.size() == 3 && !passes[1].get(7).value);
-}
-
-// A filler that finds no memory leaves the writer as it was.
+// A filler that finds no memory leaves the guard as it was.
 static void fillers() {
-    Writer<1> writer;
-    std::vector<Reader<1>> readers;
-    MUST(open(shape, 1, writer, readers) == Status::ok && writer.put(7, {70}).status == Status::ok);
+    std::vector<Handle<1>> handles;
+    Writing<1> writing;
+    MUST(open(shape, 1, 1, handles) == Status::ok && writing.own(std::move(handles[0])) == Status::ok && writing.put(7, {70}).status == Status::ok);
     std::optional<Filler<1>> filler;
     long refusals = 0;
     for (; !filler && refusals < 10; refusals++) {
         const long before = kept;
         left = refusals;
-        const bool is_made = inside::has_memory([&] { filler.emplace(std::move(writer), 10); });
+        const bool is_made = inside::has_memory([&] { filler.emplace(std::move(writing), 10); });
         left = -1;
-        MUST(is_made ? !writer.is_open() : kept == before && writer.get(7).value);
+        MUST(is_made ? !writing.holds() : kept == before && writing.get(7).value);
     }
-    MUST(filler && refusals == 3 && filler->writer().get(7).value);
+    MUST(filler && refusals == 3 && filler->writing().get(7).value);
 }
 
 // A thread that has no memory to note its pass gives it back, and uses the shared one.
 static void passes_of_threads(const cefrodil_shape &one) {
     inside::Passes<1> passes;
     MUST(passes.open(one, 1, 2) == Status::ok && passes.free_count() == 1);
-    const auto is_own = [&](inside::Slot<1> &slot) { return &slot.pass != &passes.shared(); };
+    const auto is_own = [&](inside::Slot<1> &slot) { return &slot.handle != &passes.shared(); };
     left = 0;
     MUST(!passes.call(is_own) && passes.free_count() == 1);
     left = -1;
@@ -371,8 +388,9 @@ static void by_maps() {
 int main() {
     alarm(100); // so that a thread which waits for ever fails the test
     const long before = kept;
-    apart();
-    by_passes();
+    openings(1);
+    openings(4);
+    guards();
     fillers();
     batch_beside_a_list();
     std::thread(by_maps).join(); // with what the thread keeps

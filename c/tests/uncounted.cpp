@@ -6,18 +6,17 @@
 using namespace cefrodil;
 
 int main() {
-    Writer<1> writer;
-    std::vector<Reader<1>> readers;
-    std::vector<Pass<1>> passes;
+    std::vector<Handle<1>> handles;
+    Writing<1> writing;
     cefrodil_shape shape = *shape_for_items(100);
     shape.items = 1;
-    MUST(open(shape, 1, writer, readers) == Status::ok && writer.put(1, {10}).status == Status::ok && writer.put(2, {20}).evicted);
-    const Answer<1> found = readers[0].get(2);
-    MUST(found.value && (*found.value)[0] == 20 && readers[0].get(1).status == Status::absent);
-    const Counts counts = writer.meter().counts();
-    MUST(counts.hits == 0 && counts.misses == 0 && counts.evictions == 0);
-    MUST(make_desk(writer, 1, passes) == Status::ok && passes[0].leave(readers[0], writer) == Status::in_use);
-    readers[0] = {};
-    MUST(passes[0].leave(readers[0], writer) == Status::ok && writer.get(2).at == 3 && readers[0].get(2).at == 3);
+    MUST(open(shape, 1, 2, handles) == Status::ok && handles[1].hold(writing) == Status::ok);
+    MUST(writing.put(1, {10}).status == Status::ok && writing.put(2, {20}).evicted && handles[0].try_put(3, {30}).status == Status::held);
+    const Answer<1> found = handles[0].get(2);
+    MUST(found.value && (*found.value)[0] == 20 && handles[0].get(1).status == Status::absent);
+    const Counts counts = writing.meter().counts();
+    MUST(counts.hits == 0 && counts.misses == 0 && counts.held == 0 && counts.evictions == 0);
+    writing.end();
+    MUST(handles[0].try_put(3, {30}).evicted && handles[1].get(3).at == 5);
     return outcome("uncounted");
 }

@@ -13,20 +13,14 @@ int main() {
     const bool same = cefrodil_version() / 100 == CEFRODIL_VERSION / 100;
     const Status expected = same ? Status::ok : Status::other_version;
     const cefrodil_shape shape{uint64_t(1) << 62, 64, 100, 64, 5, 8, CEFRODIL_MIX_FULL};
-    Writer<1> writer, other;
-    std::vector<Reader<1>> readers, others;
-    std::vector<Pass<1>> passes, of_shards, of_writer, loaded;
+    std::vector<Handle<1>> handles, of_shards, loaded;
     std::vector<Status> statuses;
-    MUST(shape_for_items(100).has_value() == same && shape_for_shards(100, 4).has_value() == same);
-    MUST(open(shape, 1, writer, readers) == expected && writer.is_open() == same && readers.size() == size_t(same));
-    MUST(open_with(shape, 1, {1, 10}, other, others, statuses) == expected && statuses.size() == size_t(same));
-    MUST(open_desk(shape, 1, passes) == expected && open_shards(shape, 4, 1, of_shards) == expected);
-    statuses.clear();
-    MUST(open_shards_with(shape, 4, 1, {1, 10}, loaded, statuses) == expected && statuses.size() == size_t(same));
+    MUST(shape_for_items(100).has_value() == same && shape_for_items(100, 4).has_value() == same);
+    MUST(open(shape, 1, 1, handles) == expected && handles.size() == size_t(same) && open(shape, 4, 1, of_shards) == expected);
+    MUST(open_with(shape, 4, 1, {1, 10}, loaded, statuses) == expected && statuses.size() == size_t(same) && loaded.size() == size_t(same));
     map<int, int> numbers;
     MUST(numbers.open({0}) == (same ? Status::bad_items : Status::other_version) && !numbers.is_open());
     MUST(numbers.open({100}) == expected && numbers.is_open() == same);
-    MUST(make_desk(writer, 1, of_writer) == expected && of_writer.size() == size_t(same));
     MUST(text(Status::other_version) == "the library has version " + dotted(cefrodil_version()) + ", and the header " + dotted(CEFRODIL_VERSION));
     return outcome("versions");
 }

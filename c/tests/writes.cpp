@@ -1,36 +1,36 @@
-// What each write returns in C++: the key's token, what was evicted and what gave way. The writer and a pass make the same calls.
+// What each write returns in C++: the key's token, what was evicted and what gave way. A guard and a handle make the same calls.
 #include "cefrodil.hpp"
 #include "must.h"
 
 using namespace cefrodil;
 
-// The calls of a writer, and those of a pass, by the same names.
-struct ByWriter {
-    Writer<1> &writer;
-    Written put(uint64_t key, uint64_t value) { return writer.put(key, {value}); }
-    Written put_if_absent(uint64_t key, uint64_t value) { return writer.put_if_absent(key, {value}); }
-    Written remove(uint64_t key) { return writer.remove(key); }
-    Swapped<1> swap(uint64_t key, uint64_t value) { return writer.swap(key, {value}); }
-    Swapped<1> swap_if(uint64_t key, uint64_t since, uint64_t value) { return writer.swap_if(key, since, {value}); }
-    Swapped<1> take(uint64_t key) { return writer.take(key); }
-    Swapped<1> take_if(uint64_t key, uint64_t since) { return writer.take_if(key, since); }
-    Answer<1> peek(uint64_t key) { return writer.peek(key); }
+// The calls of a guard, and those of a handle, by the same names.
+struct ByWriting {
+    Writing<1> &writing;
+    Written put(uint64_t key, uint64_t value) { return writing.put(key, {value}); }
+    Written put_if_absent(uint64_t key, uint64_t value) { return writing.put_if_absent(key, {value}); }
+    Written remove(uint64_t key) { return writing.remove(key); }
+    Swapped<1> swap(uint64_t key, uint64_t value) { return writing.swap(key, {value}); }
+    Swapped<1> swap_if(uint64_t key, uint64_t since, uint64_t value) { return writing.swap_if(key, since, {value}); }
+    Swapped<1> take(uint64_t key) { return writing.take(key); }
+    Swapped<1> take_if(uint64_t key, uint64_t since) { return writing.take_if(key, since); }
+    Answer<1> peek(uint64_t key) { return writing.peek(key); }
     Status put_many(const uint64_t *keys, const std::array<uint64_t, 1> *values, cefrodil_put_answer *answers) {
-        return writer.put_many(keys, 3, values, answers);
+        return writing.put_many(keys, 3, values, answers);
     }
 };
-struct ByPass {
-    Pass<1> &pass;
-    Written put(uint64_t key, uint64_t value) { return pass.try_put(key, {value}); }
-    Written put_if_absent(uint64_t key, uint64_t value) { return pass.try_put_if_absent(key, {value}); }
-    Written remove(uint64_t key) { return pass.try_remove(key); }
-    Swapped<1> swap(uint64_t key, uint64_t value) { return pass.try_swap(key, {value}); }
-    Swapped<1> swap_if(uint64_t key, uint64_t since, uint64_t value) { return pass.try_swap_if(key, since, {value}); }
-    Swapped<1> take(uint64_t key) { return pass.try_take(key); }
-    Swapped<1> take_if(uint64_t key, uint64_t since) { return pass.try_take_if(key, since); }
-    Answer<1> peek(uint64_t key) { return pass.try_peek(key); }
+struct ByHandle {
+    Handle<1> &handle;
+    Written put(uint64_t key, uint64_t value) { return handle.try_put(key, {value}); }
+    Written put_if_absent(uint64_t key, uint64_t value) { return handle.try_put_if_absent(key, {value}); }
+    Written remove(uint64_t key) { return handle.try_remove(key); }
+    Swapped<1> swap(uint64_t key, uint64_t value) { return handle.try_swap(key, {value}); }
+    Swapped<1> swap_if(uint64_t key, uint64_t since, uint64_t value) { return handle.try_swap_if(key, since, {value}); }
+    Swapped<1> take(uint64_t key) { return handle.try_take(key); }
+    Swapped<1> take_if(uint64_t key, uint64_t since) { return handle.try_take_if(key, since); }
+    Answer<1> peek(uint64_t key) { return handle.try_peek(key); }
     Status put_many(const uint64_t *keys, const std::array<uint64_t, 1> *values, cefrodil_put_answer *answers) {
-        return pass.try_put_many(keys, 3, values, answers);
+        return handle.try_put_many(keys, 3, values, answers);
     }
 };
 
@@ -94,32 +94,30 @@ template <class Calls> static void writes(Calls calls, const Meter &meter) {
 }
 
 // A handle that takes another's place closes its own cache. One that takes its own place stays open.
-static void moves(const cefrodil_shape &shape, Writer<1> &writer) {
-    Writer<1> other;
-    std::vector<Reader<1>> readers;
+static void moves(const cefrodil_shape &shape, Handle<1> &handle) {
+    std::vector<Handle<1>> others;
     std::vector<Status> statuses;
-    MUST(open_with(shape, 1, {1, 1, 2, 2, 3, 3}, other, readers, statuses) == Status::ok);
+    MUST(open_with(shape, 1, 1, {1, 1, 2, 2, 3, 3}, others, statuses) == Status::ok);
     MUST(statuses.size() == 3 && statuses[0] == Status::ok && statuses[1] == Status::ok && statuses[2] == Status::no_item);
     uint64_t len = 9;
-    writer = std::move(other);
-    MUST(!other.is_open() && writer.len(len) == Status::ok && len == 2);
-    Writer<1> &same = writer;
-    writer = std::move(same);
-    MUST(writer.is_open() && writer.len(len) == Status::ok && len == 2);
+    handle = std::move(others[0]);
+    MUST(!others[0].is_open() && handle.try_len(len) == Status::ok && len == 2);
+    Handle<1> &same = handle;
+    handle = std::move(same);
+    MUST(handle.is_open() && handle.try_len(len) == Status::ok && len == 2);
 }
 
 int main() {
     cefrodil_shape shape = *shape_for_items(100);
     shape.items = 2;
-    Writer<1> writer;
-    std::vector<Reader<1>> readers;
-    std::vector<Pass<1>> passes;
-    MUST(open(shape, 1, writer, readers) == Status::ok && open_desk(shape, 1, passes) == Status::ok);
-    writes(ByWriter{writer}, writer.meter());
-    writes(ByPass{passes[0]}, passes[0].meter());
+    std::vector<Handle<1>> handles, others;
+    Writing<1> writing;
+    MUST(open(shape, 1, 1, handles) == Status::ok && open(shape, 1, 1, others) == Status::ok && writing.own(std::move(others[0])) == Status::ok);
+    writes(ByWriting{writing}, writing.meter());
+    writes(ByHandle{handles[0]}, handles[0].meter());
     uint64_t len = 9;
-    MUST(passes[0].try_remove(6).status == Status::ok && passes[0].try_len(len) == Status::ok && len == 1);
-    moves(shape, writer);
-    MUST(!shape_for_shards(0, 4) && open_desk(shape, 1024, passes) == Status::ok && passes.size() == 1024);
+    MUST(handles[0].try_remove(6).status == Status::ok && handles[0].try_len(len) == Status::ok && len == 1);
+    moves(shape, handles[0]);
+    MUST(open(shape, 1, 1024, handles) == Status::ok && handles.size() == 1024);
     return outcome("writes");
 }

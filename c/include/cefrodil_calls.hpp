@@ -1,0 +1,158 @@
+// The calls that a Handle and a Writing of cefrodil.hpp have in common: those of cefrodil.h, with values as arrays and answers as types. What they
+// come to is counted.
+#ifndef CEFRODIL_CALLS_HPP
+#define CEFRODIL_CALLS_HPP
+
+#include "cefrodil_handle.hpp"
+#include <array>
+#include <cstddef>
+#include <cstdint>
+#include <optional>
+#include <vector>
+
+namespace cefrodil {
+
+namespace inside {
+
+inline Written written(cefrodil_status status, const cefrodil_reply &reply) noexcept {
+    std::optional<uint64_t> evicted;
+    if (reply.put == CEFRODIL_PUT_EVICTED) {
+        evicted = reply.evicted;
+    }
+    return {static_cast<Status>(status), evicted, reply.at, reply.since, reply.put == CEFRODIL_PUT_RENEWED};
+}
+
+// `gone`: an entry gives way if the call is done.
+template <size_t Words> Swapped<Words> swapped(const Written &write, const std::array<uint64_t, Words> &old, bool gone) noexcept {
+    const bool done = write.status == Status::ok && gone;
+    Swapped<Words> told{write.status, write.evicted, std::nullopt, write.at, done ? write.since : 0, done ? 0 : write.since};
+    if (done) {
+        told.old = old;
+    }
+    return told;
+}
+
+// A handle with its calls, for values of `Words` words. A Writing has them by their names, and a Handle as its tries.
+template <size_t Words> class Calls : public OpenHandle {
+    static_assert(Words >= 1 && Words <= 8, "a value has 1 to 8 words");
+
+  public:
+    using Value = std::array<uint64_t, Words>;
+
+    [[nodiscard]] Answer<Words> get(uint64_t key) noexcept {
+        cefrodil_reply reply;
+        Value value;
+        const cefrodil_status status = cefrodil_get_of_width(raw(), key, value.data(), Words, &reply);
+        return looked(status, reply, value);
+    }
+    // The number of keys that all shards hold together at most.
+    [[nodiscard]] Status capacity(uint64_t &number) noexcept { return static_cast<Status>(cefrodil_capacity(raw(), &number)); }
+
+  protected:
+    Calls() noexcept {}
+    Calls(Calls &&) noexcept = default;
+    Calls &operator=(Calls &&) noexcept = default;
+    ~Calls() = default;
+
+    Written put(uint64_t key, const Value &value) noexcept {
+        cefrodil_reply reply;
+        const cefrodil_status status = cefrodil_put_of_width(raw(), key, value.data(), Words, &reply);
+        return wrote(status, reply);
+    }
+    [[nodiscard]] Written put_if(uint64_t key, uint64_t since, const Value &value) noexcept {
+        cefrodil_reply reply;
+        const cefrodil_status status = cefrodil_put_if(raw(), key, since, value.data(), Words, &reply);
+        return wrote(status, reply);
+    }
+    [[nodiscard]] Written put_if_absent(uint64_t key, const Value &value) noexcept {
+        cefrodil_reply reply;
+        const cefrodil_status status = cefrodil_put_if_absent(raw(), key, value.data(), Words, &reply);
+        return wrote(status, reply);
+    }
+    Written remove(uint64_t key) noexcept {
+        cefrodil_reply reply;
+        const cefrodil_status status = cefrodil_remove(raw(), key, &reply);
+        return wrote(status, reply);
+    }
+    [[nodiscard]] Status put_many(const uint64_t *keys, size_t count, const Value *values, cefrodil_put_answer *answers) noexcept {
+        static_assert(sizeof(Value) == Words * sizeof(uint64_t), "values lie one after the other");
+        const uint64_t *words = count != 0 ? values->data() : nullptr;
+        const cefrodil_status status = cefrodil_put_many_or_none(raw(), keys, count, words, Words * count, answers, count);
+        for (size_t i = 0; status == CEFRODIL_OK && i < count; i++) {
+            counter().wrote(static_cast<cefrodil_status>(answers[i].status), answers[i].reply);
+        }
+        return static_cast<Status>(status);
+    }
+
+    [[nodiscard]] Swapped<Words> swap(uint64_t key, const Value &value) noexcept {
+        cefrodil_reply reply;
+        Value old{};
+        const cefrodil_status status = cefrodil_swap(raw(), key, value.data(), Words, old.data(), Words, &reply);
+        return swapped<Words>(wrote(status, reply), old, reply.put != CEFRODIL_PUT_STORED);
+    }
+    [[nodiscard]] Swapped<Words> swap_if(uint64_t key, uint64_t since, const Value &value) noexcept {
+        cefrodil_reply reply;
+        Value old{};
+        const cefrodil_status status = cefrodil_swap_if(raw(), key, since, value.data(), Words, old.data(), Words, &reply);
+        return swapped<Words>(wrote(status, reply), old, true);
+    }
+    [[nodiscard]] Swapped<Words> take(uint64_t key) noexcept {
+        cefrodil_reply reply;
+        Value old{};
+        const cefrodil_status status = cefrodil_take(raw(), key, old.data(), Words, &reply);
+        return swapped<Words>(wrote(status, reply), old, true);
+    }
+    [[nodiscard]] Swapped<Words> take_if(uint64_t key, uint64_t since) noexcept {
+        cefrodil_reply reply;
+        Value old{};
+        const cefrodil_status status = cefrodil_take_if(raw(), key, since, old.data(), Words, &reply);
+        return swapped<Words>(wrote(status, reply), old, true);
+    }
+
+    // It is no use of the key, so it isn't counted as a lookup.
+    [[nodiscard]] Answer<Words> peek(uint64_t key) noexcept {
+        cefrodil_reply reply;
+        Value value;
+        const Status status = Counting::tried(*this, cefrodil_peek(raw(), key, value.data(), Words, &reply));
+        return answer(status, reply, value);
+    }
+    [[nodiscard]] Status len(uint64_t &number) noexcept { return Counting::tried(*this, cefrodil_len(raw(), &number)); }
+
+    // Lists entries of `each` words by one call of C. `most`: gives how many there are at most, so that they all have room.
+    template <class Most, class List> [[nodiscard]] Status list(size_t each, std::vector<uint64_t> &words, Most most, List call) noexcept {
+        uint64_t count = 0;
+        Status status = static_cast<Status>(most(raw(), &count));
+        if (status == Status::ok && !has_memory([&] { words.resize(count * each); })) {
+            status = Status::no_memory;
+        }
+        if (status == Status::ok) {
+            status = Counting::tried(*this, call(raw(), words.data(), words.size(), &count));
+        }
+        words.resize(status == Status::ok ? count * each : 0);
+        return status;
+    }
+
+    Answer<Words> looked(cefrodil_status status, const cefrodil_reply &reply, const Value &value) noexcept {
+        counter().looked(status);
+        return answer(static_cast<Status>(status), reply, value);
+    }
+    Written wrote(cefrodil_status status, const cefrodil_reply &reply) noexcept {
+        counter().wrote(status, reply);
+        return written(status, reply);
+    }
+
+  private:
+    static Answer<Words> answer(Status status, const cefrodil_reply &reply, const Value &value) noexcept {
+        Answer<Words> told{status, std::nullopt, reply.at, reply.since};
+        if (status == Status::ok) {
+            told.value = value;
+        }
+        return told;
+    }
+};
+
+} // namespace inside
+
+} // namespace cefrodil
+
+#endif
