@@ -1,6 +1,6 @@
-//! A pass for each thread, from its first call to its end.
+//! A handle for each thread, from its first call to its end.
 //!
-//! A thread claims a slot, and keeps its index until it ends. If all slots are claimed, a thread uses the shared pass, under a mutex, and
+//! A thread claims a slot, and keeps its index until it ends. If all slots are claimed, a thread uses the shared handle, under a mutex, and
 //! tries to claim a slot again at its next call.
 use crate::map::Inserted;
 use crate::stalls::Stalls;
@@ -16,7 +16,7 @@ use std::process;
 use std::sync::atomic::{AtomicU64, AtomicUsize, Ordering::Relaxed};
 use std::sync::{Arc, Mutex, MutexGuard, PoisonError, Weak};
 
-/// The passes of a map.
+/// The handles of a map.
 pub(crate) struct Slots<P> {
     // No two maps of a process have the same one.
     id: u64,
@@ -34,19 +34,19 @@ pub(crate) struct Slots<P> {
 /// What one thread uses. The alignment keeps slots of different threads in different cache lines.
 #[repr(align(128))]
 struct Slot<P> {
-    pass: RefCell<P>,
+    handle: RefCell<P>,
     counts: Counts,
 }
 
-// SAFETY: `counts` is `Sync`, so this is about `pass`. Only `Slots::own` touches it, and only in the slot that the calling thread has
+// SAFETY: `counts` is `Sync`, so this is about `handle`. Only `Slots::own` touches it, and only in the slot that the calling thread has
 // claimed (`mine`). A `RefMut` stays in its thread, and each call of the map drops its own before it returns. At most one thread has
 // claimed a slot: its index begins in `free`, `take_free` takes it out for the thread that claims it, and it goes back at that thread's
 // end (`Claims::drop`). The thread doesn't use it again: by then `LAST` and `RECENT` are reset, and `CLAIMS` can not be reached any more. Neither
-// is ever of another map, since ids differ. The mutex of `free` orders what two threads do with a slot one after the other, and the pass may move
+// is ever of another map, since ids differ. The mutex of `free` orders what two threads do with a slot one after the other, and the handle may move
 // to another thread (`Send`).
 unsafe impl<P: Send> Sync for Slot<P> {}
 
-// A call that panics leaves its pass usable.
+// A call that panics leaves its handle usable.
 impl<P> RefUnwindSafe for Slot<P> {}
 
 /// Locks the mutex, also if a thread panicked that had locked it. Nothing here is left half done by a panic.
@@ -55,11 +55,11 @@ pub(crate) fn lock<T>(mutex: &Mutex<T>) -> MutexGuard<'_, T> {
 }
 
 impl<P: 'static> Slots<P> {
-    /// The last pass is the shared one; each other is in a slot. There must be one at least.
-    pub fn new(mut passes: Vec<P>) -> Slots<P> {
+    /// The last handle is the shared one; each other is in a slot. There must be one at least.
+    pub fn new(mut handles: Vec<P>) -> Slots<P> {
         static NEXT: AtomicU64 = AtomicU64::new(1);
-        let shared = passes.pop().expect("opening makes one pass at least");
-        let slots: Box<[Slot<P>]> = passes.into_iter().map(Slot::new).collect();
+        let shared = handles.pop().expect("opening makes one handle at least");
+        let slots: Box<[Slot<P>]> = handles.into_iter().map(Slot::new).collect();
         Slots {
             // Relaxed: it is enough that no two numbers are the same.
             id: NEXT.fetch_add(1, Relaxed),
@@ -73,20 +73,20 @@ impl<P: 'static> Slots<P> {
         }
     }
 
-    /// The thread's own pass and its counts, unless it has none. `None`, too, if the pass is borrowed: if a call by it were to call this.
+    /// The thread's own handle and its counts, unless it has none. `None`, too, if the handle is borrowed: if a call by it were to call this.
     #[inline]
     pub fn own(self: &Arc<Self>) -> Option<(RefMut<'_, P>, &Counts)> {
         #[cfg(test)]
         before_call();
         let slot = self.mine()?;
-        Some((slot.pass.try_borrow_mut().ok()?, &slot.counts))
+        Some((slot.handle.try_borrow_mut().ok()?, &slot.counts))
     }
 
-    /// Makes one call by the thread's own pass, or by the shared one.
+    /// Makes one call by the thread's own handle, or by the shared one.
     #[inline]
     pub fn call<T>(self: &Arc<Self>, call: impl FnOnce(&mut P) -> T) -> T {
         match self.own() {
-            Some((mut pass, _)) => call(&mut pass),
+            Some((mut handle, _)) => call(&mut handle),
             None => self.call_shared(call),
         }
     }
@@ -204,7 +204,7 @@ impl<P> Slots<P> {
     }
 }
 
-/// Slots of any kind of passes.
+/// Slots of any kind of handles.
 trait Home {
     fn give_back(&self, index: usize);
 }
@@ -221,8 +221,8 @@ impl<P> Home for Slots<P> {
 }
 
 impl<P> Slot<P> {
-    fn new(pass: P) -> Slot<P> {
-        Slot { pass: RefCell::new(pass), counts: Counts::default() }
+    fn new(handle: P) -> Slot<P> {
+        Slot { handle: RefCell::new(handle), counts: Counts::default() }
     }
 }
 
@@ -325,7 +325,7 @@ fn before_call() {
 
 #[cfg(test)]
 thread_local! {
-    /// How many calls of an index this thread has made, if it has a pass.
+    /// How many calls of an index this thread has made, if it has a handle.
     pub(crate) static CALLS: Cell<u32> = const { Cell::new(0) };
     /// What a test does before a call of this thread: after so many others.
     pub(crate) static BEFORE_CALL: Cell<Option<(u32, Box<dyn FnOnce()>)>> = const { Cell::new(None) };
