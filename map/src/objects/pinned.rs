@@ -80,7 +80,7 @@ impl<O: Held, S> Pinned<'_, O, S> {
     where
         O: Keyed<Q>,
     {
-        self.state_or_look(hash, key, self.inner.slots.call(|handle| handle.get(hash)), tries)
+        self.state_or_look(hash, key, self.inner.slots.call(|handle| handle.get_or_turn(hash)), tries)
     }
 
     /// Looks the key up under its hash in a turn, which is no use of it. `None`: no try won.
