@@ -48,7 +48,7 @@ impl<const WORDS: usize> Writing<'_, WORDS> {
         }
     }
 
-    /// Puts the key with this value. A new key evicts another one if the cache is full: its `len` is its `capacity`.
+    /// Puts the key with this value. A new key evicts another one of its shard if that has as many keys as items.
     ///
     /// # Errors
     ///
