@@ -40,9 +40,9 @@ struct RustTiers : rl::test_suite<RustTiers, 3> {
         }
         const bool is_late = explored::without("put before the removal");
         is_late ? void(small.compare_exchange(words, none, all)) : void();
-        main.compare_exchange(none, words, all);                      //| let is_new = match self.main.call(|pass| pass.put_if_absent(key, &value)) {
+        main.compare_exchange(none, words, all);                      //| let is_new = match self.main.call(|handle| handle.put_if_absent(key, &value)) {
         if (!is_late && rl::rand(2) == 0) { // or it can't
-            small.compare_exchange(words, none, all);                 //| let taken = in_turn(tries, || self.small.call(|small| small.pass.take_if(key, since)));
+            small.compare_exchange(words, none, all);                 //| let taken = in_turn(tries, || self.small.call(|small| small.handle.take_if(key, since)));
         }
         ended.fetch_add(1, all);
     }
@@ -57,10 +57,10 @@ struct RustTiers : rl::test_suite<RustTiers, 3> {
     void write(int words) {
         const explored::Mutex::Off off("lock of a write");
         const Guard guard(key_lock);                                  //| let _locked = self.lock(key).ok_or(TurnError::Held)?;
-        const bool in_main = main.load(all) != none;                  //| let in_main = self.main.call(|pass| pass.has(key))?;
-        const bool in_small = small.load(all) != none;                //| let in_small = self.small.call(|small| small.pass.has(key))?;
+        const bool in_main = main.load(all) != none;                  //| let in_main = self.main.call(|handle| handle.has(key))?;
+        const bool in_small = small.load(all) != none;                //| let in_small = self.small.call(|small| small.handle.has(key))?;
         if (in_main && in_small && !explored::without("removal of the copy")) {
-            small.store(none, all);                                   //| if let Removal::Removed { .. } = self.small.call(|small| small.pass.remove(key)).ok()? {
+            small.store(none, all);                                   //| if let Removal::Removed { .. } = self.small.call(|small| small.handle.remove(key)).ok()? {
         }
         (in_main ? main : small).store(words, all);
     }

@@ -2,9 +2,9 @@
 use crate::clock::Clock;
 use crate::error::OpenError;
 use crate::flight::Flights;
+use crate::handle::AnyHandle;
 use crate::inner::Inner;
 use crate::map::Map;
-use crate::pass::AnyPass;
 use crate::print::Printer;
 use crate::settings::Settings;
 use crate::slots::Slots;
@@ -51,8 +51,8 @@ impl<K: ?Sized, V, S> Builder<K, V, S> {
         self
     }
 
-    /// How many threads at a time have a pass of their own, at most 1,023. A thread keeps its pass from its first call to its end. Further
-    /// threads share one more pass, and wait for each other. The default is 64.
+    /// How many threads at a time have a handle of their own, at most 1,023. A thread keeps its handle from its first call to its end. Further
+    /// threads share one more handle, and wait for each other. The default is 64.
     pub fn threads(mut self, threads: usize) -> Self {
         self.settings.threads = threads;
         self
@@ -114,12 +114,12 @@ impl<K: ?Sized, V: Copy + Send + Sync + 'static, S: BuildHasher> Builder<K, V, S
     pub(crate) fn open_shaped(self, shape: &Shape, shards: u32, tries: u32) -> Result<Map<K, V, S>, OpenError> {
         const { assert!(Layout::Plain.width::<V>() <= MOST, "a value has at most 56 bytes") };
         let width = Layout::of(self.settings.life).width::<V>();
-        let mut passes = AnyPass::open(width, shape, shards, self.settings.passes()).map_err(OpenError::of)?;
-        let mut capacity = passes[0].capacity();
-        let slots = Arc::new(Slots::new(passes));
+        let mut handles = AnyHandle::open(width, shape, shards, self.settings.handles()).map_err(OpenError::of)?;
+        let mut capacity = handles[0].capacity();
+        let slots = Arc::new(Slots::new(handles));
         let mut tiers = None;
         if self.settings.small_table {
-            let mut small = self.small_passes(width)?;
+            let mut small = self.small_handles(width)?;
             capacity += small[0].capacity();
             tiers = Some(Tiers::new(Arc::clone(&slots), small, capacity));
         }
@@ -138,9 +138,9 @@ impl<K: ?Sized, V: Copy + Send + Sync + 'static, S: BuildHasher> Builder<K, V, S
 }
 
 impl<K: ?Sized, V, S> Builder<K, V, S> {
-    fn small_passes(&self, width: usize) -> Result<Vec<AnyPass>, OpenError> {
+    fn small_handles(&self, width: usize) -> Result<Vec<AnyHandle>, OpenError> {
         let (shape, shards) = self.settings.small_shape()?;
-        AnyPass::open(width, &shape, shards, self.settings.passes()).map_err(OpenError::of)
+        AnyHandle::open(width, &shape, shards, self.settings.handles()).map_err(OpenError::of)
     }
 }
 

@@ -1,9 +1,9 @@
 //! The removal of all entries.
 use crate::error::ClearError;
+use crate::handle::AnyHandle;
 use crate::map::Map;
-use crate::pass::AnyPass;
 use crate::stats::Kind;
-use crate::tiers::SmallPass;
+use crate::tiers::SmallHandle;
 use crate::wait::LISTS;
 use cefrodil::Removal;
 
@@ -36,7 +36,7 @@ impl<K: ?Sized, V: Copy, S> Map<K, V, S> {
             for key in self.keys(lists, tries)? {
                 let removed = slots.in_turn(tries, || match &self.inner.tiers {
                     Some(tiers) => tiers.remove(key),
-                    None => slots.call(|pass| pass.remove(key)),
+                    None => slots.call(|handle| handle.remove(key)),
                 });
                 if let Removal::Removed { .. } = removed.map_err(ClearError::of_removal)? {
                     slots.count(Kind::Removed);
@@ -51,10 +51,10 @@ impl<K: ?Sized, V: Copy, S> Map<K, V, S> {
     fn keys(&self, lists: u32, tries: u32) -> Result<Vec<u64>, ClearError> {
         let mut keys = Vec::new();
         if let Some(tiers) = &self.inner.tiers {
-            keys = self.inner.slots.in_turn(lists, || tiers.small().call(SmallPass::keys)).map_err(ClearError::of_list)?;
+            keys = self.inner.slots.in_turn(lists, || tiers.small().call(SmallHandle::keys)).map_err(ClearError::of_list)?;
             tiers.wait_for_moves(tries).map_err(ClearError::of_list)?;
         }
-        keys.extend(self.inner.slots.in_turn(lists, || self.inner.slots.call(AnyPass::keys)).map_err(ClearError::of_list)?);
+        keys.extend(self.inner.slots.in_turn(lists, || self.inner.slots.call(AnyHandle::keys)).map_err(ClearError::of_list)?);
         Ok(keys)
     }
 }

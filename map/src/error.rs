@@ -11,7 +11,7 @@ pub enum OpenError {
     Capacity,
     /// The number of shards must be a power of two, 1 to 256.
     Shards,
-    /// At most 1,023 threads can have a pass of their own.
+    /// At most 1,023 threads can have a handle of their own.
     Threads,
     /// Out of memory. Take a smaller capacity, or try later.
     NoMemory,
@@ -89,7 +89,7 @@ impl OpenError {
         match why {
             cefrodil::OpenError::Items => OpenError::Capacity,
             cefrodil::OpenError::Shards => OpenError::Shards,
-            cefrodil::OpenError::Readers => OpenError::Threads,
+            cefrodil::OpenError::Handles => OpenError::Threads,
             cefrodil::OpenError::NoMemory => OpenError::NoMemory,
             why => OpenError::Index(why),
         }
@@ -140,7 +140,7 @@ impl Display for OpenError {
         text.write_str(match self {
             OpenError::Capacity => "the capacity must be at least 1, and at most 3774873 for each shard",
             OpenError::Shards => "the number of shards must be a power of two from 1 to 256",
-            OpenError::Threads => "at most 1023 threads can have a pass of their own",
+            OpenError::Threads => "at most 1023 threads can have a handle of their own",
             OpenError::NoMemory => NO_MEMORY,
             OpenError::Index(why) => return why.fmt(text),
         })

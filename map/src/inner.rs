@@ -2,8 +2,8 @@
 use crate::clock::{Clock, NEVER};
 use crate::error::{GetError, InsertError, RemoveError};
 use crate::flight::Flights;
+use crate::handle::{AnyHandle, MANY};
 use crate::map::Inserted;
-use crate::pass::{AnyPass, MANY};
 use crate::print::{Print, Printer};
 use crate::slots::Slots;
 use crate::stats::Kind;
@@ -16,8 +16,8 @@ use std::sync::Arc;
 use std::time::Duration;
 
 pub(crate) struct Inner<K: ?Sized, V, S> {
-    /// Passes of the main table.
-    pub slots: Arc<Slots<AnyPass>>,
+    /// Handles of the main table.
+    pub slots: Arc<Slots<AnyHandle>>,
     /// With a small table: both of them.
     pub tiers: Option<Tiers>,
     pub flights: Flights<V>,
@@ -69,7 +69,8 @@ impl<K: ?Sized, V: Copy, S: BuildHasher> Inner<K, V, S> {
 
     /// Looks the key up. `None`: each try was busy. It isn't counted.
     pub fn look(&self, print: Print, tries: u32) -> Option<Found<V>> {
-        let look = |pass: &mut AnyPass| AnyPass::get::<V, _>(pass, print.key, self.layout(), |seen| self.found(print, seen));
+        let look =
+            |handle: &mut AnyHandle| AnyHandle::get::<V, _>(handle, print.key, self.layout(), |seen| self.found(print, seen));
         let found = self.slots.call(look).or_else(|| self.look_again(print, tries - 1))?;
         self.look_further(print, found, tries)
     }
@@ -117,7 +118,7 @@ impl<K: ?Sized, V: Copy, S: BuildHasher> Inner<K, V, S> {
 
     #[cold]
     fn look_again(&self, print: Print, tries: u32) -> Option<Found<V>> {
-        self.slots.within(tries, || self.found(print, Seen::of(&mut self.slots.call(|pass| pass.get_or_desk(print.key)))))
+        self.slots.within(tries, || self.found(print, Seen::of(&mut self.slots.call(|handle| handle.get_or_turn(print.key)))))
     }
 
     fn found(&self, print: Print, seen: Seen) -> Option<Found<V>> {
@@ -154,10 +155,10 @@ impl<K: ?Sized, V: Copy, S: BuildHasher> Inner<K, V, S> {
     #[inline(always)]
     fn get_laid<const TIMED: bool, R>(&self, print: Print, tries: u32, told: impl FnOnce(Result<Option<V>, GetError>) -> R) -> R {
         let layout = if TIMED { Layout::Timed } else { Layout::Plain };
-        let Some((pass, counts)) = self.slots.own() else {
+        let Some((handle, counts)) = self.slots.own() else {
             return told(self.used(print, self.look(print, tries), tries));
         };
-        AnyPass::get::<V, _>(pass, print.key, layout, |seen| match seen {
+        AnyHandle::get::<V, _>(handle, print.key, layout, |seen| match seen {
             Seen::Entry(words, _) if check(words) == print.check && !self.clock.has_passed(deadline(words, layout)) => {
                 counts.add_alone(Kind::Hit);
                 told(Ok(Some(Entry::of(words, layout).value)))
@@ -201,7 +202,7 @@ impl<K: ?Sized, V: Copy, S: BuildHasher> Inner<K, V, S> {
         let (mut keys, mut replies) = ([0; MANY], [Reply::Busy; MANY]);
         let (keys, replies) = (&mut keys[..prints.len()], &mut replies[..prints.len()]);
         keys.iter_mut().zip(prints).for_each(|(key, print)| *key = print.key);
-        self.slots.call(|pass| pass.get_many(keys, replies));
+        self.slots.call(|handle| handle.get_many(keys, replies));
         values.extend(prints.iter().zip(replies).map(|(print, reply)| {
             let found = self.found(*print, Seen::of(reply)).or_else(|| self.look_again(*print, self.looks() - 1));
             match found {
@@ -217,7 +218,7 @@ impl<K: ?Sized, V: Copy, S: BuildHasher> Inner<K, V, S> {
         let found = self.slots.within(tries, || {
             let mut reply = match &self.tiers {
                 Some(tiers) => tiers.peek(print.key),
-                None => self.slots.call(|pass| pass.peek(print.key)),
+                None => self.slots.call(|handle| handle.peek(print.key)),
             };
             self.found(print, Seen::of(&mut reply))
         });
@@ -265,7 +266,7 @@ impl<K: ?Sized, V: Copy, S: BuildHasher> Inner<K, V, S> {
         let words = self.words(print, value, self.deadline(life));
         self.flights.detach(print);
         let put = match &self.tiers {
-            None => self.slots.in_turn(tries, || self.slots.call(|pass| pass.put(print.key, &words))),
+            None => self.slots.in_turn(tries, || self.slots.call(|handle| handle.put(print.key, &words))),
             Some(tiers) => tiers.put_within(tries, print.key, &words),
         };
         match put {
@@ -291,7 +292,7 @@ impl<K: ?Sized, V: Copy, S: BuildHasher> Inner<K, V, S> {
             };
             let taken = self.slots.in_turn(tries, || match &self.tiers {
                 Some(tiers) => tiers.take_if(print.key, since),
-                None => self.slots.call(|pass| pass.take_if(print.key, since)).map(|taken| taken.at),
+                None => self.slots.call(|handle| handle.take_if(print.key, since)).map(|taken| taken.at),
             });
             match taken {
                 Ok(_) => {

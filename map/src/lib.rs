@@ -7,13 +7,13 @@ mod clock;
 mod compute;
 mod error;
 mod flight;
+mod handle;
 mod inner;
 mod map;
 mod moves;
 mod number;
 #[cfg(feature = "objects")]
 mod objects;
-mod pass;
 mod print;
 mod settings;
 mod sip;

@@ -1,7 +1,7 @@
 //! The map and its plain calls.
 use crate::error::{GetError, InsertError, OpenError, RemoveError};
+use crate::handle::MANY;
 use crate::inner::Inner;
-use crate::pass::MANY;
 use crate::print::Print;
 use crate::stats::Stats;
 use crate::Builder;

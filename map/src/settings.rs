@@ -5,7 +5,7 @@ use std::collections::hash_map::RandomState;
 use std::fmt::{self, Formatter};
 use std::time::Duration;
 
-/// How many threads have a pass of their own, by default.
+/// How many threads have a handle of their own, by default.
 const THREADS: usize = 64;
 
 /// How many entries a shard has at least, and how many shards there are at most, by default.
@@ -73,8 +73,11 @@ impl<S> Settings<S> {
 
     fn shape_for(&self, capacity: usize, shards: u32) -> Result<(Shape, u32), OpenError> {
         let capacity = u32::try_from(capacity).unwrap_or(u32::MAX);
-        let shape = if shards == 1 { Shape::for_items(capacity) } else { Shape::for_shards(capacity, shards) };
-        let mut shape = shape.map_err(OpenError::of)?;
+        let mut shape = Shape::for_items(capacity, shards).map_err(OpenError::of)?;
+        if shards == 1 {
+            // It has all keys, so it needs no room for more than its mean share.
+            shape.items = capacity;
+        }
         if shape.items < SMALL {
             shape.buckets *= 4;
         }
@@ -84,8 +87,8 @@ impl<S> Settings<S> {
         Ok((shape, shards))
     }
 
-    /// How many passes to open: one for each thread, and one that all others share.
-    pub fn passes(&self) -> usize {
+    /// How many handles to open: one for each thread, and one that all others share.
+    pub fn handles(&self) -> usize {
         self.threads.saturating_add(1)
     }
 

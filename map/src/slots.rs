@@ -1,6 +1,6 @@
-//! A pass for each thread, from its first call to its end.
+//! A handle for each thread, from its first call to its end.
 //!
-//! A thread claims a slot, and keeps its index until it ends. If all slots are claimed, a thread uses the shared pass, under a mutex, and
+//! A thread claims a slot, and keeps its index until it ends. If all slots are claimed, a thread uses the shared handle, under a mutex, and
 //! tries to claim a slot again at its next call.
 use crate::map::Inserted;
 use crate::stalls::Stalls;
@@ -16,15 +16,15 @@ use std::process;
 use std::sync::atomic::{AtomicU64, AtomicUsize, Ordering::Relaxed};
 use std::sync::{Arc, Mutex, MutexGuard, PoisonError, Weak};
 
-/// The passes of a map.
-pub(crate) struct Slots<P> {
+/// The handles of a map.
+pub(crate) struct Slots<H> {
     // No two maps of a process have the same one.
     id: u64,
-    slots: Box<[Slot<P>]>,
+    slots: Box<[Slot<H>]>,
     // The indices of slots that no thread has claimed, and how many they are.
     free: Mutex<Vec<usize>>,
     free_count: AtomicUsize,
-    shared: Mutex<P>,
+    shared: Mutex<H>,
     shared_counts: Counts,
     stalls: Stalls,
     // The process that opened the map. In its forked child another thread may hold a lock for ever.
@@ -33,33 +33,33 @@ pub(crate) struct Slots<P> {
 
 /// What one thread uses. The alignment keeps slots of different threads in different cache lines.
 #[repr(align(128))]
-struct Slot<P> {
-    pass: RefCell<P>,
+struct Slot<H> {
+    handle: RefCell<H>,
     counts: Counts,
 }
 
-// SAFETY: `counts` is `Sync`, so this is about `pass`. Only `Slots::own` touches it, and only in the slot that the calling thread has
+// SAFETY: `counts` is `Sync`, so this is about `handle`. Only `Slots::own` touches it, and only in the slot that the calling thread has
 // claimed (`mine`). A `RefMut` stays in its thread, and each call of the map drops its own before it returns. At most one thread has
 // claimed a slot: its index begins in `free`, `take_free` takes it out for the thread that claims it, and it goes back at that thread's
 // end (`Claims::drop`). The thread doesn't use it again: by then `LAST` and `RECENT` are reset, and `CLAIMS` can not be reached any more. Neither
-// is ever of another map, since ids differ. The mutex of `free` orders what two threads do with a slot one after the other, and the pass may move
+// is ever of another map, since ids differ. The mutex of `free` orders what two threads do with a slot one after the other, and the handle may move
 // to another thread (`Send`).
-unsafe impl<P: Send> Sync for Slot<P> {}
+unsafe impl<H: Send> Sync for Slot<H> {}
 
-// A call that panics leaves its pass usable.
-impl<P> RefUnwindSafe for Slot<P> {}
+// A call that panics leaves its handle usable.
+impl<H> RefUnwindSafe for Slot<H> {}
 
 /// Locks the mutex, also if a thread panicked that had locked it. Nothing here is left half done by a panic.
 pub(crate) fn lock<T>(mutex: &Mutex<T>) -> MutexGuard<'_, T> {
     mutex.lock().unwrap_or_else(PoisonError::into_inner)
 }
 
-impl<P: 'static> Slots<P> {
-    /// The last pass is the shared one; each other is in a slot. There must be one at least.
-    pub fn new(mut passes: Vec<P>) -> Slots<P> {
+impl<H: 'static> Slots<H> {
+    /// The last handle is the shared one; each other is in a slot. There must be one at least.
+    pub fn new(mut handles: Vec<H>) -> Slots<H> {
         static NEXT: AtomicU64 = AtomicU64::new(1);
-        let shared = passes.pop().expect("opening makes one pass at least");
-        let slots: Box<[Slot<P>]> = passes.into_iter().map(Slot::new).collect();
+        let shared = handles.pop().expect("opening makes one handle at least");
+        let slots: Box<[Slot<H>]> = handles.into_iter().map(Slot::new).collect();
         Slots {
             // Relaxed: it is enough that no two numbers are the same.
             id: NEXT.fetch_add(1, Relaxed),
@@ -73,26 +73,26 @@ impl<P: 'static> Slots<P> {
         }
     }
 
-    /// The thread's own pass and its counts, unless it has none. `None`, too, if the pass is borrowed: if a call by it were to call this.
+    /// The thread's own handle and its counts, unless it has none. `None`, too, if the handle is borrowed: if a call by it were to call this.
     #[inline]
-    pub fn own(self: &Arc<Self>) -> Option<(RefMut<'_, P>, &Counts)> {
+    pub fn own(self: &Arc<Self>) -> Option<(RefMut<'_, H>, &Counts)> {
         #[cfg(test)]
         before_call();
         let slot = self.mine()?;
-        Some((slot.pass.try_borrow_mut().ok()?, &slot.counts))
+        Some((slot.handle.try_borrow_mut().ok()?, &slot.counts))
     }
 
-    /// Makes one call by the thread's own pass, or by the shared one.
+    /// Makes one call by the thread's own handle, or by the shared one.
     #[inline]
-    pub fn call<T>(self: &Arc<Self>, call: impl FnOnce(&mut P) -> T) -> T {
+    pub fn call<T>(self: &Arc<Self>, call: impl FnOnce(&mut H) -> T) -> T {
         match self.own() {
-            Some((mut pass, _)) => call(&mut pass),
+            Some((mut handle, _)) => call(&mut handle),
             None => self.call_shared(call),
         }
     }
 
     #[cold]
-    fn call_shared<T>(&self, call: impl FnOnce(&mut P) -> T) -> T {
+    fn call_shared<T>(&self, call: impl FnOnce(&mut H) -> T) -> T {
         self.shared_counts.add(Kind::Shared);
         call(&mut lock(&self.shared))
     }
@@ -152,7 +152,7 @@ impl<P: 'static> Slots<P> {
 
     /// The slot that this thread has claimed, or claims now.
     #[inline]
-    fn mine(self: &Arc<Self>) -> Option<&Slot<P>> {
+    fn mine(self: &Arc<Self>) -> Option<&Slot<H>> {
         self.slots.get(self.index()?)
     }
 
@@ -186,7 +186,7 @@ impl<P: 'static> Slots<P> {
     }
 }
 
-impl<P> Slots<P> {
+impl<H> Slots<H> {
     /// Whether this process opened the map, and not one from which it was forked.
     pub fn are_of_this_process(&self) -> bool {
         self.process == process::id()
@@ -204,12 +204,12 @@ impl<P> Slots<P> {
     }
 }
 
-/// Slots of any kind of passes.
+/// Slots of any kind of handles.
 trait Home {
     fn give_back(&self, index: usize);
 }
 
-impl<P> Home for Slots<P> {
+impl<H> Home for Slots<H> {
     fn give_back(&self, index: usize) {
         if !self.are_of_this_process() {
             return;
@@ -220,9 +220,9 @@ impl<P> Home for Slots<P> {
     }
 }
 
-impl<P> Slot<P> {
-    fn new(pass: P) -> Slot<P> {
-        Slot { pass: RefCell::new(pass), counts: Counts::default() }
+impl<H> Slot<H> {
+    fn new(handle: H) -> Slot<H> {
+        Slot { handle: RefCell::new(handle), counts: Counts::default() }
     }
 }
 
@@ -287,7 +287,7 @@ thread_local! {
 
 impl Claims {
     #[inline]
-    fn find<P: 'static>(&self, slots: &Arc<Slots<P>>) -> Option<usize> {
+    fn find<H: 'static>(&self, slots: &Arc<Slots<H>>) -> Option<usize> {
         let mut claims = self.0.try_borrow_mut().ok()?;
         if let Some(claim) = claims.get(&slots.id) {
             return Some(claim.index);
@@ -296,7 +296,7 @@ impl Claims {
         // Claims of maps that are gone.
         claims.retain(|_, claim| claim.slots.strong_count() > 0);
         // In two steps, since only a `Weak` of a known type becomes one of any type.
-        let home: Weak<Slots<P>> = Arc::downgrade(slots);
+        let home: Weak<Slots<H>> = Arc::downgrade(slots);
         claims.insert(slots.id, Claim { index, slots: home });
         Some(index)
     }
@@ -325,7 +325,7 @@ fn before_call() {
 
 #[cfg(test)]
 thread_local! {
-    /// How many calls of an index this thread has made, if it has a pass.
+    /// How many calls of an index this thread has made, if it has a handle.
     pub(crate) static CALLS: Cell<u32> = const { Cell::new(0) };
     /// What a test does before a call of this thread: after so many others.
     pub(crate) static BEFORE_CALL: Cell<Option<(u32, Box<dyn FnOnce()>)>> = const { Cell::new(None) };

@@ -34,7 +34,7 @@ pub struct Stats {
     /// For how long calls have given up so, if one did in the last ten seconds. Then a thread has stopped within a write, and lookups and writes
     /// that need what it has give up until it goes on.
     pub stalled: Duration,
-    /// Calls of the index by the shared pass. If there are many, open the map for more threads.
+    /// Calls of the index by the shared handle. If there are many, open the map for more threads.
     pub shared: u64,
 }
 
@@ -56,7 +56,7 @@ pub(crate) enum Kind {
 
 const NUMBERS: usize = Kind::Shared as usize + 1;
 
-/// The counts of one thread, or of those that share a pass.
+/// The counts of one thread, or of those that share a handle.
 #[derive(Default)]
 pub(crate) struct Counts([AtomicU64; NUMBERS]);
 

@@ -2,8 +2,8 @@
 //! evict no keys that are used often.
 //!
 //! All writes of a key have its lock. Lookups have none: they look into the main table first. SAFETY.md says why that suffices.
+use crate::handle::AnyHandle;
 use crate::moves::{Moves, Rest};
-use crate::pass::AnyPass;
 use crate::sketch::Sketch;
 use crate::slots::Slots;
 use crate::stats::Kind;
@@ -19,8 +19,8 @@ pub(crate) const OF_SMALL: u64 = 1 << 63;
 const LOCKS: usize = 64;
 
 pub(crate) struct Tiers {
-    main: Arc<Slots<AnyPass>>,
-    small: Arc<Slots<SmallPass>>,
+    main: Arc<Slots<AnyHandle>>,
+    small: Arc<Slots<SmallHandle>>,
     // By the key.
     locks: Box<[Lock]>,
     // Keys that left the small table.
@@ -30,10 +30,10 @@ pub(crate) struct Tiers {
     moves: Moves,
 }
 
-/// A pass of the small table.
-pub(crate) struct SmallPass {
-    pass: AnyPass,
-    // Noted when a thread missed a key by this pass.
+/// A handle of the small table.
+pub(crate) struct SmallHandle {
+    handle: AnyHandle,
+    // Noted when a thread missed a key by this handle.
     rest: Rest,
 }
 
@@ -58,14 +58,14 @@ enum Place {
     Nowhere,
 }
 
-impl SmallPass {
+impl SmallHandle {
     /// The keys of the small table.
     pub fn keys(&mut self) -> Result<Vec<u64>, TurnError<ListError>> {
-        self.pass.keys()
+        self.handle.keys()
     }
 
     fn miss(&mut self, key: u64, moves: &Moves) -> Miss {
-        if self.pass.has(key) != Some(false) {
+        if self.handle.has(key) != Some(false) {
             return Miss::No;
         }
         if self.rest.has_lasted(moves) {
@@ -77,9 +77,9 @@ impl SmallPass {
 }
 
 impl Tiers {
-    /// Of these passes, and for so many entries in both tables.
-    pub fn new(main: Arc<Slots<AnyPass>>, small: Vec<AnyPass>, entries: usize) -> Tiers {
-        let small = small.into_iter().map(|pass| SmallPass { pass, rest: Rest::default() }).collect();
+    /// Of these handles, and for so many entries in both tables.
+    pub fn new(main: Arc<Slots<AnyHandle>>, small: Vec<AnyHandle>, entries: usize) -> Tiers {
+        let small = small.into_iter().map(|handle| SmallHandle { handle, rest: Rest::default() }).collect();
         Tiers {
             main,
             small: Arc::new(Slots::new(small)),
@@ -90,8 +90,8 @@ impl Tiers {
         }
     }
 
-    /// The passes of the small table.
-    pub fn small(&self) -> &Arc<Slots<SmallPass>> {
+    /// The handles of the small table.
+    pub fn small(&self) -> &Arc<Slots<SmallHandle>> {
         &self.small
     }
 
@@ -104,10 +104,10 @@ impl Tiers {
         }
     }
 
-    // Another thread may have noted a rest in the shared pass after this one had looked into the main table.
+    // Another thread may have noted a rest in the shared handle after this one had looked into the main table.
     #[cold]
     fn miss_shared(&self, key: u64) -> Miss {
-        match self.small.call(|small| small.pass.has(key)) {
+        match self.small.call(|small| small.handle.has(key)) {
             Some(false) => Miss::Moved,
             _ => Miss::No,
         }
@@ -115,19 +115,19 @@ impl Tiers {
 
     /// Looks such a key up, if it is no miss.
     pub fn look_small(&self, key: u64) -> Reply<MOST> {
-        match self.small.call(|small| small.pass.get_or_desk(key)) {
+        match self.small.call(|small| small.handle.get_or_turn(key)) {
             Reply::Found { value, at, since } => Reply::Found { value, at, since: since | OF_SMALL },
             // It may have moved.
-            Reply::Absent { .. } => self.main.call(|pass| pass.get_or_desk(key)),
+            Reply::Absent { .. } => self.main.call(|handle| handle.get_or_turn(key)),
             Reply::Busy => Reply::Busy,
         }
     }
 
     /// Looks a key up in both tables, in a turn at each, which is no use of it.
     pub fn peek(&self, key: u64) -> Reply<MOST> {
-        let in_main = || self.main.call(|pass| pass.peek(key));
+        let in_main = || self.main.call(|handle| handle.peek(key));
         match in_main() {
-            Reply::Absent { .. } => match self.small.call(|small| small.pass.peek(key)) {
+            Reply::Absent { .. } => match self.small.call(|small| small.handle.peek(key)) {
                 // It may have moved.
                 Reply::Absent { .. } => in_main(),
                 reply => reply,
@@ -141,8 +141,8 @@ impl Tiers {
     pub fn promote(&self, key: u64, tries: u32) {
         let Some(_locked) = self.lock(key) else { return };
         let _moving = self.moves.begin();
-        let Reply::Found { value, since, .. } = self.small.call(|small| small.pass.get_or_desk(key)) else { return };
-        let is_new = match self.main.call(|pass| pass.put_if_absent(key, &value)) {
+        let Reply::Found { value, since, .. } = self.small.call(|small| small.handle.get_or_turn(key)) else { return };
+        let is_new = match self.main.call(|handle| handle.put_if_absent(key, &value)) {
             Ok(put) => {
                 if self.put_into_main(put) {
                     self.main.count(Kind::Evicted);
@@ -153,7 +153,7 @@ impl Tiers {
             Err(TurnError::Call(PutIfAbsentError::Present { .. })) => false,
             Err(_) => return,
         };
-        let taken = in_turn(tries, || self.small.call(|small| small.pass.take_if(key, since)));
+        let taken = in_turn(tries, || self.small.call(|small| small.handle.take_if(key, since)));
         match (is_new, taken.is_ok()) {
             // There is one entry more, or the other one was counted when it was evicted.
             (true, false) => self.main.count(Kind::Added),
@@ -212,13 +212,13 @@ impl Tiers {
         &self,
         key: u64,
         since: u64,
-        in_main: impl FnOnce(&mut AnyPass) -> Result<u64, TurnError<PutIfError>>,
-        in_small: impl FnOnce(&mut AnyPass) -> Result<u64, TurnError<PutIfError>>,
+        in_main: impl FnOnce(&mut AnyHandle) -> Result<u64, TurnError<PutIfError>>,
+        in_small: impl FnOnce(&mut AnyHandle) -> Result<u64, TurnError<PutIfError>>,
     ) -> Result<u64, TurnError<PutIfError>> {
         let _locked = self.lock(key).ok_or(TurnError::Held)?;
         match self.place(key).ok_or(TurnError::Held)? {
             Place::Main if since & OF_SMALL == 0 => self.main.call(in_main),
-            Place::Small if since & OF_SMALL != 0 => self.small.call(|small| in_small(&mut small.pass)),
+            Place::Small if since & OF_SMALL != 0 => self.small.call(|small| in_small(&mut small.handle)),
             _ => Err(TurnError::Call(PutIfError::Changed { since: 0 })),
         }
     }
@@ -239,10 +239,10 @@ impl Tiers {
     pub fn remove(&self, key: u64) -> Result<Removal, TurnError<Spent>> {
         let _locked = self.lock(key).ok_or(TurnError::Held)?;
         match self.place(key).ok_or(TurnError::Held)? {
-            Place::Small => self.small.call(|small| small.pass.remove(key)),
+            Place::Small => self.small.call(|small| small.handle.remove(key)),
             Place::Main | Place::Nowhere => {
                 self.set_full(false);
-                self.main.call(|pass| pass.remove(key))
+                self.main.call(|handle| handle.remove(key))
             }
         }
     }
@@ -258,14 +258,14 @@ impl Tiers {
 
     // Where the key is, for who has its lock. If it is in the main table, the small one has it no more. `None`: other threads disturbed this.
     fn place(&self, key: u64) -> Option<Place> {
-        let in_main = self.main.call(|pass| pass.has(key))?;
-        let in_small = self.small.call(|small| small.pass.has(key))?;
+        let in_main = self.main.call(|handle| handle.has(key))?;
+        let in_small = self.small.call(|small| small.handle.has(key))?;
         if !in_main {
             return Some(if in_small { Place::Small } else { Place::Nowhere });
         }
         if in_small {
             // A move could not take it out.
-            if let Removal::Removed { .. } = self.small.call(|small| small.pass.remove(key)).ok()? {
+            if let Removal::Removed { .. } = self.small.call(|small| small.handle.remove(key)).ok()? {
                 self.main.count(Kind::Removed);
             }
         }
@@ -284,7 +284,7 @@ impl Tiers {
     }
 
     fn put_main(&self, key: u64, words: &Words) -> Result<Put, TurnError<PutError>> {
-        let put = self.main.call(|pass| pass.put(key, words))?;
+        let put = self.main.call(|handle| handle.put(key, words))?;
         self.put_into_main(put);
         Ok(put)
     }
@@ -299,7 +299,7 @@ impl Tiers {
     }
 
     fn put_small(&self, key: u64, words: &Words) -> Result<Put, TurnError<PutError>> {
-        let put = self.small.call(|small| small.pass.put(key, words))?;
+        let put = self.small.call(|small| small.handle.put(key, words))?;
         if let Put::Stored { evicted: Some(evicted), .. } = put {
             self.left.note(evicted);
         }

@@ -156,7 +156,7 @@ impl<K: ?Sized, V: Copy, S: BuildHasher> Inner<K, V, S> {
         let Some(since) = since else { return self.put_absent(print, words, tries) };
         let put = self.slots.in_turn(tries, || match &self.tiers {
             Some(tiers) => tiers.put_if(print.key, since, words),
-            None => self.slots.call(|pass| pass.put_if(print.key, since, words)),
+            None => self.slots.call(|handle| handle.put_if(print.key, since, words)),
         });
         match put {
             Ok(_) => {
@@ -172,7 +172,7 @@ impl<K: ?Sized, V: Copy, S: BuildHasher> Inner<K, V, S> {
     fn put_absent(&self, print: Print, words: &Words, tries: u32) -> Result<bool, InsertError> {
         let put = self.slots.in_turn(tries, || match &self.tiers {
             Some(tiers) => tiers.put_if_absent(print.key, words),
-            None => self.slots.call(|pass| pass.put_if_absent(print.key, words)),
+            None => self.slots.call(|handle| handle.put_if_absent(print.key, words)),
         });
         match put {
             Ok(put) => {

@@ -44,7 +44,7 @@ fn each_error_has_its_text() {
     let all: [(Box<dyn Error>, &str); 22] = [
         (Box::new(OpenError::Capacity), "the capacity must be at least 1, and at most 3774873 for each shard"),
         (Box::new(OpenError::Shards), "the number of shards must be a power of two from 1 to 256"),
-        (Box::new(OpenError::Threads), "at most 1023 threads can have a pass of their own"),
+        (Box::new(OpenError::Threads), "at most 1023 threads can have a handle of their own"),
         (Box::new(OpenError::NoMemory), NO_MEMORY),
         (Box::new(OpenError::Index(index)), "the processor is older than x86-64-v2"),
         (Box::new(GetError::Busy), BUSY),

@@ -126,7 +126,7 @@ fn nor_beside_moves_from_a_small_table() {
 }
 
 #[test]
-fn forty_threads_share_four_passes() {
+fn forty_threads_share_four_handles() {
     const MANY: usize = 40;
     let map = Map::builder(1_000).threads(3).open().unwrap();
     let start = Barrier::new(MANY);
@@ -134,7 +134,7 @@ fn forty_threads_share_four_passes() {
         for thread in 0..MANY {
             let (map, start) = (&map, &start);
             threads.spawn(move || {
-                // Three of these calls take a pass, and no thread ends before all have called.
+                // Three of these calls take a handle, and no thread ends before all have called.
                 assert_eq!(map.get(&50), None);
                 start.wait();
                 no_value_is_wrong(map, 50, 400, thread as u64 + 1);

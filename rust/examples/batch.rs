@@ -1,6 +1,6 @@
 //! A batch reader: an order's products are looked up in one call. Prices that the cache doesn't have come from the price list, and
 //! are put for the next order.
-use cefrodil::{Cache, Reader, Reply, Shape, Writer};
+use cefrodil::{Cache, Reply, Shape, Writing};
 use std::error::Error;
 
 const PRODUCTS: u32 = 10_000;
@@ -9,22 +9,21 @@ const LINES: usize = 32;
 
 /// The cache, whose values are prices.
 struct Prices {
-    writer: Writer<1>,
-    reader: Reader<1>,
+    cache: Writing<'static, 1>,
     misses: u64,
 }
 
 impl Prices {
     fn open() -> Result<Prices, Box<dyn Error>> {
-        let (writer, mut readers) = Cache::<1>::open(&Shape::for_items(PRODUCTS)?, 1)?;
-        let reader = readers.pop().ok_or("no reader")?;
-        Ok(Prices { writer, reader, misses: 0 })
+        let mut handles = Cache::<1>::open(&Shape::for_items(PRODUCTS, 1)?, 1, 1)?;
+        let cache = handles.pop().ok_or("no handle")?.into_writing()?;
+        Ok(Prices { cache, misses: 0 })
     }
 
     /// What the order costs.
     fn total(&mut self, order: &[u64; LINES]) -> u64 {
         let mut replies = [Reply::Busy; LINES];
-        self.reader.get_many(order, &mut replies);
+        self.cache.get_many(order, &mut replies);
         order.iter().zip(replies).map(|(product, reply)| self.price(*product, reply)).sum()
     }
 
@@ -35,7 +34,7 @@ impl Prices {
         let price = listed(product);
         self.misses += 1;
         // A price that finds no place is read from the list again.
-        let _ = self.writer.put(product, &[price]);
+        let _ = self.cache.put(product, &[price]);
         price
     }
 }

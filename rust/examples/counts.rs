@@ -1,14 +1,14 @@
 //! A server's metrics: threads look names up, and another one prints what became of it for Prometheus, as a page `/metrics` would.
-use cefrodil::{prometheus, Cache, Meter, Reader, Shape};
+use cefrodil::{prometheus, Cache, Handle, Meter, Shape};
 use std::error::Error;
 use std::thread;
 
 const THREADS: usize = 3;
 const LOOKUPS: u64 = 10_000;
 
-fn serve(mut reader: Reader<1>) {
+fn serve(mut handle: Handle<1>) {
     for key in 0..LOOKUPS {
-        let _ = reader.get(key % 1000);
+        let _ = handle.get(key % 1000);
     }
 }
 
@@ -18,12 +18,12 @@ fn metrics(names: &Meter) -> String {
 }
 
 fn main() -> Result<(), Box<dyn Error>> {
-    let (mut writer, readers) = Cache::<1>::open(&Shape::for_items(500)?, THREADS)?;
+    let mut handles = Cache::<1>::open(&Shape::for_items(500, 1)?, 1, THREADS)?;
     for key in 0..500 {
-        writer.put(key, &[key])?;
+        handles[0].try_put(key, &[key])?;
     }
-    let meter = writer.meter();
-    let threads: Vec<_> = readers.into_iter().map(|reader| thread::spawn(move || serve(reader))).collect();
+    let meter = handles[0].meter();
+    let threads: Vec<_> = handles.into_iter().map(|handle| thread::spawn(move || serve(handle))).collect();
     for thread in threads {
         thread.join().map_err(|_| "a thread panicked")?;
     }

@@ -1,6 +1,6 @@
 //! A memoizer that several threads share: a function is computed once for each argument that the cache still holds. A thread that
 //! computes a result tries once to keep it. If another thread has the turn, the result isn't kept.
-use cefrodil::{Desk, Pass, Shape};
+use cefrodil::{Cache, Handle, Shape};
 use std::error::Error;
 use std::thread;
 
@@ -9,7 +9,7 @@ const NUMBERS: u64 = 10_000;
 
 /// How many steps lead from a number to 1, if an even number is halved and an odd one becomes 3n + 1.
 struct Steps {
-    known: Pass<'static, 1>,
+    known: Handle<1>,
     computed: u64,
 }
 
@@ -43,8 +43,8 @@ fn plain_steps(number: u64) -> u64 {
 }
 
 fn main() -> Result<(), Box<dyn Error>> {
-    let passes = Desk::<1>::open(&Shape::for_items(8_000)?, THREADS)?.into_passes();
-    let threads: Vec<_> = passes
+    let handles = Cache::<1>::open(&Shape::for_items(8_000, 1)?, 1, THREADS)?;
+    let threads: Vec<_> = handles
         .into_iter()
         .map(|known| {
             thread::spawn(move || {

@@ -1,13 +1,13 @@
-//! A cache of host names for a server whose threads come and go: each takes a reader from a pool. If a thread doesn't find a name,
+//! A cache of host names for a server whose threads come and go: each takes a handle from a pool. If a thread doesn't find a name,
 //! it resolves the name the slow way, and sends the answer to the one thread that writes.
-use cefrodil::{Cache, Pool, Reader, Shape, Writer};
+use cefrodil::{Cache, Handle, Pool, Shape, Writing};
 use std::error::Error;
 use std::hash::{BuildHasher, RandomState};
 use std::net::Ipv4Addr;
 use std::sync::mpsc::{channel, Receiver, Sender};
 use std::thread;
 
-const READERS: usize = 3;
+const REQUESTS: usize = 3;
 const NAMES: u32 = 500;
 const ROUNDS: u32 = 4;
 const LOOKUPS: u32 = 20_000;
@@ -26,7 +26,7 @@ struct Resolved {
 /// What a thread of the server has.
 struct Resolver {
     hashes: Hashes,
-    readers: Pool<Reader<2>>,
+    handles: Pool<Handle<2>>,
     writer: Sender<Resolved>,
 }
 
@@ -38,10 +38,10 @@ fn resolve(name: &str) -> Ipv4Addr {
 
 impl Resolver {
     /// The address of a name, and whether the cache had it.
-    fn look_up(&self, reader: &mut Reader<2>, name: &str) -> (Ipv4Addr, bool) {
+    fn look_up(&self, handle: &mut Handle<2>, name: &str) -> (Ipv4Addr, bool) {
         let Hashes(first, second) = &self.hashes;
         let (key, check) = (first.hash_one(name), second.hash_one(name));
-        match reader.get(key).value() {
+        match handle.get(key).value() {
             Some([kept, address]) if kept == check => (Ipv4Addr::from_bits(address as u32), true),
             // The key is absent, or another name has it, or the lookup was busy. If addresses change, take a ticket first, as `store.rs`
             // does.
@@ -56,11 +56,11 @@ impl Resolver {
 
     /// Serves one request. How many of its names the cache had.
     fn serve(&self) -> u32 {
-        let mut reader = self.readers.take().expect("no more requests at once than readers");
+        let mut handle = self.handles.take().expect("no more requests at once than handles");
         let mut hits = 0;
         for lookup in 0..LOOKUPS {
             let name = format!("host{}", lookup * 7 % NAMES);
-            let (address, hit) = self.look_up(&mut reader, &name);
+            let (address, hit) = self.look_up(&mut handle, &name);
             assert_eq!(address, resolve(&name));
             hits += u32::from(hit);
         }
@@ -69,23 +69,24 @@ impl Resolver {
 }
 
 /// Writes what was resolved, until no thread can send more. If a put fails, the name is resolved again later.
-fn write_all(mut writer: Writer<2>, resolved: &Receiver<Resolved>) {
+fn write_all(mut cache: Writing<2>, resolved: &Receiver<Resolved>) {
     for Resolved { key, value } in resolved {
-        if let Err(why) = writer.put(key, &value) {
+        if let Err(why) = cache.put(key, &value) {
             eprintln!("a name is not cached: {why}");
         }
     }
 }
 
 fn main() -> Result<(), Box<dyn Error>> {
-    let (writer, readers) = Cache::<2>::open(&Shape::for_items(2 * NAMES)?, READERS)?;
-    let (readers, hashes) = (Pool::new(readers), Hashes::default());
+    let mut handles = Cache::<2>::open(&Shape::for_items(2 * NAMES, 1)?, 1, 1 + REQUESTS)?;
+    let cache = handles.pop().ok_or("no handle")?.into_writing()?;
+    let (handles, hashes) = (Pool::new(handles), Hashes::default());
     let (sender, resolved) = channel();
-    let writing = thread::spawn(move || write_all(writer, &resolved));
+    let writing = thread::spawn(move || write_all(cache, &resolved));
     let mut hits = 0;
     for _ in 0..ROUNDS {
-        let requests: Vec<_> = (0..READERS)
-            .map(|_| Resolver { hashes: hashes.clone(), readers: readers.clone(), writer: sender.clone() })
+        let requests: Vec<_> = (0..REQUESTS)
+            .map(|_| Resolver { hashes: hashes.clone(), handles: handles.clone(), writer: sender.clone() })
             .map(|resolver| thread::spawn(move || resolver.serve()))
             .collect();
         for request in requests {

@@ -1,6 +1,6 @@
 //! A cache beside a store that several threads change. A thread that misses a key reads the store, which takes a while, and sends the value
 //! to the one thread that writes. Meanwhile another thread may have changed the store: then the value is old, and the filler refuses it.
-use cefrodil::{Cache, FillError, Filler, Reader, Shape, Ticket, Tickets};
+use cefrodil::{Cache, FillError, Filler, Handle, Shape, Ticket, Tickets};
 use std::error::Error;
 use std::sync::atomic::{AtomicU64, Ordering::SeqCst};
 use std::sync::mpsc::{channel, Sender};
@@ -22,13 +22,13 @@ enum Request {
     Remove(u64),
 }
 
-fn serve(mut reader: Reader<1>, tickets: &Tickets, writer: &Sender<Request>) {
+fn serve(mut handle: Handle<1>, tickets: &Tickets, writer: &Sender<Request>) {
     for round in 0..ROUNDS {
         let key = round * 7 % KEYS;
         let request = if round % 9 == 0 {
             STORE[key].fetch_add(1, SeqCst); // first the store, then the cache
             Request::Remove(key as u64)
-        } else if reader.get(key as u64).value().is_none() {
+        } else if handle.get(key as u64).value().is_none() {
             let ticket = tickets.take(); // before the store is read
             let value = STORE[key].load(SeqCst);
             thread::sleep(Duration::from_micros(20));
@@ -41,13 +41,13 @@ fn serve(mut reader: Reader<1>, tickets: &Tickets, writer: &Sender<Request>) {
 }
 
 fn main() -> Result<(), Box<dyn Error>> {
-    let (writer, readers) = Cache::<1>::open(&Shape::for_items(2 * KEYS as u32)?, THREADS)?;
-    let mut filler = Filler::new(writer, 1024);
+    let mut handles = Cache::<1>::open(&Shape::for_items(2 * KEYS as u32, 1)?, 1, 1 + THREADS)?;
+    let mut filler = Filler::new(handles.pop().ok_or("no handle")?.into_writing()?, 1024);
     let (sender, requests) = channel();
-    let threads: Vec<_> = readers
+    let threads: Vec<_> = handles
         .into_iter()
-        .map(|reader| (reader, filler.tickets(), sender.clone()))
-        .map(|(reader, tickets, sender)| thread::spawn(move || serve(reader, &tickets, &sender)))
+        .map(|handle| (handle, filler.tickets(), sender.clone()))
+        .map(|(handle, tickets, sender)| thread::spawn(move || serve(handle, &tickets, &sender)))
         .collect();
     drop(sender);
     let mut refused = 0;
@@ -63,7 +63,7 @@ fn main() -> Result<(), Box<dyn Error>> {
         thread.join().map_err(|_| "a thread panicked")?;
     }
     println!("{refused} old values were refused");
-    for (key, value) in filler.writer().entries()? {
+    for (key, value) in filler.writing().entries()? {
         if value != [STORE[key as usize].load(SeqCst)] {
             return Err(format!("the cache has an old value of {key}").into());
         }

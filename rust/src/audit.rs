@@ -6,16 +6,17 @@ use std::io::{self, Write};
 /// A log of what a cache's calls answered, for `mccheck`: it says how many answers are not what the map held at their moment.
 ///
 /// Each thread may have a log of its own. `mccheck LOG..` needs every change since the cache was opened, in whatever log, and as many answers
-/// as you like. `docs/USING.md` has the form of the lines. Shards have moments of their own, so log one shard's keys alone.
+/// as you like. `docs/USING.md` has the form of the lines. Each shard counts its own moments, so open the cache with one shard, or log the
+/// keys of one alone.
 ///
 /// ```
 /// use cefrodil::{AuditLog, Cache, Shape};
 ///
-/// let (mut writer, mut readers) = Cache::<1>::open(&Shape::for_items(100)?, 1)?;
+/// let mut handles = Cache::<1>::open(&Shape::for_items(100, 1)?, 1, 1)?;
 /// let mut log = AuditLog::new(Vec::new())?;
-/// log.put(7, &[70], writer.put(7, &[70])?)?;
-/// log.looked(7, readers[0].get(7))?;
-/// log.removed(7, writer.remove(7)?)?;
+/// log.put(7, &[70], handles[0].try_put(7, &[70])?)?;
+/// log.looked(7, handles[0].get(7))?;
+/// log.removed(7, handles[0].try_remove(7)?)?;
 /// assert_eq!(log.into_inner(), b"words 1\nput 1 7 70\nfound 1 1 7 70\nremove 2 7\n");
 /// # Ok::<(), Box<dyn std::error::Error>>(())
 /// ```

@@ -2,9 +2,7 @@
 use crate::memory::{room, NoMemory, Shared};
 use crate::raw::{self, RawAnswer, RawReply};
 use std::fmt::{self, Debug, Formatter, Write};
-use std::process;
 use std::sync::atomic::{AtomicU64, Ordering};
-use std::sync::{Mutex, MutexGuard, PoisonError};
 
 /// Whether anything is counted.
 const COUNTED: bool = cfg!(feature = "counts");
@@ -19,8 +17,7 @@ pub struct Counts {
     pub misses: u64,
     /// Lookups that were busy.
     pub busy: u64,
-    /// Writes, lists and peeks by a pass whose try for the turn did not win. If it grows while no write succeeds, a thread has stopped within
-    /// a write, and keeps the turn.
+    /// Calls whose try for a turn did not win. If it grows while no write succeeds, a thread holds the turns, or has stopped within a write.
     pub held: u64,
     /// Puts that evicted another key.
     pub evictions: u64,
@@ -35,11 +32,11 @@ pub struct Counts {
 /// ```
 /// use cefrodil::{prometheus, Cache, Shape};
 ///
-/// let (mut writer, mut readers) = Cache::<1>::open(&Shape::for_items(100)?, 1)?;
-/// let meter = writer.meter();
-/// writer.put(7, &[70])?;
+/// let mut handles = Cache::<1>::open(&Shape::for_items(100, 1)?, 1, 2)?;
+/// let meter = handles[0].meter();
+/// handles[0].try_put(7, &[70])?;
 /// for key in 5..8 {
-///     let _ = readers[0].get(key);
+///     let _ = handles[1].get(key);
 /// }
 /// # if cfg!(feature = "counts") {
 /// assert_eq!((meter.counts().hits, meter.counts().misses), (1, 2));
@@ -61,10 +58,8 @@ impl Meter {
     #[must_use]
     pub fn counts(&self) -> Counts {
         let mut sums = [0; NUMBERS];
-        if let Some(lines) = self.0.as_ref().filter(|lines| lines.is_of_this_process()) {
-            for line in &lines.kept().all {
-                sums.iter_mut().zip(&line.0).for_each(|(sum, number)| *sum += number.load(Ordering::Relaxed));
-            }
+        for line in self.0.iter().flat_map(|lines| lines.iter()) {
+            sums.iter_mut().zip(&line.0).for_each(|(sum, number)| *sum += number.load(Ordering::Relaxed));
         }
         let [hits, misses, busy, held, evictions, refusals] = sums;
         Counts { hits, misses, busy, held, evictions, refusals }
@@ -114,85 +109,36 @@ impl Line {
     }
 }
 
-/// The lines of a cache's handles. The line of a handle that is dropped keeps its numbers, and the next handle that takes it counts on from
-/// them.
-pub(crate) struct Lines {
-    kept: Mutex<Kept>,
-    // The process that made them. In its forked child another thread may hold the lock for ever.
-    process: u32,
-}
+/// The lines of a cache's handles. They stay as long as one of the handles, or a meter.
+type Lines = Vec<Shared<Line>>;
 
-#[derive(Default)]
-struct Kept {
-    all: Vec<Shared<Line>>,
-    // Those that no handle has, with room for all of them.
-    free: Vec<Shared<Line>>,
-}
-
-impl Lines {
-    fn new() -> Lines {
-        Lines { kept: Mutex::default(), process: process::id() }
-    }
-
-    fn is_of_this_process(&self) -> bool {
-        self.process == process::id()
-    }
-
-    fn kept(&self) -> MutexGuard<'_, Kept> {
-        self.kept.lock().unwrap_or_else(PoisonError::into_inner)
-    }
-}
-
-/// A handle's line, and those of the other handles.
+/// A handle's line, and those of all handles.
 pub(crate) struct Counter(Option<(Shared<Line>, Shared<Lines>)>);
 
 impl Counter {
-    /// `count` counters of a new cache.
+    /// The counters of a new cache, one for each handle.
     pub fn many(count: usize) -> Result<Vec<Counter>, NoMemory> {
-        Counter::of(COUNTED.then(|| Shared::new(Lines::new())).transpose()?, count)
+        let mut counters = room(count)?;
+        if !COUNTED {
+            counters.resize_with(count, Counter::none);
+            return Ok(counters);
+        }
+        let mut lines = room(count)?;
+        for _ in 0..count {
+            lines.push(Shared::new(Line::default())?);
+        }
+        let lines = Shared::new(lines)?;
+        counters.extend(lines.iter().map(|line| Counter(Some((line.clone(), lines.clone())))));
+        Ok(counters)
     }
 
-    /// `count` more counters of this counter's cache.
-    pub fn more(&self, count: usize) -> Result<Vec<Counter>, NoMemory> {
-        Counter::of(self.lines(), count)
-    }
-
-    /// One more of this counter's cache, which takes no memory: it counts if a line is free.
-    pub fn spare(&self) -> Counter {
-        Counter(self.lines().and_then(|lines| {
-            let line = lines.kept().free.pop();
-            Some((line?, lines))
-        }))
+    /// One that counts nothing.
+    pub fn none() -> Counter {
+        Counter(None)
     }
 
     pub fn meter(&self) -> Meter {
-        Meter(self.lines())
-    }
-
-    fn lines(&self) -> Option<Shared<Lines>> {
-        self.0.as_ref().map(|(_, lines)| lines.clone())
-    }
-
-    // Lines that were made before there was no memory stay for the next handles.
-    fn of(lines: Option<Shared<Lines>>, count: usize) -> Result<Vec<Counter>, NoMemory> {
-        let mut counters = room(count)?;
-        let Some(lines) = lines else {
-            counters.extend((0..count).map(|_| Counter(None)));
-            return Ok(counters);
-        };
-        let mut kept = lines.kept();
-        let Kept { all, free } = &mut *kept;
-        let missing = count.saturating_sub(free.len());
-        all.try_reserve(missing).map_err(|_| NoMemory)?;
-        free.try_reserve(all.len() + missing - free.len()).map_err(|_| NoMemory)?;
-        for _ in 0..missing {
-            let line = Shared::new(Line::default())?;
-            all.push(line.clone());
-            free.push(line);
-        }
-        let taken = free.len() - count;
-        counters.extend(free.drain(taken..).map(|line| Counter(Some((line, lines.clone())))));
-        Ok(counters)
+        Meter(self.0.as_ref().map(|(_, lines)| lines.clone()))
     }
 
     /// Counts the answer of a lookup.
@@ -231,14 +177,6 @@ impl Counter {
         }
         if let raw::NO_PATH | raw::ALL_RECENT | raw::SPENT = status {
             line.add(REFUSALS, 1);
-        }
-    }
-}
-
-impl Drop for Counter {
-    fn drop(&mut self) {
-        if let Some((line, lines)) = self.0.take().filter(|(_, lines)| lines.is_of_this_process()) {
-            lines.kept().free.push(line);
         }
     }
 }

@@ -1,9 +1,7 @@
 //! Why a call failed.
-use crate::cache::Writer;
-use crate::desk::Desk;
+use crate::handle::Handle;
 use crate::memory::NoMemory;
 use crate::raw;
-use crate::reader::Reader;
 use std::error::Error;
 use std::fmt::{self, Display, Formatter};
 
@@ -35,8 +33,8 @@ pub enum OpenError {
     Tries,
     /// `limit` of the shape is out of range.
     Limit,
-    /// There must be 1 to 1024 readers, or passes; for a new desk, no more than the cache has to spare.
-    Readers,
+    /// There must be 1 to 1024 handles.
+    Handles,
     /// Out of memory. If the crate finds none for its own lists, only [`OpenError::Version`] comes before it.
     NoMemory,
 }
@@ -107,49 +105,17 @@ pub struct Spent;
 pub enum ListError {
     /// Out of memory. The cache stays open; list later.
     NoMemory,
-    /// A pass of shards lists no stamps: each shard counts its own moments. Waiting does not help.
-    OfShards,
 }
 
-/// Why a pass does not hold the turns of all shards.
+/// A handle does not hold: one of its tries for the turns did not win. Try again.
 #[derive(Clone, Copy, Debug, PartialEq, Eq, Hash)]
-#[non_exhaustive]
-pub enum HoldError {
-    /// One of the tries for the turns did not win. Try again.
-    Held,
-    /// It is a pass of a desk, which has one turn. Waiting does not help.
-    AtDesk,
-}
+pub struct Held;
 
-/// Why a desk did not end.
-#[derive(Clone, Copy, Debug, PartialEq, Eq, Hash)]
-#[non_exhaustive]
-pub enum EndError {
-    /// Out of memory.
-    NoMemory,
-    /// No pass got the writer: one of the desk was forgotten ([`std::mem::forget`]) and still has a share of it, or a turn could not give
-    /// the writer back.
-    NoWriter,
-}
-
-/// A writer that was not put on a desk, and why.
+/// A handle that does not hold, since one of its tries for the turns did not win.
 #[derive(Debug)]
-pub struct NoDesk<const WORDS: usize> {
-    /// The writer, as it was.
-    pub writer: Writer<WORDS>,
-    /// [`OpenError::Readers`]: no passes, or more than the cache has readers to spare. [`OpenError::NoMemory`].
-    pub why: OpenError,
-}
-
-/// A desk that did not end, and why. Its passes are all here: those that have not left it, and those that are readers now.
-#[derive(Debug)]
-pub struct NotEnded<const WORDS: usize> {
-    /// The desk, with the passes that have not left it. If they are all gone, [`Desk::pass`] returns `None`.
-    pub desk: Desk<WORDS>,
-    /// A reader for each pass that has left the desk.
-    pub readers: Vec<Reader<WORDS>>,
-    /// Why the desk did not end.
-    pub why: EndError,
+pub struct NotHeld<const WORDS: usize> {
+    /// The handle, as it was.
+    pub handle: Handle<WORDS>,
 }
 
 /// Why a try for the turn failed. There will be no third reason, so a `match` may list both.
@@ -172,7 +138,7 @@ impl OpenError {
             raw::BAD_DEPTH => OpenError::Depth,
             raw::BAD_TRIES => OpenError::Tries,
             raw::BAD_LIMIT => OpenError::Limit,
-            raw::BAD_READERS => OpenError::Readers,
+            raw::BAD_READERS => OpenError::Handles,
             raw::NO_MEMORY => OpenError::NoMemory,
             // The width is from 1 to 8 by the type, the mix by its own, and the handles were empty.
             other => unreachable!("an opening gives no status {other}"),
@@ -189,6 +155,12 @@ impl From<NoMemory> for OpenError {
 impl From<NoMemory> for TurnError<ListError> {
     fn from(_: NoMemory) -> TurnError<ListError> {
         TurnError::Call(ListError::NoMemory)
+    }
+}
+
+impl<E> From<Held> for TurnError<E> {
+    fn from(_: Held) -> TurnError<E> {
+        TurnError::Held
     }
 }
 
@@ -223,7 +195,7 @@ impl Display for OpenError {
             OpenError::Depth => "depth must be from 0 to 8",
             OpenError::Tries => "tries must be from 1 to 64",
             OpenError::Limit => "limit must be from 0 to 4611686018427387904",
-            OpenError::Readers => "readers must be from 1 to 1024",
+            OpenError::Handles => "handles must be from 1 to 1024",
             OpenError::NoMemory => "no memory",
         })
     }
@@ -278,26 +250,19 @@ impl Display for ListError {
     fn fmt(&self, text: &mut Formatter) -> fmt::Result {
         text.write_str(match self {
             ListError::NoMemory => "no memory",
-            ListError::OfShards => "a pass of shards has no such call",
         })
     }
 }
 
-impl Display for HoldError {
+impl Display for Held {
     fn fmt(&self, text: &mut Formatter) -> fmt::Result {
-        text.write_str(match self {
-            HoldError::Held => "held",
-            HoldError::AtDesk => "a pass of a desk has no such call",
-        })
+        text.write_str("held")
     }
 }
 
-impl Display for EndError {
+impl<const WORDS: usize> Display for NotHeld<WORDS> {
     fn fmt(&self, text: &mut Formatter) -> fmt::Result {
-        text.write_str(match self {
-            EndError::NoMemory => "no memory",
-            EndError::NoWriter => "no pass got the writer, since one was forgotten",
-        })
+        Held.fmt(text)
     }
 }
 
@@ -310,30 +275,13 @@ impl<E: Display> Display for TurnError<E> {
     }
 }
 
-impl<const WORDS: usize> Display for NoDesk<WORDS> {
-    fn fmt(&self, text: &mut Formatter) -> fmt::Result {
-        match self.why {
-            OpenError::Readers => text.write_str("there must be passes, and no more than the cache has readers to spare"),
-            why => Display::fmt(&why, text),
-        }
-    }
-}
-
-impl<const WORDS: usize> Display for NotEnded<WORDS> {
-    fn fmt(&self, text: &mut Formatter) -> fmt::Result {
-        Display::fmt(&self.why, text)
-    }
-}
-
 impl Error for OpenError {}
 impl Error for PutError {}
 impl Error for Why {}
 impl Error for PutIfError {}
 impl Error for PutIfAbsentError {}
 impl Error for Spent {}
-impl Error for HoldError {}
+impl Error for Held {}
 impl Error for ListError {}
-impl Error for EndError {}
 impl<E: Error> Error for TurnError<E> {}
-impl<const WORDS: usize> Error for NoDesk<WORDS> {}
-impl<const WORDS: usize> Error for NotEnded<WORDS> {}
+impl<const WORDS: usize> Error for NotHeld<WORDS> {}

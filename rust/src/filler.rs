@@ -1,7 +1,7 @@
 //! A guard against stale fills, for a cache beside a store.
-use crate::cache::Writer;
 use crate::error::{PutError, PutIfAbsentError, Spent};
 use crate::reply::{Put, Removal};
+use crate::writing::Writing;
 use std::error::Error;
 use std::fmt::{self, Debug, Display, Formatter};
 use std::sync::atomic::{AtomicU64, Ordering};
@@ -24,7 +24,7 @@ impl Tickets {
     }
 }
 
-/// A cache's writer that knows the last changes of the store, each by its key. So it refuses stale fills.
+/// The one place from which a program writes, which knows the last changes of the store, each by its key. So it refuses stale fills.
 ///
 /// A thread that misses a key reads the store and has the value put. If another thread changes the store and removes the key in between,
 /// a plain put brings the old value back.
@@ -32,8 +32,8 @@ impl Tickets {
 /// ```
 /// use cefrodil::{Cache, FillError, Filler, Reply, Shape};
 ///
-/// let (writer, mut readers) = Cache::<1>::open(&Shape::for_items(100)?, 1)?;
-/// let mut filler = Filler::new(writer, 1000);
+/// let mut handles = Cache::<1>::open(&Shape::for_items(100, 1)?, 1, 2)?;
+/// let mut filler = Filler::new(handles.remove(0).into_writing()?, 1000);
 /// let (mut store, tickets) = (70, filler.tickets());
 /// // One thread misses the key, and reads the store.
 /// let (ticket, read) = (tickets.take(), store);
@@ -43,11 +43,11 @@ impl Tickets {
 /// // The first one's value comes late.
 /// assert_eq!(filler.fill(7, ticket, &[read]), Err(FillError::Stale));
 /// filler.fill(7, tickets.take(), &[store])?;
-/// assert_eq!(readers[0].get(7).value(), Some([71]));
+/// assert_eq!(handles[0].get(7).value(), Some([71]));
 /// # Ok::<(), Box<dyn std::error::Error>>(())
 /// ```
 pub struct Filler<const WORDS: usize> {
-    writer: Writer<WORDS>,
+    writing: Writing<'static, WORDS>,
     count: Arc<AtomicU64>,
     // The keys of the last changes: that of change n at place n, modulo their number.
     keys: Vec<u64>,
@@ -61,8 +61,8 @@ impl<const WORDS: usize> Filler<WORDS> {
     ///
     /// If `changes` times 8 bytes are more than a `Vec` can have.
     #[must_use]
-    pub fn new(writer: Writer<WORDS>, changes: usize) -> Filler<WORDS> {
-        Filler { writer, count: Arc::default(), keys: vec![0; changes.max(1)] }
+    pub fn new(writing: Writing<'static, WORDS>, changes: usize) -> Filler<WORDS> {
+        Filler { writing, count: Arc::default(), keys: vec![0; changes.max(1)] }
     }
 
     /// Gives tickets to the threads that read the store.
@@ -80,7 +80,7 @@ impl<const WORDS: usize> Filler<WORDS> {
         if self.is_stale(key, ticket) {
             return Err(FillError::Stale);
         }
-        self.writer.put_if_absent(key, value).map_err(|why| match why {
+        self.writing.put_if_absent(key, value).map_err(|why| match why {
             PutIfAbsentError::Present { since } => FillError::Present { since },
             PutIfAbsentError::Put(why) => FillError::Put(why),
         })
@@ -93,7 +93,7 @@ impl<const WORDS: usize> Filler<WORDS> {
     /// [`Spent`]: the key is still there, and no removal will succeed. Open a new cache.
     pub fn remove(&mut self, key: u64) -> Result<Removal, Spent> {
         self.changed(key);
-        self.writer.remove(key)
+        self.writing.remove(key)
     }
 
     /// Puts the key's new value, which is in the store. Only one thread may change the store then: of two, the later change's put could
@@ -104,19 +104,17 @@ impl<const WORDS: usize> Filler<WORDS> {
     /// [`PutError`]: the key's old value may still be there, so remove the key.
     pub fn put(&mut self, key: u64, value: &[u64; WORDS]) -> Result<Put, PutError> {
         self.changed(key);
-        self.writer.put(key, value)
+        self.writing.put(key, value)
     }
 
-    /// The writer, for all other calls. What it puts and removes is no change of the store.
-    #[must_use]
-    pub fn writer(&mut self) -> &mut Writer<WORDS> {
-        &mut self.writer
+    /// The handle that holds, for all other calls. What it puts and removes is no change of the store.
+    pub fn writing(&mut self) -> &mut Writing<'static, WORDS> {
+        &mut self.writing
     }
 
-    /// The writer. The tickets that were taken are of no use any more.
-    #[must_use]
-    pub fn into_writer(self) -> Writer<WORDS> {
-        self.writer
+    /// The handle that holds. The tickets that were taken are of no use any more.
+    pub fn into_writing(self) -> Writing<'static, WORDS> {
+        self.writing
     }
 
     fn changed(&mut self, key: u64) {

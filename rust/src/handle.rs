@@ -1,289 +1,237 @@
-//! A handle of the archive, with its calls. All `unsafe` of this crate is here and in `openings`, except the calls of `Shape::for_items` and
-//! `for_shards`, and that of `memory::Shared`.
-//!
-//! This module keeps what the header asks of a caller. A handle begins zeroed, and only the archive writes it. It is private and
-//! not `Clone`, and a call borrows it as `&mut`, so one call at a time uses it. The pointers of a call come from borrows, which
-//! last for the call and don't overlap.
-//!
-//! A call by an open handle is counted.
-use crate::counts::{Counter, Meter};
-use crate::error::OpenError;
-use crate::raw::{self, RawAnswer, RawHandle, RawPut, RawReply};
-use std::ptr;
+//! A thread's handle of a cache.
+use crate::counts::Meter;
+use crate::error::{Held, ListError, PutError, PutIfAbsentError, PutIfError, Spent, TurnError};
+use crate::open_handle::OpenHandle;
+use crate::raw;
+use crate::reply::{self, Entry, Put, Removal, Replaced, Reply, Swapped, Take};
+use std::fmt::{self, Debug, Formatter};
 
-mod openings;
+/// A thread's handle of a cache. It looks up without a lock, and each of its writes tries once for the turn of the key's shard. To write
+/// without trying, [`hold`](Handle::hold) the turns. Dropping it closes it, and the last one frees the cache.
+///
+/// It may move to another thread. Each call takes `&mut self`, so two threads that share it make none:
+///
+/// ```compile_fail,E0596
+/// fn two_threads_share(handle: &cefrodil::Handle<1>) {
+///     let _ = handle.get(7);
+/// }
+/// ```
+/// ```compile_fail,E0596
+/// fn two_threads_share(handle: &cefrodil::Handle<1>) {
+///     let _ = handle.capacity();
+/// }
+/// ```
+pub struct Handle<const WORDS: usize>(pub(crate) OpenHandle);
 
-// A call for values of this width, by the export for it. Another width has none.
-macro_rules! of_width {
-    ($words:expr, ($handle:expr, $key:expr, $value:expr, $reply:expr), $any:path, { $($number:literal $one:ident),* }) => {
-        match $words {
-            $($number => raw::$one($handle, $key, $value, $reply),)*
-            _ => $any($handle, $key, $value, $words, $reply),
-        }
-    };
-}
-
-/// A handle, open or empty, and its counter. Dropping it closes it.
-pub struct Handle {
-    raw: RawHandle,
-    counter: Counter,
-}
-
-// SAFETY: it is proved that an archive's handle may move to another thread: what it owns may move, and what it shares may be
-// shared.
-unsafe impl Send for Handle {}
-
-// SAFETY: through a `&Handle` the archive's handle is not read and no call is made, so it may be shared. Its fields are private to this
-// module. Here `meter` alone takes `&self`, and it clones a `Shared` of the counter. The openings take no handle, and each other function
-// takes `&mut self`, `drop` too. It is not `Clone`, nor does it implement any trait with a method that takes `&self`. The types around it
-// add none that reaches it but for `meter`: `Debug` of `Writer`, `Reader`, `Pass` and `Desk` writes a name alone, and `Desk::pass` and
-// `Pool::take` hand on whole handles under a lock.
-unsafe impl Sync for Handle {}
-
-/// The version of the archive: 10,000 times the major version, 100 times the minor one, and the patch.
-#[must_use]
-pub fn version() -> u32 {
-    // SAFETY: the call takes nothing and has no condition.
-    unsafe { raw::cefrodil_version() }
-}
-
-/// The version of this crate, as an archive writes it.
-const VERSION: u32 = 10_000 * number(env!("CARGO_PKG_VERSION_MAJOR"))
-    + 100 * number(env!("CARGO_PKG_VERSION_MINOR"))
-    + number(env!("CARGO_PKG_VERSION_PATCH"));
-
-const fn number(digits: &str) -> u32 {
-    let (digits, mut number, mut n) = (digits.as_bytes(), 0, 0);
-    while n < digits.len() {
-        number = 10 * number + (digits[n] - b'0') as u32;
-        n += 1;
-    }
-    number
-}
-
-/// Refuses an archive whose structs and calls may be others, before any of them is used. Before version 1.0 another minor version may
-/// differ in them, so a patch alone may be another.
-pub fn same_version() -> Result<(), OpenError> {
-    match version() {
-        archive if archive / 100 == VERSION / 100 => Ok(()),
-        archive => Err(OpenError::Version { archive, crate_version: VERSION }),
+impl<const WORDS: usize> Debug for Handle<WORDS> {
+    fn fmt(&self, text: &mut Formatter) -> fmt::Result {
+        text.debug_struct("Handle").finish_non_exhaustive()
     }
 }
 
-const EMPTY: RawHandle = RawHandle { at: ptr::null_mut(), live: false };
-
-impl Drop for Handle {
-    fn drop(&mut self) {
-        // SAFETY: by `&mut`, no other call uses this handle. If it is not open, the call returns a status.
-        unsafe { raw::cefrodil_close(&mut self.raw) };
-    }
-}
-
-impl Handle {
+impl<const WORDS: usize> Handle<WORDS> {
     /// Reads what the calls by all handles of this cache came to.
+    #[must_use]
     pub fn meter(&self) -> Meter {
-        self.counter.meter()
+        self.0.meter()
     }
 
+    /// Looks the key up. A hit marks the key as recently used.
     #[inline]
-    pub fn get<const WORDS: usize>(&mut self, key: u64, value: &mut [u64; WORDS]) -> (u32, RawReply) {
-        let mut reply = RawReply::default();
-        let (handle, words, told) = (&mut self.raw, value.as_mut_ptr(), &mut reply);
-        // SAFETY: every pointer is a borrow that lasts for the call, and `value` has as many words as the export's name or the call says.
-        let status = unsafe {
-            of_width!(WORDS, (handle, key, words, told), raw::cefrodil_get, {
-                1 cefrodil_get_1, 2 cefrodil_get_2, 3 cefrodil_get_3, 4 cefrodil_get_4,
-                5 cefrodil_get_5, 6 cefrodil_get_6, 7 cefrodil_get_7, 8 cefrodil_get_8
-            })
-        };
-        self.counter.looked(status);
-        (status, reply)
+    #[must_use]
+    pub fn get(&mut self, key: u64) -> Reply<WORDS> {
+        Reply::by(|value| self.0.get(key, value))
     }
 
-    pub fn get_many(&mut self, keys: &[u64], values: &mut [u64], answers: &mut [RawAnswer]) -> u32 {
-        let (value_words, answer_count) = (values.len(), answers.len());
-        // SAFETY: as in `get`; the lengths of the three arrays are passed with them.
-        let status = unsafe {
-            raw::cefrodil_get_many(
-                &mut self.raw,
-                keys.as_ptr(),
-                keys.len(),
-                values.as_mut_ptr(),
-                value_words,
-                answers.as_mut_ptr(),
-                answer_count,
-            )
-        };
-        if status == raw::OK {
-            self.counter.looked_up(answers);
+    /// Looks the keys up. Equivalent to calling [`get`](Handle::get) for each key in order: each reply has a moment of its own.
+    ///
+    /// # Panics
+    ///
+    /// If there are not as many replies as keys.
+    pub fn get_many(&mut self, keys: &[u64], replies: &mut [Reply<WORDS>]) {
+        reply::many(&mut self.0, keys, replies);
+    }
+
+    /// Like [`get`](Handle::get). If that is busy, tries once for the turn. With the turn nothing disturbs it, so it is not busy. `Busy` if
+    /// the try does not win either.
+    #[inline]
+    #[must_use]
+    pub fn get_or_turn(&mut self, key: u64) -> Reply<WORDS> {
+        Reply::by(|value| self.0.get_or_turn(key, value))
+    }
+
+    /// Like [`get_or_turn`](Handle::get_or_turn), but writes the answer to `reply`. That saves a copy.
+    #[inline]
+    pub fn get_or_turn_into(&mut self, key: u64, reply: &mut Reply<WORDS>) {
+        reply.set(|value| self.0.get_or_turn(key, value));
+    }
+
+    /// Tries once for the turn, and with it looks the key up as [`get`](Handle::get) does, but marks nothing: it doesn't count as a use of the
+    /// key. `None`: the try did not win.
+    #[must_use]
+    pub fn try_peek(&mut self, key: u64) -> Option<Reply<WORDS>> {
+        let mut value = [0; WORDS];
+        match self.0.peek(key, &mut value) {
+            (raw::HELD, _) => None,
+            told => Some(Reply::of(told, value)),
         }
-        status
     }
 
-    pub fn get_or_desk<const WORDS: usize>(&mut self, key: u64, value: &mut [u64; WORDS]) -> (u32, RawReply) {
-        let mut reply = RawReply::default();
-        let (handle, words, told) = (&mut self.raw, value.as_mut_ptr(), &mut reply);
-        // SAFETY: as in `get`.
-        let status = unsafe {
-            of_width!(WORDS, (handle, key, words, told), raw::cefrodil_get_or_desk, {
-                1 cefrodil_get_or_desk_1, 2 cefrodil_get_or_desk_2, 3 cefrodil_get_or_desk_3, 4 cefrodil_get_or_desk_4,
-                5 cefrodil_get_or_desk_5, 6 cefrodil_get_or_desk_6, 7 cefrodil_get_or_desk_7, 8 cefrodil_get_or_desk_8
-            })
-        };
-        self.counter.looked(status);
-        (status, reply)
+    /// Tries once for the turn of the key's shard, and with it puts the key with this value, as [`Writing::put`](crate::Writing::put) does.
+    ///
+    /// # Errors
+    ///
+    /// [`TurnError`]: no key and no value was changed.
+    pub fn try_put(&mut self, key: u64, value: &[u64; WORDS]) -> Result<Put, TurnError<PutError>> {
+        reply::turn(self.0.put(key, value), Put::of)
     }
 
-    // It is no use of the key, so it isn't counted as a lookup.
-    pub fn peek(&mut self, key: u64, value: &mut [u64]) -> (u32, RawReply) {
-        let mut reply = RawReply::default();
-        // SAFETY: as in `get`.
-        let status = unsafe { raw::cefrodil_peek(&mut self.raw, key, value.as_mut_ptr(), value.len(), &mut reply) };
-        self.counter.tried(status);
-        (status, reply)
+    /// Like [`try_put`](Handle::try_put), with up to `tries` tries, at least one, one after the other without a pause. `Held` if
+    /// none of them won.
+    ///
+    /// # Errors
+    ///
+    /// [`TurnError`]: no key and no value was changed.
+    pub fn put_within(&mut self, tries: u32, key: u64, value: &[u64; WORDS]) -> Result<Put, TurnError<PutError>> {
+        reply::turn(self.0.put_within(tries, key, value), Put::of)
     }
 
-    // A write by this call of the archive, which is counted.
-    fn write(&mut self, call: impl FnOnce(*mut RawHandle, *mut RawReply) -> u32) -> (u32, RawReply) {
-        let mut reply = RawReply::default();
-        let status = call(&mut self.raw, &mut reply);
-        self.counter.wrote(status, &reply);
-        (status, reply)
+    /// Puts the entries in order, each in a turn of its own, as by [`try_put`](Handle::try_put). One that is held does not stop the later
+    /// ones.
+    ///
+    /// # Panics
+    ///
+    /// If there are not as many answers as entries.
+    pub fn try_put_many(&mut self, entries: &[(u64, [u64; WORDS])], answers: &mut [Result<Put, TurnError<PutError>>]) {
+        reply::put_many(&mut self.0, entries, answers, |told| reply::turn(told, Put::of));
     }
 
-    pub fn put<const WORDS: usize>(&mut self, key: u64, value: &[u64; WORDS]) -> (u32, RawReply) {
-        let words = value.as_ptr();
-        // SAFETY: as in `get`.
-        self.write(|handle, reply| unsafe {
-            of_width!(WORDS, (handle, key, words, reply), raw::cefrodil_put, {
-                1 cefrodil_put_1, 2 cefrodil_put_2, 3 cefrodil_put_3, 4 cefrodil_put_4,
-                5 cefrodil_put_5, 6 cefrodil_put_6, 7 cefrodil_put_7, 8 cefrodil_put_8
-            })
-        })
+    /// Like [`try_put`](Handle::try_put), with [`Writing::put_if`](crate::Writing::put_if).
+    ///
+    /// # Errors
+    ///
+    /// [`TurnError`]: nothing was changed.
+    pub fn try_put_if(&mut self, key: u64, since: u64, value: &[u64; WORDS]) -> Result<u64, TurnError<PutIfError>> {
+        reply::turn(self.0.put_if(key, since, value), reply::put_if)
     }
 
-    pub fn put_many(&mut self, keys: &[u64], values: &[u64], answers: &mut [RawPut]) -> u32 {
-        let answer_count = answers.len();
-        // SAFETY: as in `get`; the lengths of the three arrays are passed with them.
-        let status = unsafe {
-            raw::cefrodil_put_many(
-                &mut self.raw,
-                keys.as_ptr(),
-                keys.len(),
-                values.as_ptr(),
-                values.len(),
-                answers.as_mut_ptr(),
-                answer_count,
-            )
-        };
-        if status == raw::OK {
-            for answer in answers {
-                self.counter.wrote(answer.status, &answer.reply);
-            }
+    /// Like [`try_put`](Handle::try_put), with [`Writing::put_if_absent`](crate::Writing::put_if_absent).
+    ///
+    /// # Errors
+    ///
+    /// [`TurnError`]: nothing was changed.
+    pub fn try_put_if_absent(&mut self, key: u64, value: &[u64; WORDS]) -> Result<Put, TurnError<PutIfAbsentError>> {
+        reply::turn(self.0.put_if_absent(key, value), reply::put_if_absent)
+    }
+
+    /// Like [`try_put`](Handle::try_put), with [`Writing::remove`](crate::Writing::remove).
+    ///
+    /// # Errors
+    ///
+    /// [`TurnError`]: nothing was changed.
+    pub fn try_remove(&mut self, key: u64) -> Result<Removal, TurnError<Spent>> {
+        reply::turn(self.0.remove(key), Removal::of)
+    }
+
+    /// Like [`try_put`](Handle::try_put), with [`Writing::swap`](crate::Writing::swap).
+    ///
+    /// # Errors
+    ///
+    /// [`TurnError`]: no key and no value was changed.
+    pub fn try_swap(&mut self, key: u64, value: &[u64; WORDS]) -> Result<Swapped<WORDS>, TurnError<PutError>> {
+        let mut old = [0; WORDS];
+        let told = self.0.swap(key, value, &mut old);
+        reply::turn(told, |told| Swapped::of(key, old, told))
+    }
+
+    /// Like [`try_put`](Handle::try_put), with [`Writing::swap_if`](crate::Writing::swap_if).
+    ///
+    /// # Errors
+    ///
+    /// [`TurnError`]: nothing was changed.
+    pub fn try_swap_if(&mut self, key: u64, since: u64, value: &[u64; WORDS]) -> Result<Replaced<WORDS>, TurnError<PutIfError>> {
+        let mut old = [0; WORDS];
+        let told = self.0.swap_if(key, since, value, &mut old);
+        reply::turn(told, |told| Replaced::of(key, old, told))
+    }
+
+    /// Like [`try_put`](Handle::try_put), with [`Writing::take`](crate::Writing::take).
+    ///
+    /// # Errors
+    ///
+    /// [`TurnError`]: nothing was changed.
+    pub fn try_take(&mut self, key: u64) -> Result<Take<WORDS>, TurnError<Spent>> {
+        let mut old = [0; WORDS];
+        let told = self.0.take(key, &mut old);
+        reply::turn(told, |told| Take::of(key, old, told))
+    }
+
+    /// Like [`try_put`](Handle::try_put), with [`Writing::take_if`](crate::Writing::take_if).
+    ///
+    /// # Errors
+    ///
+    /// [`TurnError`]: nothing was changed.
+    pub fn try_take_if(&mut self, key: u64, since: u64) -> Result<Replaced<WORDS>, TurnError<PutIfError>> {
+        let mut old = [0; WORDS];
+        let told = self.0.take_if(key, since, &mut old);
+        reply::turn(told, |told| Replaced::of(key, old, told))
+    }
+
+    /// The number of keys in the cache. Each shard is counted in a turn of its own, so with several it adds up numbers of several moments.
+    ///
+    /// # Errors
+    ///
+    /// [`TurnError::Held`]: a try for a turn did not win.
+    pub fn try_len(&mut self) -> Result<usize, TurnError<ListError>> {
+        match self.0.len() {
+            (raw::OK, len) => Ok(len as usize),
+            (status, _) => Err(reply::no_list(status)),
         }
-        status
     }
 
-    pub fn put_if(&mut self, key: u64, since: u64, value: &[u64]) -> (u32, RawReply) {
-        // SAFETY: as in `get`.
-        self.write(|handle, reply| unsafe { raw::cefrodil_put_if(handle, key, since, value.as_ptr(), value.len(), reply) })
+    /// The number of changes made to all shards, at one moment. It [holds](Handle::hold) for that.
+    ///
+    /// # Errors
+    ///
+    /// [`Held`]: a try for a turn did not win.
+    ///
+    /// ```
+    /// use cefrodil::{Cache, Shape};
+    ///
+    /// let mut handles = Cache::<1>::open(&Shape::for_items(100, 4)?, 4, 1)?;
+    /// handles[0].try_put(1, &[10])?;
+    /// handles[0].try_put(2, &[20])?;
+    /// assert_eq!((handles[0].try_len()?, handles[0].try_moment()?), (2, 2));
+    /// # Ok::<(), Box<dyn std::error::Error>>(())
+    /// ```
+    pub fn try_moment(&mut self) -> Result<u64, Held> {
+        Ok(self.hold()?.moment())
     }
 
-    pub fn put_if_absent(&mut self, key: u64, value: &[u64]) -> (u32, RawReply) {
-        // SAFETY: as in `get`.
-        self.write(|handle, reply| unsafe { raw::cefrodil_put_if_absent(handle, key, value.as_ptr(), value.len(), reply) })
+    /// The number of keys that the cache holds at most: the `items` of its shape, in all shards together.
+    #[must_use]
+    pub fn capacity(&mut self) -> usize {
+        reply::number(self.0.capacity()) as usize
     }
 
-    pub fn remove(&mut self, key: u64) -> (u32, RawReply) {
-        // SAFETY: as in `get`.
-        self.write(|handle, reply| unsafe { raw::cefrodil_remove(handle, key, reply) })
+    /// Lists each key with its value, as [`Cache::open_with`](crate::Cache::open_with) takes them. Each shard is listed in a turn of its own,
+    /// so at a moment of its own. The call takes room for [`capacity`](Handle::capacity) entries, so that one turn is enough.
+    ///
+    /// # Errors
+    ///
+    /// [`TurnError::Held`]: a try for a turn did not win. `Call` with [`ListError::NoMemory`]. Nothing was listed.
+    pub fn try_entries(&mut self) -> Result<Vec<(u64, [u64; WORDS])>, TurnError<ListError>> {
+        let most = self.capacity();
+        reply::entries(&mut self.0, most)
     }
 
-    pub fn put_within(&mut self, tries: u32, key: u64, value: &[u64]) -> (u32, RawReply) {
-        // SAFETY: as in `get`.
-        self.write(|handle, reply| unsafe { raw::cefrodil_put_within(handle, tries, key, value.as_ptr(), value.len(), reply) })
-    }
-
-    pub fn swap(&mut self, key: u64, value: &[u64], old: &mut [u64]) -> (u32, RawReply) {
-        let (value_words, old_words) = (value.len(), old.len());
-        // SAFETY: as in `get`; the lengths of the two arrays are passed with them.
-        self.write(|handle, reply| unsafe {
-            raw::cefrodil_swap(handle, key, value.as_ptr(), value_words, old.as_mut_ptr(), old_words, reply)
-        })
-    }
-
-    pub fn swap_if(&mut self, key: u64, since: u64, value: &[u64], old: &mut [u64]) -> (u32, RawReply) {
-        let (value_words, old_words) = (value.len(), old.len());
-        // SAFETY: as in `swap`.
-        self.write(|handle, reply| unsafe {
-            raw::cefrodil_swap_if(handle, key, since, value.as_ptr(), value_words, old.as_mut_ptr(), old_words, reply)
-        })
-    }
-
-    pub fn take(&mut self, key: u64, old: &mut [u64]) -> (u32, RawReply) {
-        // SAFETY: as in `get`.
-        self.write(|handle, reply| unsafe { raw::cefrodil_take(handle, key, old.as_mut_ptr(), old.len(), reply) })
-    }
-
-    pub fn take_if(&mut self, key: u64, since: u64, old: &mut [u64]) -> (u32, RawReply) {
-        // SAFETY: as in `get`.
-        self.write(|handle, reply| unsafe { raw::cefrodil_take_if(handle, key, since, old.as_mut_ptr(), old.len(), reply) })
-    }
-
-    /// A pass leaves its desk, and is a reader then. The handle beside the status is the writer's, if it was the last pass.
-    pub fn leave_desk(&mut self) -> (u32, Option<Handle>) {
-        let mut writer = EMPTY;
-        // SAFETY: as in `get`.
-        let status = unsafe { raw::cefrodil_leave_desk(&mut self.raw, &mut writer) };
-        (status, (status == raw::OK).then(|| Handle { raw: writer, counter: self.counter.spare() }))
-    }
-
-    pub fn hold(&mut self) -> u32 {
-        // SAFETY: as in `get`.
-        let status = unsafe { raw::cefrodil_hold(&mut self.raw) };
-        self.counter.tried(status);
-        status
-    }
-
-    pub fn release(&mut self) {
-        // SAFETY: as in `get`. If the handle holds nothing, the call returns a status.
-        unsafe { raw::cefrodil_release(&mut self.raw) };
-    }
-
-    pub fn moment(&mut self) -> (u32, u64) {
-        self.number(raw::cefrodil_moment)
-    }
-
-    pub fn len(&mut self) -> (u32, u64) {
-        self.number(raw::cefrodil_len)
-    }
-
-    pub fn capacity(&mut self) -> (u32, u64) {
-        self.number(raw::cefrodil_capacity)
-    }
-
-    // One of the three calls that write a number.
-    fn number(&mut self, call: unsafe extern "C" fn(*mut RawHandle, *mut u64) -> u32) -> (u32, u64) {
-        let mut number = 0;
-        // SAFETY: as in `get`.
-        let status = unsafe { call(&mut self.raw, &mut number) };
-        self.counter.tried(status);
-        (status, number)
-    }
-
-    pub fn entries(&mut self, entries: &mut [u64]) -> (u32, u64) {
-        let mut count = 0;
-        // SAFETY: as in `get`.
-        let status = unsafe { raw::cefrodil_entries(&mut self.raw, entries.as_mut_ptr(), entries.len(), &mut count) };
-        self.counter.tried(status);
-        (status, count)
-    }
-
-    pub fn stamped_entries(&mut self, entries: &mut [u64]) -> (u32, u64) {
-        let mut count = 0;
-        // SAFETY: as in `get`.
-        let status = unsafe { raw::cefrodil_stamped_entries(&mut self.raw, entries.as_mut_ptr(), entries.len(), &mut count) };
-        self.counter.tried(status);
-        (status, count)
+    /// Lists each entry with the moment of its key's last put, as [`Writing::stamped_entries`](crate::Writing::stamped_entries) does. It
+    /// [holds](Handle::hold) for that.
+    ///
+    /// # Errors
+    ///
+    /// [`TurnError::Held`]: a try for a turn did not win. `Call` with [`ListError::NoMemory`]. Nothing was listed.
+    pub fn try_stamped_entries(&mut self) -> Result<Vec<Entry<WORDS>>, TurnError<ListError>> {
+        self.hold()?.stamped_entries().map_err(TurnError::Call)
     }
 }

@@ -1,7 +1,7 @@
 #![doc = include_str!("../README.md")]
 //!
-//! A [`Writer`] and each [`Reader`] belong to one thread at a time. Move them between threads like any value, or lend them by a
-//! [`Pool`]. If several threads write now and then, they take turns at a [`Desk`]. If several write often, they use [`Shards`].
+//! A [`Handle`] belongs to one thread at a time. Move it between threads like any value, or lend it by a [`Pool`]. A [`Writing`] holds the
+//! turns, so it writes without trying. Several writers that try want several shards, so that they rarely want the same turn.
 //! A [`Filler`] is for a cache beside a store that changes, a [`Meter`] for metrics, an [`AuditLog`] for a check of what was answered.
 //! A forked child may drop its parent's handles, which frees nothing, and open caches of its own. It makes no other call by the parent's.
 //! Without memory an opening and a list are errors. [`Filler::new`], [`Pool::new`] and [`prometheus`] end the process, as std's own types do.
@@ -14,37 +14,30 @@ compile_error!("Cefrodil runs on 64-bit Linux on x86-64 alone");
 mod audit;
 mod cache;
 mod counts;
-mod desk;
 mod error;
 mod filler;
 mod handle;
+mod hold;
 mod loads;
 mod memory;
-mod pass;
+mod open_handle;
 mod pool;
 mod raw;
-mod reader;
 mod reply;
 mod shape;
-mod shards;
 mod width;
 mod within;
 mod writing;
 
 pub use audit::AuditLog;
-pub use cache::{Cache, Opened, Writer};
+pub use cache::{Cache, Opened};
 pub use counts::{prometheus, Counts, Meter};
-pub use desk::Desk;
-pub use error::{
-    EndError, HoldError, ListError, NoDesk, NotEnded, OpenError, PutError, PutIfAbsentError, PutIfError, Spent, TurnError, Why,
-};
+pub use error::{Held, ListError, NotHeld, OpenError, PutError, PutIfAbsentError, PutIfError, Spent, TurnError, Why};
 pub use filler::{FillError, Filler, Ticket, Tickets};
-pub use handle::version;
-pub use pass::Pass;
+pub use handle::Handle;
+pub use open_handle::version;
 pub use pool::{Lent, Pool};
-pub use reader::Reader;
 pub use reply::{Entry, Put, Removal, Replaced, Reply, Swapped, Take};
 pub use shape::{Mix, Shape};
-pub use shards::{OpenedShards, Shards};
 pub use width::Value;
 pub use writing::Writing;

@@ -1,7 +1,7 @@
 //! Entries with which a cache is opened, as the words that the library takes.
 use crate::error::{OpenError, Why};
-use crate::handle::same_version;
 use crate::memory::room;
+use crate::open_handle::same_version;
 use crate::raw;
 
 /// Each entry as its key and then its value, and the status of each.

@@ -1,23 +1,23 @@
-//! A pool of readers or passes.
+//! A pool of handles.
 use std::fmt::{self, Debug, Formatter};
 use std::ops::{Deref, DerefMut};
 use std::sync::{Arc, Mutex, PoisonError};
 
-/// A pool of [`Reader`](crate::Reader)s, or of [`Pass`](crate::Pass)es, for threads that come and go. A cache has as many readers as
-/// it was opened with, so a thread takes one and gives it back. A clone is the same pool.
+/// A pool of [`Handle`](crate::Handle)s, for threads that come and go. A cache has as many handles as it was opened with, so a thread takes
+/// one and gives it back. A clone is the same pool.
 ///
 /// ```
 /// use cefrodil::{Cache, Pool, Shape};
 ///
-/// let (mut writer, readers) = Cache::<1>::open(&Shape::for_items(100)?, 2)?;
-/// writer.put(7, &[70])?;
-/// let pool = Pool::new(readers);
+/// let mut handles = Cache::<1>::open(&Shape::for_items(100, 1)?, 1, 2)?;
+/// handles[0].try_put(7, &[70])?;
+/// let pool = Pool::new(handles);
 /// let threads: Vec<_> = (0..2)
 ///     .map(|_| {
 ///         let pool = pool.clone();
 ///         std::thread::spawn(move || {
-///             let mut reader = pool.take().expect("there is a reader for each thread");
-///             assert_eq!(reader.get(7).value(), Some([70]));
+///             let mut handle = pool.take().expect("there is a handle for each thread");
+///             assert_eq!(handle.get(7).value(), Some([70]));
 ///         })
 ///     })
 ///     .collect();
@@ -30,7 +30,7 @@ pub struct Pool<T> {
     free: Arc<Mutex<Vec<T>>>,
 }
 
-/// A reader or pass that a [`Pool`] lends. Dropping it gives it back.
+/// A handle that a [`Pool`] lends. Dropping it gives it back.
 #[must_use = "what is dropped goes back to its pool"]
 pub struct Lent<T> {
     lent: Option<T>,

@@ -66,7 +66,6 @@ pub const BAD_READERS: u32 = 21;
 pub const NO_ITEM: u32 = 23;
 pub const BAD_SHARDS: u32 = 24;
 pub const PRESENT: u32 = 25;
-pub const NOT_LAST: u32 = 26;
 pub const PROCESSOR: u32 = 27;
 
 pub const PUT_EVICTED: u32 = 2;
@@ -79,6 +78,8 @@ macro_rules! of_series {
     };
 }
 
+// No call is made of some: `.ci/prototypes` compares the declarations with the header.
+#[allow(dead_code)]
 unsafe extern "C" {
     pub fn cefrodil_version() -> u32;
     #[link_name = of_series!("cefrodil_shape_for_items")]

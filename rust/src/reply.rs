@@ -1,7 +1,7 @@
 //! Answers of calls.
 use crate::error::{ListError, PutError, PutIfAbsentError, PutIfError, Spent, TurnError};
-use crate::handle::Handle;
 use crate::memory::room;
+use crate::open_handle::OpenHandle;
 use crate::raw::{self, RawAnswer, RawPut, RawReply};
 
 /// The answer of a lookup. `at` is its moment: the number of changes to the table when the answer was true. A count, not a time.
@@ -21,7 +21,7 @@ pub enum Reply<const WORDS: usize> {
         /// The moment.
         at: u64,
     },
-    /// The writer spoiled every try of the lookup. Says nothing about the table.
+    /// Writes spoiled every try of the lookup. Says nothing about the table.
     #[default]
     Busy,
 }
@@ -120,8 +120,7 @@ pub enum Take<const WORDS: usize> {
 
 type Told = (u32, RawReply);
 
-// Other statuses mean a closed handle, a handle of another kind, or another width. The types of this crate exclude them, except that a
-// pass of shards is of another kind for some calls (`no_list`).
+// Other statuses mean a closed handle, one that holds or does not, or another width. The types of this crate exclude them.
 pub(crate) fn not_told(status: u32) -> ! {
     unreachable!("this call gives no status {status}")
 }
@@ -166,15 +165,11 @@ impl<const WORDS: usize> Reply<WORDS> {
     }
 }
 
-// How many entries of a batch have one turn at a desk.
-const GROUP: usize = 16;
-
-// How many keys one call of the archive gets. The groups of a desk's pass begin where the caller's do.
+// How many keys one call of the archive gets.
 const KEYS_A_CALL: usize = 32;
-const _: () = assert!(KEYS_A_CALL % GROUP == 0);
 
 /// Looks the keys up in order.
-pub(crate) fn many<const WORDS: usize>(handle: &mut Handle, keys: &[u64], replies: &mut [Reply<WORDS>]) {
+pub(crate) fn many<const WORDS: usize>(handle: &mut OpenHandle, keys: &[u64], replies: &mut [Reply<WORDS>]) {
     assert_eq!(keys.len(), replies.len(), "there must be as many replies as keys");
     for (keys, replies) in keys.chunks(KEYS_A_CALL).zip(replies.chunks_mut(KEYS_A_CALL)) {
         let mut values = [[0; WORDS]; KEYS_A_CALL];
@@ -192,7 +187,7 @@ pub(crate) fn many<const WORDS: usize>(handle: &mut Handle, keys: &[u64], replie
 
 /// Puts the entries in order. `of` makes an answer of what was told.
 pub(crate) fn put_many<T, const WORDS: usize>(
-    handle: &mut Handle,
+    handle: &mut OpenHandle,
     entries: &[(u64, [u64; WORDS])],
     answers: &mut [T],
     of: impl Fn(Told) -> T,
@@ -311,20 +306,20 @@ pub(crate) fn number((status, number): (u32, u64)) -> u64 {
     }
 }
 
-/// What a list of a pass is, or why there is none.
+/// What a list is, or why there is none.
 pub(crate) type Listed<T> = Result<Vec<T>, TurnError<ListError>>;
 
 /// The entries of a cache, at most `most` of them.
-pub(crate) fn entries<const WORDS: usize>(handle: &mut Handle, most: usize) -> Listed<(u64, [u64; WORDS])> {
+pub(crate) fn entries<const WORDS: usize>(handle: &mut OpenHandle, most: usize) -> Listed<(u64, [u64; WORDS])> {
     listed(1 + WORDS, most, |words| handle.entries(words), entry)
 }
 
 /// The entries with their stamps.
-pub(crate) fn stamped_entries<const WORDS: usize>(handle: &mut Handle, most: usize) -> Listed<Entry<WORDS>> {
+pub(crate) fn stamped_entries<const WORDS: usize>(handle: &mut OpenHandle, most: usize) -> Listed<Entry<WORDS>> {
     listed(2 + WORDS, most, |words| handle.stamped_entries(words), stamped)
 }
 
-/// A list by a writer, which has no turns.
+/// A list by a handle that holds, which needs no turn.
 pub(crate) fn without_turn<T>(list: Listed<T>) -> Result<Vec<T>, ListError> {
     list.map_err(|why| match why {
         TurnError::Call(why) => why,
@@ -346,11 +341,10 @@ fn listed<T>(each: usize, most: usize, list: impl FnOnce(&mut [u64]) -> (u32, u6
     Ok(entries)
 }
 
-/// Why a pass or a writer did not list or count.
+/// Why a handle did not list or count.
 pub(crate) fn no_list(status: u32) -> TurnError<ListError> {
     match status {
         raw::HELD => TurnError::Held,
-        raw::KIND => TurnError::Call(ListError::OfShards),
         raw::NO_MEMORY => TurnError::Call(ListError::NoMemory),
         other => not_told(other),
     }

@@ -1,6 +1,6 @@
 //! The shape of a table.
 use crate::error::OpenError;
-use crate::handle::same_version;
+use crate::open_handle::same_version;
 use crate::raw::{self, RawShape};
 
 /// Whether the library hashes keys, or takes them as they are.
@@ -13,8 +13,8 @@ pub enum Mix {
     None,
 }
 
-/// The sizes of a table and the limits of its calls. [`Shape::for_items`] chooses one.
-/// A minor version may add a field: change one by `Shape { items: 2, ..Shape::for_items(100)? }`.
+/// The sizes of a shard's table and the limits of its calls. [`Shape::for_items`] chooses one.
+/// A minor version may add a field: change one by `Shape { items: 2, ..Shape::for_items(100, 1)? }`.
 #[derive(Clone, Copy, Debug, PartialEq, Eq, Hash)]
 pub struct Shape {
     /// Most version changes in the table's life, 0 to 2^62. Each write makes at least two.
@@ -34,50 +34,24 @@ pub struct Shape {
 }
 
 impl Shape {
-    /// Chooses a shape for this many items, 1 to 3,774,873.
+    /// Chooses the shape of each of `shards` shards that hold `items` items together. A shard gets its mean share and five standard
+    /// deviations more, because the hash gives some shards more keys than others.
     ///
     /// # Errors
     ///
-    /// [`OpenError::Items`] if the number is out of range. [`OpenError::Version`] or [`OpenError::Processor`] if no cache can be opened.
+    /// [`OpenError::Shards`] if the number of shards is no power of two from 1 to 256. [`OpenError::Items`] if there are no items, or too many
+    /// for a shard. [`OpenError::Version`] or [`OpenError::Processor`] if no cache can be opened.
     ///
     /// # Examples
     ///
     /// ```
     /// use cefrodil::{OpenError, Shape};
     ///
-    /// assert_eq!(Shape::for_items(1000)?.buckets, 512);
-    /// assert_eq!(Shape::for_items(0), Err(OpenError::Items));
+    /// assert_eq!(Shape::for_items(16_000, 16)?.items, 1160);
+    /// assert_eq!(Shape::for_items(16_000, 10), Err(OpenError::Shards));
     /// # Ok::<(), OpenError>(())
     /// ```
-    pub fn for_items(items: u32) -> Result<Shape, OpenError> {
-        same_version()?;
-        let mut shape = RawShape { limit: 0, buckets: 0, items: 0, stripes: 0, depth: 0, tries: 0, mix: 0 };
-        // SAFETY: `shape` is a borrow that lasts for the call.
-        let status = unsafe { raw::cefrodil_shape_for_items(items, &mut shape) };
-        if status != raw::OK {
-            return Err(OpenError::of(status));
-        }
-        Ok(Shape::of(&shape))
-    }
-
-    /// Chooses the shape of each of `shards` [`Shards`](crate::Shards) that hold `items` items together. A shard gets its mean
-    /// share and five standard deviations more, because the hash gives some shards more keys than others.
-    ///
-    /// # Errors
-    ///
-    /// [`OpenError::Shards`] if the number of shards is no power of two from 1 to 256. [`OpenError::Items`] if there are no
-    /// items, or too many for a shard. [`OpenError::Version`] or [`OpenError::Processor`] if no cache can be opened.
-    ///
-    /// # Examples
-    ///
-    /// ```
-    /// use cefrodil::{OpenError, Shape};
-    ///
-    /// assert_eq!(Shape::for_shards(16_000, 16)?.items, 1160);
-    /// assert_eq!(Shape::for_shards(16_000, 10), Err(OpenError::Shards));
-    /// # Ok::<(), OpenError>(())
-    /// ```
-    pub fn for_shards(items: u32, shards: u32) -> Result<Shape, OpenError> {
+    pub fn for_items(items: u32, shards: u32) -> Result<Shape, OpenError> {
         same_version()?;
         let mut shape = RawShape { limit: 0, buckets: 0, items: 0, stripes: 0, depth: 0, tries: 0, mix: 0 };
         // SAFETY: `shape` is a borrow that lasts for the call.

@@ -2,19 +2,19 @@
 
 /// Values that a cache can have: 1 to 8 words.
 ///
-/// Code that opens caches of a generic width needs this bound. Code that uses their writers and readers does not:
+/// Code that opens caches of a generic width needs this bound. Code that uses their handles does not:
 ///
 /// ```
-/// use cefrodil::{Cache, OpenError, Reader, Shape, Value, Writer};
+/// use cefrodil::{Cache, Handle, OpenError, Shape, Value};
 ///
-/// fn small<const WORDS: usize>() -> Result<(Writer<WORDS>, Vec<Reader<WORDS>>), OpenError>
+/// fn small<const WORDS: usize>() -> Result<Vec<Handle<WORDS>>, OpenError>
 /// where
 ///     [u64; WORDS]: Value,
 /// {
-///     Cache::open(&Shape::for_items(100)?, 1)
+///     Cache::open(&Shape::for_items(100, 1)?, 1, 1)
 /// }
 ///
-/// let (writer, readers) = small::<8>()?;
+/// let handles = small::<8>()?;
 /// # Ok::<(), OpenError>(())
 /// ```
 ///
@@ -41,9 +41,9 @@
 ///     }
 /// }
 ///
-/// let (mut writer, mut readers) = Cache::<2>::open(&Shape::for_items(100)?, 1)?;
-/// writer.put(7, &Account { owner: 70, rate: 0.5 }.into())?;
-/// let found = readers[0].get(7).value().map(Account::from);
+/// let mut handles = Cache::<2>::open(&Shape::for_items(100, 1)?, 1, 1)?;
+/// handles[0].try_put(7, &Account { owner: 70, rate: 0.5 }.into())?;
+/// let found = handles[0].get(7).value().map(Account::from);
 /// assert_eq!(found, Some(Account { owner: 70, rate: 0.5 }));
 /// # Ok::<(), Box<dyn std::error::Error>>(())
 /// ```

@@ -1,17 +1,16 @@
 //! Calls that are made again while another thread has the turn.
 use crate::error::TurnError;
-use crate::pass::Pass;
+use crate::handle::Handle;
 
-impl<const WORDS: usize> Pass<'_, WORDS> {
+impl<const WORDS: usize> Handle<WORDS> {
     /// Makes a call again while it is held: at most `tries` times, at least once, without a pause. So do this with whatever must not be lost, as
-    /// a removal. [`put_within`](Pass::put_within) is the same for a put, and a little faster.
+    /// a removal. [`put_within`](Handle::put_within) is the same for a put, and a little faster.
     ///
     /// ```
-    /// use cefrodil::{Desk, Shape, Take};
+    /// use cefrodil::{Cache, Shape, Take};
     ///
-    /// let desk = Desk::<1>::open(&Shape::for_items(100)?, 1)?;
-    /// let mut pass = desk.pass().expect("there is one");
-    /// let taken = pass.within(1000, |pass| pass.try_take(7))?;
+    /// let mut handles = Cache::<1>::open(&Shape::for_items(100, 1)?, 1, 1)?;
+    /// let taken = handles[0].within(1000, |handle| handle.try_take(7))?;
     /// assert_eq!(taken, Take::NotThere { at: 0 });
     /// # Ok::<(), Box<dyn std::error::Error>>(())
     /// ```

@@ -1,24 +1,31 @@
-//! A pass of shards that holds every turn.
-use crate::cache::Writer;
-use crate::error::HoldError;
-use crate::handle::Handle;
-use crate::pass::Pass;
-use crate::raw;
-use crate::reply;
+//! A handle that holds the turns of all shards.
+use crate::counts::Meter;
+use crate::error::{ListError, PutError, PutIfAbsentError, PutIfError, Spent};
+use crate::open_handle::OpenHandle;
+use crate::reply::{self, Entry, Put, Removal, Replaced, Reply, Swapped, Take};
 use std::fmt::{self, Debug, Formatter};
-use std::ops::{Deref, DerefMut};
 
-/// A pass of [`Shards`](crate::Shards) that holds the turn of every shard, by [`Pass::hold`]. It has the calls of a [`Writer`]: its writes are
-/// never held, its lookups are never busy, and each list and number is that of one moment, of all shards. Dropping it gives the turns back.
+/// A handle that holds the turns of all shards: nobody else writes, and other handles look up as before. Its writes are never held, its
+/// lookups are never busy, and each list and number is that of one moment, of all shards. Dropping it gives the turns back.
+///
+/// [`Handle::hold`](crate::Handle::hold) borrows its handle. For a program that writes from one place for its whole life,
+/// [`Handle::into_writing`](crate::Handle::into_writing) takes the handle over.
+///
+/// It may move to another thread. Each call takes `&mut self`, so two threads that share it make none:
+///
+/// ```compile_fail,E0596
+/// fn two_threads_share(writing: &cefrodil::Writing<1>) {
+///     let _ = writing.put(7, &[70]);
+/// }
+/// ```
 #[must_use = "dropping it gives the turns back"]
-pub struct Writing<'a, const WORDS: usize> {
-    // There until it is dropped.
-    writer: Option<Writer<WORDS>>,
-    // Where the pass has its handle.
-    home: &'a mut Option<Handle>,
-}
+pub struct Writing<'a, const WORDS: usize>(pub(crate) Holder<'a>);
 
-const UNTIL_DROPPED: &str = "it writes until it is dropped";
+/// The handle that holds.
+pub(crate) enum Holder<'a> {
+    Lent(&'a mut OpenHandle),
+    Own(OpenHandle),
+}
 
 impl<const WORDS: usize> Debug for Writing<'_, WORDS> {
     fn fmt(&self, text: &mut Formatter) -> fmt::Result {
@@ -26,59 +33,273 @@ impl<const WORDS: usize> Debug for Writing<'_, WORDS> {
     }
 }
 
-impl<const WORDS: usize> Deref for Writing<'_, WORDS> {
-    type Target = Writer<WORDS>;
-
-    fn deref(&self) -> &Writer<WORDS> {
-        self.writer.as_ref().expect(UNTIL_DROPPED)
-    }
-}
-
-impl<const WORDS: usize> DerefMut for Writing<'_, WORDS> {
-    fn deref_mut(&mut self) -> &mut Writer<WORDS> {
-        self.writer.as_mut().expect(UNTIL_DROPPED)
-    }
-}
-
 impl<const WORDS: usize> Drop for Writing<'_, WORDS> {
     fn drop(&mut self) {
-        *self.home = self.writer.take().map(|Writer(mut handle)| {
-            handle.release();
-            handle
-        });
+        self.handle().release();
     }
 }
 
-impl<const WORDS: usize> Pass<'_, WORDS> {
-    /// Takes the turn of every shard, and holds them until what it returns is dropped. Nobody else writes meanwhile. Other passes look up as
-    /// before, and their tries are held. It takes no memory.
+impl<const WORDS: usize> Writing<'_, WORDS> {
+    #[inline]
+    pub(crate) fn handle(&mut self) -> &mut OpenHandle {
+        match &mut self.0 {
+            Holder::Lent(handle) => handle,
+            Holder::Own(handle) => handle,
+        }
+    }
+
+    /// Puts the key with this value. A new key evicts another one of its shard if that has as many keys as items.
     ///
     /// # Errors
     ///
-    /// [`HoldError::Held`]: one of the tries did not win. It holds none.
+    /// [`PutError`]: no key and no value was changed. After `AllRecent` only recency bits were.
+    pub fn put(&mut self, key: u64, value: &[u64; WORDS]) -> Result<Put, PutError> {
+        Put::of(self.handle().put(key, value))
+    }
+
+    /// Overwrites the key's value if its last put was at the moment `since`, as a lookup of the key returned it. Returns the
+    /// moment of the new put.
+    ///
+    /// # Errors
+    ///
+    /// The first variant of [`PutIfError`] that applies, in their order. Nothing was changed.
     ///
     /// # Examples
     ///
     /// ```
-    /// use cefrodil::{Shape, Shards, TurnError};
+    /// use cefrodil::{Cache, PutIfError, Shape};
     ///
-    /// let mut passes = Shards::<1>::open(&Shape::for_shards(1000, 4)?, 4, 2)?;
-    /// let [mine, other] = &mut passes[..] else { unreachable!() };
-    /// let mut writing = mine.hold()?;
+    /// let mut handles = Cache::<1>::open(&Shape::for_items(100, 1)?, 1, 1)?;
+    /// let mut writing = handles[0].hold()?;
     /// writing.put(7, &[70])?;
-    /// writing.put(8, &[80])?;
-    /// assert_eq!(other.try_put(7, &[71]), Err(TurnError::Held));
-    /// assert_eq!((writing.len(), writing.moment()), (2, 2));
-    /// drop(writing);
-    /// other.try_put(7, &[71])?;
+    /// assert_eq!(writing.put_if(7, 1, &[71])?, 2);
+    /// assert_eq!(writing.put_if(7, 1, &[72]), Err(PutIfError::Changed { since: 2 }));
     /// # Ok::<(), Box<dyn std::error::Error>>(())
     /// ```
-    pub fn hold(&mut self) -> Result<Writing<'_, WORDS>, HoldError> {
-        match self.handle().hold() {
-            raw::OK => Ok(Writing { writer: self.handle.take().map(Writer), home: &mut self.handle }),
-            raw::HELD => Err(HoldError::Held),
-            raw::KIND => Err(HoldError::AtDesk),
-            other => reply::not_told(other),
+    pub fn put_if(&mut self, key: u64, since: u64, value: &[u64; WORDS]) -> Result<u64, PutIfError> {
+        reply::put_if(self.handle().put_if(key, since, value))
+    }
+
+    /// Puts the entries in order, each as [`put`](Writing::put) does.
+    ///
+    /// # Panics
+    ///
+    /// If there are not as many answers as entries.
+    ///
+    /// ```
+    /// use cefrodil::{Cache, PutError, Shape};
+    ///
+    /// let mut handles = Cache::<1>::open(&Shape::for_items(100, 1)?, 1, 1)?;
+    /// let mut writing = handles[0].hold()?;
+    /// let mut answers = [Err(PutError::Spent); 2];
+    /// writing.put_many(&[(7, [70]), (8, [80])], &mut answers);
+    /// assert_eq!(answers.map(|put| put.map(|put| put.at())), [Ok(1), Ok(2)]);
+    /// # Ok::<(), Box<dyn std::error::Error>>(())
+    /// ```
+    pub fn put_many(&mut self, entries: &[(u64, [u64; WORDS])], answers: &mut [Result<Put, PutError>]) {
+        reply::put_many(self.handle(), entries, answers, Put::of);
+    }
+
+    /// Puts the key only if it is absent. Never returns [`Put::Renewed`].
+    ///
+    /// # Errors
+    ///
+    /// [`PutIfAbsentError`]: nothing was changed. A key that is there counts as used.
+    ///
+    /// ```
+    /// use cefrodil::{Cache, PutIfAbsentError, Shape};
+    ///
+    /// let mut handles = Cache::<1>::open(&Shape::for_items(100, 1)?, 1, 1)?;
+    /// let mut writing = handles[0].hold()?;
+    /// writing.put_if_absent(7, &[70])?;
+    /// assert_eq!(writing.put_if_absent(7, &[71]), Err(PutIfAbsentError::Present { since: 1 }));
+    /// # Ok::<(), Box<dyn std::error::Error>>(())
+    /// ```
+    pub fn put_if_absent(&mut self, key: u64, value: &[u64; WORDS]) -> Result<Put, PutIfAbsentError> {
+        reply::put_if_absent(self.handle().put_if_absent(key, value))
+    }
+
+    /// Removes the key.
+    ///
+    /// # Errors
+    ///
+    /// [`Spent`]: nothing was changed.
+    pub fn remove(&mut self, key: u64) -> Result<Removal, Spent> {
+        Removal::of(self.handle().remove(key))
+    }
+
+    /// Puts the key as [`put`](Writing::put) does, and returns the entry that gives way: the key's earlier one, or that of the key that
+    /// was evicted. So a program that keeps objects behind the cache knows which to drop.
+    ///
+    /// # Errors
+    ///
+    /// [`PutError`]: no key and no value was changed.
+    ///
+    /// # Examples
+    ///
+    /// ```
+    /// use cefrodil::{Cache, Entry, Shape};
+    ///
+    /// let mut handles = Cache::<1>::open(&Shape { items: 1, ..Shape::for_items(10, 1)? }, 1, 1)?;
+    /// let mut writing = handles[0].hold()?;
+    /// assert_eq!(writing.swap(7, &[70])?.old, None);
+    /// assert_eq!(writing.swap(7, &[71])?.old, Some(Entry { key: 7, value: [70], since: 1 }));
+    /// assert_eq!(writing.swap(8, &[80])?.old, Some(Entry { key: 7, value: [71], since: 2 }));
+    /// # Ok::<(), Box<dyn std::error::Error>>(())
+    /// ```
+    pub fn swap(&mut self, key: u64, value: &[u64; WORDS]) -> Result<Swapped<WORDS>, PutError> {
+        let mut old = [0; WORDS];
+        let told = self.handle().swap(key, value, &mut old);
+        Swapped::of(key, old, told)
+    }
+
+    /// Overwrites the key's value as [`put_if`](Writing::put_if) does, and returns the earlier entry.
+    ///
+    /// # Errors
+    ///
+    /// The first variant of [`PutIfError`] that applies, in their order. Nothing was changed.
+    pub fn swap_if(&mut self, key: u64, since: u64, value: &[u64; WORDS]) -> Result<Replaced<WORDS>, PutIfError> {
+        let mut old = [0; WORDS];
+        let told = self.handle().swap_if(key, since, value, &mut old);
+        Replaced::of(key, old, told)
+    }
+
+    /// Removes the key as [`remove`](Writing::remove) does, and returns its entry.
+    ///
+    /// # Errors
+    ///
+    /// [`Spent`]: nothing was changed.
+    pub fn take(&mut self, key: u64) -> Result<Take<WORDS>, Spent> {
+        let mut old = [0; WORDS];
+        let told = self.handle().take(key, &mut old);
+        Take::of(key, old, told)
+    }
+
+    /// Removes the key as [`take`](Writing::take) does, if its last put was at the moment `since`, as a lookup of the key returned it.
+    /// So a program that found an entry too old removes that one, and no later one.
+    ///
+    /// # Errors
+    ///
+    /// [`PutIfError`]: nothing was changed.
+    pub fn take_if(&mut self, key: u64, since: u64) -> Result<Replaced<WORDS>, PutIfError> {
+        let mut old = [0; WORDS];
+        let told = self.handle().take_if(key, since, &mut old);
+        Replaced::of(key, old, told)
+    }
+
+    /// Looks the key up. Never [`Reply::Busy`]. A hit marks the key as recently used.
+    #[inline]
+    #[must_use]
+    pub fn get(&mut self, key: u64) -> Reply<WORDS> {
+        Reply::by(|value| self.handle().get(key, value))
+    }
+
+    /// Looks the keys up. Equivalent to calling [`get`](Writing::get) for each key in order.
+    ///
+    /// # Panics
+    ///
+    /// If there are not as many replies as keys.
+    pub fn get_many(&mut self, keys: &[u64], replies: &mut [Reply<WORDS>]) {
+        reply::many(self.handle(), keys, replies);
+    }
+
+    /// Looks the key up as [`get`](Writing::get) does, but marks nothing: it doesn't count as a use of the key.
+    #[must_use]
+    pub fn peek(&mut self, key: u64) -> Reply<WORDS> {
+        let mut value = [0; WORDS];
+        let told = self.handle().peek(key, &mut value);
+        Reply::of(told, value)
+    }
+
+    /// The number of changes made to all shards. With one shard, that is the `at` of a lookup made now.
+    #[must_use]
+    pub fn moment(&mut self) -> u64 {
+        reply::number(self.handle().moment())
+    }
+
+    /// The number of keys in the cache. It is kept, not counted, so this is quick at every size.
+    #[must_use]
+    pub fn len(&mut self) -> usize {
+        reply::number(self.handle().len()) as usize
+    }
+
+    /// Whether no key is in the cache.
+    #[must_use]
+    pub fn is_empty(&mut self) -> bool {
+        self.len() == 0
+    }
+
+    /// The number of keys that the cache holds at most: the `items` of its shape, in all shards together.
+    #[must_use]
+    pub fn capacity(&mut self) -> usize {
+        reply::number(self.handle().capacity()) as usize
+    }
+
+    /// Lists each key with its value, as [`Cache::open_with`](crate::Cache::open_with) takes them. The cache stays open. The library takes memory for the list, too.
+    ///
+    /// # Errors
+    ///
+    /// [`ListError::NoMemory`]: nothing was listed.
+    ///
+    /// # Examples
+    ///
+    /// A larger cache takes over the entries:
+    ///
+    /// ```
+    /// use cefrodil::{Cache, Reply, Shape};
+    ///
+    /// let mut handles = Cache::<1>::open(&Shape::for_items(100, 1)?, 1, 1)?;
+    /// let mut small = handles[0].hold()?;
+    /// small.put(7, &[70])?;
+    /// assert_eq!((small.len(), small.moment()), (1, 1));
+    /// let mut large = Cache::<1>::open_with(&Shape::for_items(1000, 1)?, 1, 1, &small.entries()?)?;
+    /// assert!(large.left.is_empty());
+    /// assert_eq!(large.handles[0].get(7), Reply::Found { value: [70], at: 1, since: 1 });
+    /// # Ok::<(), Box<dyn std::error::Error>>(())
+    /// ```
+    pub fn entries(&mut self) -> Result<Vec<(u64, [u64; WORDS])>, ListError> {
+        let most = self.len();
+        reply::without_turn(reply::entries(self.handle(), most))
+    }
+
+    /// Lists each entry with the moment of its key's last put, as its shard counts. A lookup of the key would return the same `since`, so
+    /// pass it to [`put_if`](Writing::put_if). The call takes memory as [`entries`](Writing::entries) does.
+    ///
+    /// # Errors
+    ///
+    /// [`ListError::NoMemory`]: nothing was listed.
+    ///
+    /// # Examples
+    ///
+    /// Removes each key of a cache of one shard that has had no put since a moment:
+    ///
+    /// ```no_run
+    /// use cefrodil::{Cache, Entry, Shape};
+    ///
+    /// let mut handles = Cache::<1>::open(&Shape::for_items(100, 1)?, 1, 1)?;
+    /// let mut writing = handles[0].hold()?;
+    /// writing.put(7, &[70])?;
+    /// let moment = writing.moment();
+    /// writing.put(8, &[80])?;
+    /// for entry in writing.stamped_entries()? {
+    ///     if entry.since <= moment {
+    ///         writing.remove(entry.key)?;
+    ///     }
+    /// }
+    /// assert_eq!(writing.stamped_entries()?, [Entry { key: 8, value: [80], since: 2 }]);
+    /// # Ok::<(), Box<dyn std::error::Error>>(())
+    /// ```
+    pub fn stamped_entries(&mut self) -> Result<Vec<Entry<WORDS>>, ListError> {
+        let most = self.len();
+        reply::without_turn(reply::stamped_entries(self.handle(), most))
+    }
+
+    /// Reads what the calls by all handles of this cache came to.
+    #[must_use]
+    pub fn meter(&self) -> Meter {
+        match &self.0 {
+            Holder::Lent(handle) => handle.meter(),
+            Holder::Own(handle) => handle.meter(),
         }
     }
 }

@@ -1,24 +1,21 @@
 //! The errors of openings and writes, and the parts of answers that `calls.rs` leaves open.
 use cefrodil::{
-    Cache, Desk, Mix, OpenError, Pass, Put, PutError, PutIfAbsentError, PutIfError, Removal, Reply, Shape, Shards, Spent,
-    TurnError, Value, Why,
+    Cache, Handle, Mix, OpenError, Put, PutError, PutIfAbsentError, PutIfError, Reply, Shape, Spent, TurnError, Value, Why,
 };
 use std::collections::HashSet;
 use std::error::Error;
-use std::iter;
 
 const SMALL: Shape = Shape { limit: 1 << 62, buckets: 4, items: 16, stripes: 1, depth: 2, tries: 2, mix: Mix::None };
 
-// The error of each opening of this shape with `readers` readers. All give the same one.
-fn opening_error<const WORDS: usize>(shape: &Shape, readers: usize) -> OpenError
+// The error of each opening of this shape with so many handles. All give the same one.
+fn opening_error<const WORDS: usize>(shape: &Shape, handles: usize) -> OpenError
 where
     [u64; WORDS]: Value,
 {
-    let why = Cache::<WORDS>::open(shape, readers).unwrap_err();
-    assert_eq!(Desk::<WORDS>::open(shape, readers).unwrap_err(), why);
-    assert_eq!(Cache::<WORDS>::open_with(shape, readers, &[]).unwrap_err(), why);
-    assert_eq!(Shards::<WORDS>::open(shape, 4, readers).unwrap_err(), why);
-    assert_eq!(Shards::<WORDS>::open_with(shape, 4, readers, &[]).unwrap_err(), why);
+    let why = Cache::<WORDS>::open(shape, 1, handles).unwrap_err();
+    assert_eq!(Cache::<WORDS>::open(shape, 4, handles).unwrap_err(), why);
+    assert_eq!(Cache::<WORDS>::open_with(shape, 1, handles, &[]).unwrap_err(), why);
+    assert_eq!(Cache::<WORDS>::open_with(shape, 4, handles, &[]).unwrap_err(), why);
     why
 }
 
@@ -47,66 +44,70 @@ fn the_archive_has_the_version_of_the_crate() {
 }
 
 #[test]
-fn every_other_count_of_readers_is_an_error() {
-    for readers in [0, 1025, 1 << 32, (1 << 32) + 1, 1 << 40, usize::MAX / 16, usize::MAX] {
-        assert_eq!(opening_error::<1>(&SMALL, readers), OpenError::Readers);
+fn every_other_count_of_handles_is_an_error() {
+    for handles in [0, 1025, 1 << 32, (1 << 32) + 1, 1 << 40, usize::MAX / 16, usize::MAX] {
+        assert_eq!(opening_error::<1>(&SMALL, handles), OpenError::Handles);
     }
 }
 
 #[test]
 fn a_shape_for_items_has_every_field() -> Result<(), OpenError> {
-    let expected = Shape { limit: 1 << 62, buckets: 512, items: 1000, stripes: 512, depth: 5, tries: 8, mix: Mix::Full };
-    assert_eq!(Shape::for_items(1000)?, expected);
+    // Each of the shards has 1,000 items on average, and five times the root of that more.
+    let expected = Shape { limit: 1 << 62, buckets: 512, items: 1160, stripes: 512, depth: 5, tries: 8, mix: Mix::Full };
+    assert_eq!(Shape::for_items(16_000, 16)?, expected);
     Ok(())
 }
 
 #[test]
 fn a_put_reports_moves_evictions_and_refusals() -> Result<(), Box<dyn Error>> {
-    let (mut writer, _readers) = Cache::<1>::open(&SMALL, 1)?;
+    let mut handles = Cache::<1>::open(&SMALL, 1, 1)?;
+    let mut writing = handles[0].hold()?;
     for key in [1 << 56, 0, 4, 8, 12, 16, 20, 24] {
-        assert!(matches!(writer.put(key, &[1])?, Put::Stored { moves: 0, evicted: None, .. }));
+        assert!(matches!(writing.put(key, &[1])?, Put::Stored { moves: 0, evicted: None, .. }));
     }
-    assert_eq!(writer.put(28, &[28])?, Put::Stored { at: 9, moves: 1, evicted: None });
-    let (mut writer, _readers) = Cache::<1>::open(&Shape { items: 2, ..SMALL }, 1)?;
-    writer.put(0, &[10])?;
-    writer.put(1, &[11])?;
-    assert_eq!(writer.put(2, &[12])?, Put::Stored { at: 4, moves: 0, evicted: Some(0) });
-    let (mut writer, _readers) = Cache::<1>::open(&Shape { depth: 0, ..SMALL }, 1)?;
+    assert_eq!(writing.put(28, &[28])?, Put::Stored { at: 9, moves: 1, evicted: None });
+    let mut handles = Cache::<1>::open(&Shape { items: 2, ..SMALL }, 1, 1)?;
+    let mut writing = handles[0].hold()?;
+    writing.put(0, &[10])?;
+    writing.put(1, &[11])?;
+    assert_eq!(writing.put(2, &[12])?, Put::Stored { at: 4, moves: 0, evicted: Some(0) });
+    let mut handles = Cache::<1>::open(&Shape { depth: 0, ..SMALL }, 1, 1)?;
+    let mut writing = handles[0].hold()?;
     for key in 0..8 {
-        writer.put(4 * key, &[key])?;
+        writing.put(4 * key, &[key])?;
     }
-    assert_eq!(writer.put(32, &[32]), Err(PutError::NoPath));
+    assert_eq!(writing.put(32, &[32]), Err(PutError::NoPath));
     Ok(())
 }
 
-// A turn whose call is refused gives the writer back: no call after it is held.
-fn refused_by(pass: &mut Pass<1>) {
-    assert_eq!(pass.try_put(0, &[7]), Err(TurnError::Call(PutError::Spent)));
-    assert_eq!(pass.put_within(3, 0, &[7]), Err(TurnError::Call(PutError::Spent)));
-    assert_eq!(pass.try_put_if(0, 1, &[7]), Err(TurnError::Call(PutIfError::Spent)));
-    assert_eq!(pass.try_put_if_absent(0, &[7]), Err(TurnError::Call(PutIfAbsentError::Put(PutError::Spent))));
-    assert_eq!(pass.try_remove(0), Err(TurnError::Call(Spent)));
-    assert_eq!(pass.try_swap(0, &[7]), Err(TurnError::Call(PutError::Spent)));
-    assert_eq!(pass.try_swap_if(0, 1, &[7]), Err(TurnError::Call(PutIfError::Spent)));
-    assert_eq!(pass.try_take_if(0, 1), Err(TurnError::Call(PutIfError::Spent)));
-    assert_eq!(pass.try_take(0), Err(TurnError::Call(Spent)));
+// A turn whose call is refused is given back: no call after it is held.
+fn refused_by(handle: &mut Handle<1>) {
+    assert_eq!(handle.try_put(0, &[7]), Err(TurnError::Call(PutError::Spent)));
+    assert_eq!(handle.put_within(3, 0, &[7]), Err(TurnError::Call(PutError::Spent)));
+    assert_eq!(handle.try_put_if(0, 1, &[7]), Err(TurnError::Call(PutIfError::Spent)));
+    assert_eq!(handle.try_put_if_absent(0, &[7]), Err(TurnError::Call(PutIfAbsentError::Put(PutError::Spent))));
+    assert_eq!(handle.try_remove(0), Err(TurnError::Call(Spent)));
+    assert_eq!(handle.try_swap(0, &[7]), Err(TurnError::Call(PutError::Spent)));
+    assert_eq!(handle.try_swap_if(0, 1, &[7]), Err(TurnError::Call(PutIfError::Spent)));
+    assert_eq!(handle.try_take_if(0, 1), Err(TurnError::Call(PutIfError::Spent)));
+    assert_eq!(handle.try_take(0), Err(TurnError::Call(Spent)));
 }
 
 #[test]
 fn a_spent_cache_refuses_writes() -> Result<(), Box<dyn Error>> {
     let none = Shape { limit: 0, ..SMALL };
-    let (mut writer, _readers) = Cache::<1>::open(&none, 1)?;
-    assert_eq!(writer.put(0, &[7]), Err(PutError::Spent));
-    assert_eq!(writer.put_if(0, 1, &[7]), Err(PutIfError::Spent));
-    assert_eq!(writer.put_if_absent(0, &[7]), Err(PutIfAbsentError::Put(PutError::Spent)));
-    assert_eq!(writer.remove(0), Err(Spent));
-    let desk = Desk::<1>::open(&none, 1)?;
-    let mut pass = desk.pass().ok_or("no pass")?;
-    refused_by(&mut pass);
-    assert_eq!(pass.try_len(), Ok(0));
-    for mut pass in Shards::<1>::open(&none, 2, 1)? {
-        refused_by(&mut pass);
-        assert_eq!(pass.try_put(0, &[7]), Err(TurnError::Call(PutError::Spent)));
+    let mut handles = Cache::<1>::open(&none, 1, 1)?;
+    let mut writing = handles[0].hold()?;
+    assert_eq!(writing.put(0, &[7]), Err(PutError::Spent));
+    assert_eq!(writing.put_if(0, 1, &[7]), Err(PutIfError::Spent));
+    assert_eq!(writing.put_if_absent(0, &[7]), Err(PutIfAbsentError::Put(PutError::Spent)));
+    assert_eq!(writing.remove(0), Err(Spent));
+    drop(writing);
+    for shards in [1, 2] {
+        let mut handles = Cache::<1>::open(&none, shards, 1)?;
+        refused_by(&mut handles[0]);
+        assert_eq!(handles[0].try_len(), Ok(0));
+        assert_eq!(handles[0].try_put(0, &[7]), Err(TurnError::Call(PutError::Spent)));
     }
     Ok(())
 }
@@ -115,62 +116,51 @@ fn a_spent_cache_refuses_writes() -> Result<(), Box<dyn Error>> {
 fn keys_are_mixed_as_the_shape_says() -> Result<(), Box<dyn Error>> {
     // Taken as they are, the nine keys share two buckets.
     for (mix, stored) in [(Mix::None, 8), (Mix::Full, 9)] {
-        let (mut writer, _readers) = Cache::<1>::open(&Shape { buckets: 1024, depth: 0, mix, ..SMALL }, 1)?;
-        assert_eq!((0..9).filter(|key| writer.put(1024 * key, &[0]).is_ok()).count(), stored);
+        let mut handles = Cache::<1>::open(&Shape { buckets: 1024, depth: 0, mix, ..SMALL }, 1, 1)?;
+        let mut writing = handles[0].hold()?;
+        assert_eq!((0..9).filter(|key| writing.put(1024 * key, &[0]).is_ok()).count(), stored);
     }
     assert_eq!(Mix::default(), Mix::Full);
     Ok(())
 }
 
 #[test]
-fn a_desk_has_as_many_passes_as_were_opened() -> Result<(), Box<dyn Error>> {
-    let desk = Desk::<1>::open(&SMALL, 1024)?;
-    let mut passes: Vec<_> = iter::from_fn(|| desk.pass()).collect();
-    assert_eq!(passes.len(), 1024);
-    assert!(matches!(passes[0].try_remove(1)?, Removal::NotThere { at: 0 }));
-    assert_eq!(passes[1023].get(1), Reply::Absent { at: 0 });
-    drop(passes);
-    assert_eq!(iter::from_fn(|| desk.pass()).collect::<Vec<_>>().len(), 1024);
-    Ok(())
-}
-
-#[test]
-fn a_cache_has_as_many_readers_as_were_opened() -> Result<(), Box<dyn Error>> {
-    let (mut writer, mut readers) = Cache::<1>::open(&SMALL, 1024)?;
-    writer.put(7, &[70])?;
-    assert_eq!(readers.len(), 1024);
-    for reader in &mut readers {
-        assert_eq!(reader.get(7).value(), Some([70]));
+fn a_cache_has_as_many_handles_as_were_opened() -> Result<(), Box<dyn Error>> {
+    let mut handles = Cache::<1>::open(&SMALL, 1, 1024)?;
+    handles[1023].try_put(7, &[70])?;
+    assert_eq!(handles.len(), 1024);
+    for handle in &mut handles {
+        assert_eq!(handle.get(7).value(), Some([70]));
     }
-    assert_eq!(Cache::<1>::open_with(&SMALL, 1024, &[])?.readers.len(), 1024);
+    assert_eq!(Cache::<1>::open_with(&SMALL, 4, 1024, &[])?.handles.len(), 1024);
     Ok(())
 }
 
 #[test]
 #[should_panic(expected = "as many replies as keys")]
 fn more_replies_than_keys_panic() {
-    let (_writer, mut readers) = Cache::<1>::open(&SMALL, 1).expect("a cache");
-    readers[0].get_many(&[1], &mut [Reply::Busy; 2]);
+    let mut handles = Cache::<1>::open(&SMALL, 1, 1).expect("a cache");
+    handles[0].get_many(&[1], &mut [Reply::Busy; 2]);
 }
 
 #[test]
 fn a_turn_changes_only_the_put_that_it_names() -> Result<(), Box<dyn Error>> {
-    let desk = Desk::<1>::open(&SMALL, 1)?;
-    let mut pass = desk.pass().ok_or("no pass")?;
-    pass.try_put(7, &[70])?;
-    pass.try_put(7, &[71])?;
+    let mut handles = Cache::<1>::open(&SMALL, 1, 1)?;
+    let handle = &mut handles[0];
+    handle.try_put(7, &[70])?;
+    handle.try_put(7, &[71])?;
     for since in [0, 1, 3, u64::MAX] {
-        assert_eq!(pass.try_put_if(7, since, &[72]), Err(TurnError::Call(PutIfError::Changed { since: 2 })));
+        assert_eq!(handle.try_put_if(7, since, &[72]), Err(TurnError::Call(PutIfError::Changed { since: 2 })));
     }
-    assert_eq!(pass.try_put_if(2, 7, &[72]), Err(TurnError::Call(PutIfError::NotThere { at: 2 })));
-    assert_eq!(pass.get(7), Reply::Found { value: [71], at: 2, since: 2 });
-    assert_eq!(pass.try_put_if(7, 2, &[72])?, 3);
-    assert_eq!(pass.get_or_desk(7), Reply::Found { value: [72], at: 3, since: 3 });
-    assert_eq!(pass.get_or_desk(2), Reply::Absent { at: 3 });
+    assert_eq!(handle.try_put_if(2, 7, &[72]), Err(TurnError::Call(PutIfError::NotThere { at: 2 })));
+    assert_eq!(handle.get(7), Reply::Found { value: [71], at: 2, since: 2 });
+    assert_eq!(handle.try_put_if(7, 2, &[72])?, 3);
+    assert_eq!(handle.get_or_turn(7), Reply::Found { value: [72], at: 3, since: 3 });
+    assert_eq!(handle.get_or_turn(2), Reply::Absent { at: 3 });
     let mut reply = Reply::Busy;
-    pass.get_or_desk_into(7, &mut reply);
+    handle.get_or_turn_into(7, &mut reply);
     assert_eq!(reply, Reply::Found { value: [72], at: 3, since: 3 });
-    pass.get_or_desk_into(2, &mut reply);
+    handle.get_or_turn_into(2, &mut reply);
     assert_eq!(reply, Reply::Absent { at: 3 });
     Ok(())
 }
@@ -178,10 +168,10 @@ fn a_turn_changes_only_the_put_that_it_names() -> Result<(), Box<dyn Error>> {
 #[test]
 fn each_entry_that_is_left_is_named() -> Result<(), Box<dyn Error>> {
     let entries = [0, 4, 8, 12, 16, 20, 24, 28, 2, 28, 6].map(|key| (key, [key]));
-    let mut opened = Cache::<1>::open_with(&Shape { buckets: 2, items: 8, ..SMALL }, 1, &entries)?;
+    let mut opened = Cache::<1>::open_with(&Shape { buckets: 2, items: 8, ..SMALL }, 1, 1, &entries)?;
     assert_eq!(opened.left, [(8, Why::NoPath), (10, Why::NoPath)]);
-    assert_eq!(opened.readers[0].get(28), Reply::Found { value: [28], at: 9, since: 9 });
-    let opened = Cache::<1>::open_with(&Shape { items: 2, ..SMALL }, 1, &entries[..4])?;
+    assert_eq!(opened.handles[0].get(28), Reply::Found { value: [28], at: 9, since: 9 });
+    let opened = Cache::<1>::open_with(&Shape { items: 2, ..SMALL }, 1, 1, &entries[..4])?;
     assert_eq!(opened.left, [(2, Why::NoItem), (3, Why::NoItem)]);
     Ok(())
 }
@@ -196,10 +186,15 @@ fn a_reply_may_have_a_value() {
 
 #[test]
 fn debug_names_the_type_alone() -> Result<(), Box<dyn Error>> {
-    let opened = Cache::<1>::open_with(&SMALL, 2, &[])?;
-    assert_eq!(format!("{opened:?}"), "Opened { writer: Writer { .. }, readers: [Reader { .. }, Reader { .. }], left: [] }");
-    let desk = Desk::<1>::open(&SMALL, 1)?;
-    assert_eq!(format!("{desk:?} {:?}", desk.pass()), "Desk { .. } Some(Pass { .. })");
+    let mut opened = Cache::<1>::open_with(&SMALL, 1, 2, &[])?;
+    assert_eq!(format!("{opened:?}"), "Opened { handles: [Handle { .. }, Handle { .. }], left: [] }");
+    let [one, other] = &mut opened.handles[..] else { unreachable!() };
+    let writing = one.hold()?;
+    assert_eq!(format!("{writing:?} {:?}", other.hold()), "Writing { .. } Err(Held)");
+    drop(writing);
+    let handle = opened.handles.remove(1);
+    let _writing = opened.handles.remove(0).into_writing()?;
+    assert_eq!(format!("{:?}", handle.into_writing()), "Err(NotHeld { handle: Handle { .. } })");
     assert!(HashSet::from([SMALL]).contains(&SMALL));
     Ok(())
 }

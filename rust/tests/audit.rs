@@ -1,5 +1,5 @@
 //! A log has a line for each change and each answer. Its answers are those of a plain map, which is changed as the log says.
-use cefrodil::{AuditLog, Cache, Desk, Pass, Removal, Reply, Shape, TurnError, Writer};
+use cefrodil::{AuditLog, Cache, Handle, Removal, Reply, Shape, TurnError};
 use std::collections::BTreeMap;
 use std::error::Error;
 use std::io;
@@ -13,20 +13,22 @@ fn text<const WORDS: usize>(log: AuditLog<WORDS, Vec<u8>>) -> Result<String, Box
 
 #[test]
 fn each_answer_has_its_line() -> Tested {
-    let (mut writer, mut readers) = Cache::<2>::open(&Shape { items: 2, ..Shape::for_items(100)? }, 1)?;
+    let mut handles = Cache::<2>::open(&Shape { items: 2, ..Shape::for_items(100, 1)? }, 1, 2)?;
+    let mut reader = handles.remove(1);
+    let mut writing = handles[0].hold()?;
     let mut log = AuditLog::new(Vec::new())?;
-    log.put(7, &[70, 71], writer.put(7, &[70, 71])?)?;
-    log.put(7, &[72, 73], writer.put(7, &[72, 73])?)?;
-    log.put_at(7, &[74, 75], writer.put_if(7, 2, &[74, 75])?)?;
-    log.looked(7, readers[0].get(7))?;
-    log.looked(8, readers[0].get(8))?;
+    log.put(7, &[70, 71], writing.put(7, &[70, 71])?)?;
+    log.put(7, &[72, 73], writing.put(7, &[72, 73])?)?;
+    log.put_at(7, &[74, 75], writing.put_if(7, 2, &[74, 75])?)?;
+    log.looked(7, reader.get(7))?;
+    log.looked(8, reader.get(8))?;
     log.looked(8, Reply::Busy)?;
-    log.removed(8, writer.remove(8)?)?;
-    log.removed(7, writer.remove(7)?)?;
-    log.swapped(1, &[10, 11], &writer.swap(1, &[10, 11])?)?;
-    log.swapped(1, &[12, 13], &writer.swap(1, &[12, 13])?)?;
-    log.taken(1, &writer.take(1)?)?;
-    log.taken(1, &writer.take(1)?)?;
+    log.removed(8, writing.remove(8)?)?;
+    log.removed(7, writing.remove(7)?)?;
+    log.swapped(1, &[10, 11], &writing.swap(1, &[10, 11])?)?;
+    log.swapped(1, &[12, 13], &writing.swap(1, &[12, 13])?)?;
+    log.taken(1, &writing.take(1)?)?;
+    log.taken(1, &writing.take(1)?)?;
     assert_eq!(
         text(log)?,
         "words 2\nput 1 7 70 71\nput 2 7 72 73\nput 3 7 74 75\nfound 3 3 7 74 75\nabsent 3 8\nabsent 3 8\nremove 4 7\nput 5 1 10 11\n\
@@ -37,11 +39,12 @@ fn each_answer_has_its_line() -> Tested {
 
 #[test]
 fn an_eviction_is_a_change_of_its_own() -> Tested {
-    let (mut writer, _readers) = Cache::<1>::open(&Shape { items: 1, ..Shape::for_items(100)? }, 1)?;
+    let mut handles = Cache::<1>::open(&Shape { items: 1, ..Shape::for_items(100, 1)? }, 1, 1)?;
+    let mut writing = handles[0].hold()?;
     let mut log = AuditLog::new(Vec::new())?;
-    log.put(1, &[10], writer.put(1, &[10])?)?;
-    log.put(2, &[20], writer.put(2, &[20])?)?;
-    log.swapped(3, &[30], &writer.swap(3, &[30])?)?;
+    log.put(1, &[10], writing.put(1, &[10])?)?;
+    log.put(2, &[20], writing.put(2, &[20])?)?;
+    log.swapped(3, &[30], &writing.swap(3, &[30])?)?;
     assert_eq!(text(log)?, "words 1\nput 1 1 10\nevict 2 1\nput 3 2 20\nfound 3 3 2 20\nevict 4 2\nput 5 3 30\n");
     Ok(())
 }
@@ -49,7 +52,7 @@ fn an_eviction_is_a_change_of_its_own() -> Tested {
 #[test]
 fn entries_that_are_left_out_are_no_changes() -> Tested {
     let entries = [(1, [10]), (2, [20]), (3, [30])];
-    let opened = Cache::<1>::open_with(&Shape { items: 2, ..Shape::for_items(100)? }, 1, &entries)?;
+    let opened = Cache::<1>::open_with(&Shape { items: 2, ..Shape::for_items(100, 1)? }, 1, 1, &entries)?;
     let mut log = AuditLog::new(Vec::new())?;
     log.opened(&entries, &opened.left)?;
     assert_eq!(text(log)?, "words 1\nput 1 1 10\nput 2 2 20\n");
@@ -83,24 +86,24 @@ fn a_stream_that_is_full_is_an_error() -> Tested {
     Ok(())
 }
 
-fn work(mut pass: Pass<1>, number: u64) -> Result<String, Box<dyn Error + Send + Sync>> {
+fn work(mut handle: Handle<1>, number: u64) -> Result<String, Box<dyn Error + Send + Sync>> {
     let mut log = AuditLog::new(Vec::new())?;
     for n in 0..2000 {
         let key = (n * 7 + number) % 20;
-        match pass.try_put(key, &[n]) {
+        match handle.try_put(key, &[n]) {
             Ok(put) => log.put(key, &[n], put)?,
             Err(TurnError::Held) => thread::yield_now(),
             Err(why) => return Err(why.into()),
         }
-        log.looked(key, pass.get(key))?;
-        if let Ok(removal @ Removal::Removed { .. }) = pass.try_remove(key + 1) {
+        log.looked(key, handle.get(key))?;
+        if let Ok(removal @ Removal::Removed { .. }) = handle.try_remove(key + 1) {
             log.removed(key + 1, removal)?;
         }
-        log.looked(key + 1, pass.get(key + 1))?;
-        if let Ok(swapped) = pass.try_swap(key + 2, &[n]) {
+        log.looked(key + 1, handle.get(key + 1))?;
+        if let Ok(swapped) = handle.try_swap(key + 2, &[n]) {
             log.swapped(key + 2, &[n], &swapped)?;
         }
-        if let Ok(take) = pass.try_take(key + 3) {
+        if let Ok(take) = handle.try_take(key + 3) {
             log.taken(key + 3, &take)?;
         }
     }
@@ -118,8 +121,9 @@ fn in_order(logs: &[String]) -> Vec<(u64, bool, Vec<&str>)> {
 
 #[test]
 fn logs_of_threads_are_true_of_a_plain_map() -> Tested {
-    let passes = Desk::<1>::open(&Shape { items: 10, ..Shape::for_items(100)? }, 3)?.into_passes();
-    let threads: Vec<_> = passes.into_iter().zip(0..).map(|(pass, number)| thread::spawn(move || work(pass, number))).collect();
+    let handles = Cache::<1>::open(&Shape { items: 10, ..Shape::for_items(100, 1)? }, 1, 3)?;
+    let threads: Vec<_> =
+        handles.into_iter().zip(0..).map(|(handle, number)| thread::spawn(move || work(handle, number))).collect();
     let mut logs = Vec::new();
     for thread in threads {
         logs.push(thread.join().map_err(|_| "a thread panicked")?.map_err(|why| why.to_string())?);
@@ -142,11 +146,12 @@ fn logs_of_threads_are_true_of_a_plain_map() -> Tested {
 }
 
 #[test]
-fn a_writer_alone_may_log() -> Tested {
-    let (mut writer, _readers): (Writer<1>, _) = Cache::open(&Shape::for_items(100)?, 1)?;
+fn a_handle_alone_may_log() -> Tested {
+    let mut handles = Cache::<1>::open(&Shape::for_items(100, 1)?, 1, 1)?;
+    let mut writing = handles[0].hold()?;
     let mut log = AuditLog::new(Vec::new())?;
-    log.put(1, &[10], writer.put_if_absent(1, &[10])?)?;
-    log.looked(1, writer.get(1))?;
+    log.put(1, &[10], writing.put_if_absent(1, &[10])?)?;
+    log.looked(1, writing.get(1))?;
     assert_eq!(text(log)?, "words 1\nput 1 1 10\nfound 1 1 1 10\n");
     Ok(())
 }

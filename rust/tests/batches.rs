@@ -1,5 +1,5 @@
 //! Puts of many entries in one call, and lookups that are no use of a key.
-use cefrodil::{Cache, Desk, Put, PutError, Reply, Shape, Shards, TurnError};
+use cefrodil::{Cache, Put, PutError, Reply, Shape, TurnError, Writing};
 use std::error::Error;
 use std::sync::atomic::{AtomicBool, Ordering::SeqCst};
 use std::thread;
@@ -24,25 +24,28 @@ fn answers() -> Vec<Put> {
 }
 
 #[test]
-fn a_writer_puts_many() -> Result<(), Box<dyn Error>> {
+fn a_holder_puts_many() -> Result<(), Box<dyn Error>> {
     // So few of its slots are in use that no key is moved.
-    let (mut writer, mut readers) = Cache::<2>::open(&Shape::for_items(10_000)?, 1)?;
+    let mut handles = Cache::<2>::open(&Shape::for_items(10_000, 1)?, 1, 2)?;
+    let mut reader = handles.remove(1);
+    let mut writing = handles[0].hold()?;
     let mut told = [Err(PutError::Spent); MANY];
-    writer.put_many(&entries(), &mut told);
+    writing.put_many(&entries(), &mut told);
     assert_eq!(told.into_iter().collect::<Result<Vec<_>, _>>()?, answers());
-    assert_eq!(readers[0].get(3), Reply::Found { value: [63, 126], at: 70, since: 64 });
-    writer.put_many(&[], &mut []);
-    assert_eq!((writer.moment(), writer.len()), (70, 60));
+    assert_eq!(reader.get(3), Reply::Found { value: [63, 126], at: 70, since: 64 });
+    writing.put_many(&[], &mut []);
+    assert_eq!((writing.moment(), writing.len()), (70, 60));
     Ok(())
 }
 
 #[test]
 fn a_refused_put_of_many_stops_no_other() -> Result<(), Box<dyn Error>> {
-    let shape = Shape { buckets: 2, items: 8, stripes: 1, ..Shape::for_items(8)? };
-    let (mut writer, _readers) = Cache::<1>::open(&shape, 1)?;
+    let shape = Shape { buckets: 2, items: 8, stripes: 1, ..Shape::for_items(8, 1)? };
+    let mut handles = Cache::<1>::open(&shape, 1, 1)?;
+    let mut writing = handles[0].hold()?;
     let entries: Vec<(u64, [u64; 1])> = (0..20).chain(0..20).map(|key| (key, [key])).collect();
     let mut told = [Err(PutError::Spent); 40];
-    writer.put_many(&entries, &mut told);
+    writing.put_many(&entries, &mut told);
     // The two buckets are full, so twelve keys have no place. Behind these the others are put anew.
     let refused = |puts: &[Result<Put, PutError>]| puts.iter().filter(|put| **put == Err(PutError::NoPath)).count();
     let renewed = |puts: &[Result<Put, PutError>]| puts.iter().filter(|put| matches!(put, Ok(Put::Renewed { .. }))).count();
@@ -53,20 +56,20 @@ fn a_refused_put_of_many_stops_no_other() -> Result<(), Box<dyn Error>> {
 #[test]
 #[should_panic(expected = "there must be as many answers as entries")]
 fn fewer_answers_than_entries_panic() {
-    let (mut writer, _readers) = Cache::<1>::open(&Shape::for_items(8).unwrap(), 1).unwrap();
-    writer.put_many(&[(1, [10]), (2, [20])], &mut [Err(PutError::Spent)]);
+    let mut handles = Cache::<1>::open(&Shape::for_items(8, 1).unwrap(), 1, 1).unwrap();
+    handles[0].hold().unwrap().put_many(&[(1, [10]), (2, [20])], &mut [Err(PutError::Spent)]);
 }
 
 #[test]
-fn passes_put_many_and_peek() -> Result<(), Box<dyn Error>> {
-    let desk = Desk::<2>::open(&Shape::for_items(10_000)?, 1)?;
-    let mut pass = desk.pass().ok_or("no pass")?;
+fn handles_put_many_and_peek() -> Result<(), Box<dyn Error>> {
+    let mut handles = Cache::<2>::open(&Shape::for_items(10_000, 1)?, 1, 1)?;
+    let handle = &mut handles[0];
     let mut told = [Err(TurnError::Held); MANY];
-    pass.try_put_many(&entries(), &mut told);
+    handle.try_put_many(&entries(), &mut told);
     assert_eq!(told.into_iter().collect::<Result<Vec<_>, _>>()?, answers());
-    assert_eq!(pass.try_peek(3), Some(Reply::Found { value: [63, 126], at: 70, since: 64 }));
-    assert_eq!(pass.try_peek(60), Some(Reply::Absent { at: 70 }));
-    let mut shards = Shards::<2>::open(&Shape::for_shards(10_000, 4)?, 4, 1)?;
+    assert_eq!(handle.try_peek(3), Some(Reply::Found { value: [63, 126], at: 70, since: 64 }));
+    assert_eq!(handle.try_peek(60), Some(Reply::Absent { at: 70 }));
+    let mut shards = Cache::<2>::open(&Shape::for_items(10_000, 4)?, 4, 1)?;
     shards[0].try_put_many(&entries(), &mut told);
     assert!(told.iter().all(Result::is_ok));
     assert_eq!((0..60).filter(|key| shards[0].try_peek(*key).and_then(Reply::value).is_some()).count(), 60);
@@ -74,55 +77,60 @@ fn passes_put_many_and_peek() -> Result<(), Box<dyn Error>> {
     Ok(())
 }
 
-// Another thread lists the entries again and again, so that it has the turn for some groups of a batch and not for others.
+// Another thread lists the entries again and again, so that it has the turn for some entries of a batch and not for others.
 #[test]
-fn each_group_of_sixteen_has_one_turn() -> Result<(), Box<dyn Error>> {
+fn a_held_put_of_many_stops_no_other() -> Result<(), Box<dyn Error>> {
     const ENTRIES: usize = 960;
-    let mut passes = Desk::<1>::open(&Shape::for_items(4_000)?, 2)?.into_passes();
-    let (mut lists, mut puts) = (passes.remove(0), passes.remove(0));
-    let entries: Vec<(u64, [u64; 1])> = (0..ENTRIES as u64).map(|key| (key, [key])).collect();
+    let mut handles = Cache::<1>::open(&Shape::for_items(4_000, 1)?, 1, 2)?;
+    let (mut lists, mut puts) = (handles.remove(0), handles.remove(0));
     let (end, begin) = (AtomicBool::new(false), Instant::now());
-    let (mut changes, mut broken) = (0, 0);
+    let (mut changes, mut wrong) = (0, 0);
+    let mut last = vec![None; ENTRIES];
     thread::scope(|threads| {
         threads.spawn(|| {
             while !end.load(SeqCst) {
                 let _ = lists.try_entries();
             }
         });
-        while changes < CHANGES && begin.elapsed() < LONG {
+        for round in 0.. {
+            if changes >= CHANGES || begin.elapsed() > LONG {
+                break;
+            }
+            let entries: Vec<(u64, [u64; 1])> = (0..ENTRIES as u64).map(|key| (key, [round])).collect();
             let mut told = vec![Err(TurnError::Held); ENTRIES];
             puts.try_put_many(&entries, &mut told);
-            let held: Vec<bool> = told.iter().map(|put| *put == Err(TurnError::Held)).collect();
-            changes += held.windows(2).filter(|two| two[0] != two[1]).count();
-            broken += held.chunks(16).filter(|group| group.contains(&true) && group.contains(&false)).count();
+            last.iter_mut().zip(&told).filter(|(_, put)| put.is_ok()).for_each(|(last, _)| *last = Some([round]));
+            wrong += last.iter().zip(0..).filter(|(last, key)| puts.get(*key).value() != **last).count();
+            changes += told.windows(2).filter(|two| two[0].is_ok() != two[1].is_ok()).count();
         }
         end.store(true, SeqCst);
     });
     assert!(changes >= CHANGES, "the turn changed only {changes} times within a batch");
-    assert_eq!(broken, 0, "groups of which a part had the turn, in {changes} changes");
+    assert_eq!(wrong, 0, "keys whose value is not that of the last put that was not held");
     Ok(())
 }
 
 #[test]
 fn a_peek_is_no_use() -> Result<(), Box<dyn Error>> {
     // Fills a cache of three items, looks its next victim up by this call, and returns the key that another put evicts.
-    let evicted_after = |look: fn(&mut cefrodil::Writer<1>, u64) -> Reply<1>| -> Result<(u64, u64), Box<dyn Error>> {
-        let (mut writer, _readers) = Cache::<1>::open(&Shape::for_items(3)?, 1)?;
+    let evicted_after = |look: fn(&mut Writing<1>, u64) -> Reply<1>| -> Result<(u64, u64), Box<dyn Error>> {
+        let mut handles = Cache::<1>::open(&Shape { items: 3, ..Shape::for_items(3, 1)? }, 1, 1)?;
+        let mut writing = handles[0].hold()?;
         for key in 0..3 {
-            writer.put(key, &[key])?;
+            writing.put(key, &[key])?;
         }
-        let Put::Stored { evicted: Some(first), .. } = writer.put(3, &[3])? else { return Err("none was evicted".into()) };
+        let Put::Stored { evicted: Some(first), .. } = writing.put(3, &[3])? else { return Err("none was evicted".into()) };
         // The hand goes on with the item after it.
         let next = (first + 1) % 3;
-        assert_eq!(look(&mut writer, next), Reply::Found { value: [next], at: 5, since: next + 1 });
-        match writer.put(4, &[4])? {
+        assert_eq!(look(&mut writing, next), Reply::Found { value: [next], at: 5, since: next + 1 });
+        match writing.put(4, &[4])? {
             Put::Stored { evicted: Some(second), .. } => Ok((next, second)),
             other => Err(format!("{other:?}").into()),
         }
     };
-    let (next, evicted) = evicted_after(|writer, key| writer.peek(key))?;
+    let (next, evicted) = evicted_after(|writing, key| writing.peek(key))?;
     assert_eq!(evicted, next);
-    let (next, evicted) = evicted_after(|writer, key| writer.get(key))?;
+    let (next, evicted) = evicted_after(|writing, key| writing.get(key))?;
     assert_ne!(evicted, next);
     Ok(())
 }

@@ -1,8 +1,6 @@
-//! What the calls of a cache's handles came to is counted: by each kind of handle, also once it has left its desk or is dropped. In threads
-//! no count is lost. Without the feature `counts` each count is 0.
-use cefrodil::{
-    prometheus, Cache, Counts, Desk, Meter, Mix, Pass, Put, PutError, PutIfError, Reply, Shape, Shards, Spent, TurnError,
-};
+//! What the calls of a cache's handles came to is counted: by a handle that holds, too, and also once it is dropped. In threads no count is
+//! lost. Without the feature `counts` each count is 0.
+use cefrodil::{prometheus, Cache, Counts, Handle, Meter, Mix, Put, PutError, PutIfError, Reply, Shape, Spent, TurnError};
 use std::error::Error;
 use std::sync::atomic::{AtomicBool, Ordering};
 use std::thread;
@@ -26,58 +24,63 @@ fn counted(meter: &Meter, expected: [u64; 6]) {
 
 #[test]
 fn each_lookup_is_counted() -> Tested {
-    let (mut writer, mut readers) = Cache::<1>::open(&Shape::for_items(100)?, 2)?;
+    let mut readers = Cache::<1>::open(&Shape::for_items(100, 1)?, 1, 3)?;
+    let mut writing = readers.pop().ok_or("no handle")?.into_writing()?;
     let meter = readers[1].meter();
     counted(&meter, [0; 6]);
     assert_eq!(readers[0].get(1), Reply::Absent { at: 0 });
     counted(&meter, [0, 1, 0, 0, 0, 0]);
-    writer.put(1, &[10])?;
-    assert_eq!((readers[1].get(1).value(), writer.get(1).value(), writer.get(2).value()), (Some([10]), Some([10]), None));
+    writing.put(1, &[10])?;
+    assert_eq!((readers[1].get(1).value(), writing.get(1).value(), writing.get(2).value()), (Some([10]), Some([10]), None));
     counted(&meter, [2, 2, 0, 0, 0, 0]);
-    counted(&writer.meter(), [2, 2, 0, 0, 0, 0]);
+    counted(&writing.meter(), [2, 2, 0, 0, 0, 0]);
     let mut replies = [Reply::Busy; 40];
     readers[0].get_many(&[1; 40], &mut replies);
     readers[0].get_many(&[1, 2, 3], &mut replies[..3]);
     readers[0].get_many(&[], &mut []);
     counted(&meter, [43, 4, 0, 0, 0, 0]);
-    drop((writer, readers));
+    drop((writing, readers));
     counted(&meter.clone(), [43, 4, 0, 0, 0, 0]);
     Ok(())
 }
 
 #[test]
 fn evictions_and_refusals_are_counted() -> Tested {
-    let (mut writer, _readers) = Cache::<1>::open(&SMALL, 1)?;
-    let meter = writer.meter();
-    writer.put(1, &[1])?;
-    writer.put(2, &[2])?;
-    assert!(matches!(writer.put(1, &[3])?, Put::Renewed { .. }));
-    assert!(matches!(writer.put_if(1, 9, &[4]), Err(PutIfError::Changed { .. })));
-    assert!(writer.put_if(7, 9, &[4]).is_err() && writer.put_if_absent(1, &[4]).is_err() && writer.remove(7).is_ok());
-    assert!(writer.swap(2, &[5])?.old.is_some());
+    let mut handles = Cache::<1>::open(&SMALL, 1, 1)?;
+    let mut writing = handles[0].hold()?;
+    let meter = writing.meter();
+    writing.put(1, &[1])?;
+    writing.put(2, &[2])?;
+    assert!(matches!(writing.put(1, &[3])?, Put::Renewed { .. }));
+    assert!(matches!(writing.put_if(1, 9, &[4]), Err(PutIfError::Changed { .. })));
+    assert!(writing.put_if(7, 9, &[4]).is_err() && writing.put_if_absent(1, &[4]).is_err() && writing.remove(7).is_ok());
+    assert!(writing.swap(2, &[5])?.old.is_some());
     counted(&meter, [0; 6]);
-    writer.put(3, &[6])?;
+    writing.put(3, &[6])?;
     counted(&meter, [0, 0, 0, 0, 1, 0]);
-    writer.put_if_absent(4, &[7])?;
-    writer.swap(5, &[8])?;
+    writing.put_if_absent(4, &[7])?;
+    writing.swap(5, &[8])?;
     counted(&meter, [0, 0, 0, 0, 3, 0]);
-    let (mut spent, _readers) = Cache::<1>::open(&Shape { limit: 0, ..SMALL }, 1)?;
+    let mut handles = Cache::<1>::open(&Shape { limit: 0, ..SMALL }, 1, 1)?;
+    let mut spent = handles[0].hold()?;
     assert_eq!((spent.put(1, &[1]), spent.put_if(1, 1, &[1])), (Err(PutError::Spent), Err(PutIfError::Spent)));
     assert!(spent.put_if_absent(1, &[1]).is_err() && spent.remove(1) == Err(Spent) && spent.swap(1, &[1]).is_err());
     assert!(spent.swap_if(1, 1, &[1]).is_err() && spent.take(1).is_err());
     counted(&spent.meter(), [0, 0, 0, 0, 0, 7]);
     // Both buckets of nine keys are the same two, and no key may move.
     let crowded = Shape { buckets: 1024, items: 16, depth: 0, mix: Mix::None, ..SMALL };
-    let (mut writer, _readers) = Cache::<1>::open(&crowded, 1)?;
-    assert_eq!((0..9).filter(|key| writer.put(1024 * key, &[0]) == Err(PutError::NoPath)).count(), 1);
-    counted(&writer.meter(), [0, 0, 0, 0, 0, 1]);
+    let mut handles = Cache::<1>::open(&crowded, 1, 1)?;
+    let mut writing = handles[0].hold()?;
+    assert_eq!((0..9).filter(|key| writing.put(1024 * key, &[0]) == Err(PutError::NoPath)).count(), 1);
+    counted(&writing.meter(), [0, 0, 0, 0, 0, 1]);
     Ok(())
 }
 
 // One thread looks the two keys up, so that the one item stays recent, while another puts them by turns.
 #[test]
 fn a_put_that_finds_all_recent_is_counted() -> Tested {
-    let (mut writer, mut readers) = Cache::<1>::open(&Shape { items: 1, ..SMALL }, 1)?;
+    let mut readers = Cache::<1>::open(&Shape { items: 1, ..SMALL }, 1, 2)?;
+    let mut writing = readers.pop().expect("there are two").into_writing()?;
     let (done, mut refused) = (AtomicBool::new(false), 0);
     thread::scope(|threads| {
         threads.spawn(|| {
@@ -87,7 +90,7 @@ fn a_put_that_finds_all_recent_is_counted() -> Tested {
         });
         let begin = Instant::now();
         for n in 0.. {
-            refused += u64::from(writer.put(n % 2, &[n]) == Err(PutError::AllRecent));
+            refused += u64::from(writing.put(n % 2, &[n]) == Err(PutError::AllRecent));
             if refused == 3 || n % 1024 == 0 && begin.elapsed() > LONG {
                 break;
             }
@@ -95,42 +98,33 @@ fn a_put_that_finds_all_recent_is_counted() -> Tested {
         done.store(true, Ordering::Relaxed);
     });
     assert_eq!(refused, 3);
-    assert_eq!(writer.meter().counts().refusals, if cfg!(feature = "counts") { 3 } else { 0 });
+    assert_eq!(writing.meter().counts().refusals, if cfg!(feature = "counts") { 3 } else { 0 });
     Ok(())
 }
 
 #[test]
-fn a_desk_counts_on() -> Tested {
-    let mut opened = Cache::<1>::open_with(&SMALL, 1, &[(1, [1]), (2, [2])])?;
-    let meter = opened.readers[0].meter();
-    opened.writer.put(3, &[3])?;
-    let refused = opened.writer.into_desk(65).err().ok_or("there are 64 readers to spare")?;
-    let desk = refused.writer.into_desk(2)?;
-    counted(&desk.meter(), [0, 0, 0, 0, 1, 0]);
-    {
-        let (mut one, mut two) = (desk.pass().ok_or("no pass")?, desk.pass().ok_or("no pass")?);
-        one.try_put(4, &[4])?;
-        two.put_within(2, 5, &[5])?;
-        assert_eq!((one.get_or_desk(5).value(), two.get(9).value()), (Some([5]), None));
-        counted(&two.meter(), [1, 1, 0, 0, 3, 0]);
-    }
-    let (mut writer, mut readers) = desk.end()?;
-    assert!(readers.iter_mut().all(|reader| reader.get(5).value() == Some([5])));
-    assert_eq!((writer.get(5).value(), opened.readers[0].get(9).value()), (Some([5]), None));
-    writer.put(6, &[6])?;
-    counted(&meter, [4, 2, 0, 0, 4, 0]);
-    drop(readers);
+fn a_handle_counts_on_when_it_holds() -> Tested {
+    let mut opened = Cache::<1>::open_with(&SMALL, 1, 2, &[(1, [1]), (2, [2])])?;
+    let [one, other] = &mut opened.handles[..] else { unreachable!() };
+    let meter = one.meter();
+    one.try_put(3, &[3])?;
+    counted(&meter, [0, 0, 0, 0, 1, 0]);
+    let mut writing = one.hold()?;
+    assert!(other.hold().is_err() && other.try_moment().is_err());
+    writing.put(4, &[4])?;
+    assert_eq!((writing.get(4).value(), other.get(9).value()), (Some([4]), None));
+    counted(&writing.meter(), [1, 1, 0, 2, 2, 0]);
+    drop(writing);
+    let mut writing = opened.handles.remove(0).into_writing()?;
+    writing.put(5, &[5])?;
+    let mut one = writing.into_handle();
+    assert_eq!((one.get_or_turn(5).value(), opened.handles[0].get(9).value()), (Some([5]), None));
+    counted(&meter, [2, 2, 0, 2, 3, 0]);
     // Again and again.
     for _ in 0..20 {
-        let (ended, mut readers) = writer.into_desk(1)?.end()?;
-        writer = ended;
-        assert_eq!((writer.get(9).value(), readers[0].get(9).value()), (None, None));
+        assert_eq!(one.hold()?.get(9).value(), None);
     }
-    counted(&meter, [4, 42, 0, 0, 4, 0]);
-    // The writer of a cache that was opened as a desk counts, too.
-    let (mut writer, readers) = Desk::<1>::open(&SMALL, 1)?.end()?;
-    assert_eq!(writer.get(9).value(), None);
-    counted(&readers[0].meter(), [0, 1, 0, 0, 0, 0]);
+    counted(&meter, [2, 22, 0, 2, 3, 0]);
     Ok(())
 }
 
@@ -158,7 +152,7 @@ impl Told {
 }
 
 // Works until some thread was held, and a while in any case.
-fn work(pass: &mut Pass<1>, is_held: &AtomicBool) -> Told {
+fn work(handle: &mut Handle<1>, is_held: &AtomicBool) -> Told {
     let mut told = Told::default();
     let mut replies = [Reply::Busy; 3];
     let begin = Instant::now();
@@ -167,36 +161,36 @@ fn work(pass: &mut Pass<1>, is_held: &AtomicBool) -> Told {
             break;
         }
         let key = n * 7 % 11;
-        told.looked(pass.get(key));
-        told.looked(pass.get_or_desk(key + 1));
-        pass.get_many(&[key, key + 1, key + 2], &mut replies);
+        told.looked(handle.get(key));
+        told.looked(handle.get_or_turn(key + 1));
+        handle.get_many(&[key, key + 1, key + 2], &mut replies);
         replies.iter().for_each(|reply| told.looked(*reply));
-        told.put(pass.try_put(key, &[n]));
-        told.put(pass.put_within(2, key + 2, &[n]));
-        told.tried(pass.try_put_if(key, n, &[n]));
-        told.put(pass.try_put_if_absent(key + 4, &[n]));
-        told.put(pass.try_swap(key + 3, &[n]).map(|swapped| swapped.put));
-        told.tried(pass.try_swap_if(key, n, &[n]));
-        told.tried(pass.try_take(key));
-        told.tried(pass.try_remove(key + 5));
-        told.tried(pass.try_peek(key).ok_or(TurnError::<()>::Held));
+        told.put(handle.try_put(key, &[n]));
+        told.put(handle.put_within(2, key + 2, &[n]));
+        told.tried(handle.try_put_if(key, n, &[n]));
+        told.put(handle.try_put_if_absent(key + 4, &[n]));
+        told.put(handle.try_swap(key + 3, &[n]).map(|swapped| swapped.put));
+        told.tried(handle.try_swap_if(key, n, &[n]));
+        told.tried(handle.try_take(key));
+        told.tried(handle.try_remove(key + 5));
+        told.tried(handle.try_peek(key).ok_or(TurnError::<()>::Held));
         let mut puts = [Err(TurnError::Held); 2];
-        pass.try_put_many(&[(key, [n]), (key + 1, [n])], &mut puts);
+        handle.try_put_many(&[(key, [n]), (key + 1, [n])], &mut puts);
         puts.into_iter().for_each(|put| told.put(put));
-        told.tried(pass.try_len());
-        told.tried(pass.try_entries());
-        told.tried(pass.try_stamped_entries());
+        told.tried(handle.try_len());
+        told.tried(handle.try_entries());
+        told.tried(handle.try_moment().map_err(|_| TurnError::<()>::Held));
         is_held.fetch_or(told.0[3] != 0, Ordering::Relaxed);
     }
     told
 }
 
-// Threads work by passes, and one reads the counts meanwhile. In the end they match the answers that the threads got.
-fn threads_work(passes: Vec<Pass<'static, 1>>) {
-    let meter = passes[0].meter();
+// Threads work by handles, and one reads the counts meanwhile. In the end they match the answers that the threads got.
+fn threads_work(handles: Vec<Handle<1>>) {
+    let meter = handles[0].meter();
     let (mut all, mut misses, is_held) = ([0; 6], 0, &AtomicBool::new(false));
     thread::scope(|threads| {
-        let running: Vec<_> = passes.into_iter().map(|mut pass| threads.spawn(move || work(&mut pass, is_held))).collect();
+        let running: Vec<_> = handles.into_iter().map(|mut handle| threads.spawn(move || work(&mut handle, is_held))).collect();
         while running.iter().any(|thread| !thread.is_finished()) {
             let now = meter.counts().misses;
             assert!(misses <= now);
@@ -214,8 +208,8 @@ fn threads_work(passes: Vec<Pass<'static, 1>>) {
 
 #[test]
 fn no_count_is_lost() -> Tested {
-    threads_work(Desk::<1>::open(&Shape { items: 8, ..SMALL }, 4)?.into_passes());
-    threads_work(Shards::<1>::open(&Shape { items: 3, ..SMALL }, 2, 4)?);
+    threads_work(Cache::<1>::open(&Shape { items: 8, ..SMALL }, 1, 4)?);
+    threads_work(Cache::<1>::open(&Shape { items: 3, ..SMALL }, 2, 4)?);
     Ok(())
 }
 
@@ -251,7 +245,7 @@ cefrodil_refusals_total{cache="a\"b\\c\nd"} 0
 "#;
     assert_eq!(prometheus(&[("names", counts), ("a\"b\\c\nd", Counts::default())]), expected);
     assert_eq!(prometheus(&[]).lines().count(), 12);
-    let (writer, _readers) = Cache::<1>::open(&SMALL, 1)?;
-    assert_eq!(format!("{:?}", writer.meter()), "Meter { .. }");
+    let handles = Cache::<1>::open(&SMALL, 1, 1)?;
+    assert_eq!(format!("{:?}", handles[0].meter()), "Meter { .. }");
     Ok(())
 }

@@ -1,17 +1,16 @@
 //! A fill whose value was read before its key was changed in the store is refused, and the cache does not return to the old value.
 use cefrodil::{
-    Cache, Desk, FillError, Filler, Mix, PutError, PutIfError, Reader, Removal, Reply, Shape, Spent, Ticket, Tickets, TurnError,
-    Writer,
+    Cache, FillError, Filler, Handle, Mix, PutError, PutIfError, Removal, Reply, Shape, Spent, Ticket, Tickets, TurnError,
 };
 use std::error::Error;
 
 type Tested = Result<(), Box<dyn Error>>;
 
-fn filler(changes: usize) -> Result<(Filler<1>, Tickets, Reader<1>), Box<dyn Error>> {
-    let (writer, mut readers) = Cache::<1>::open(&Shape::for_items(100)?, 1)?;
-    let filler = Filler::new(writer, changes);
+fn filler(changes: usize) -> Result<(Filler<1>, Tickets, Handle<1>), Box<dyn Error>> {
+    let mut handles = Cache::<1>::open(&Shape::for_items(100, 1)?, 1, 2)?;
+    let filler = Filler::new(handles.remove(0).into_writing()?, changes);
     let tickets = filler.tickets();
-    Ok((filler, tickets, readers.remove(0)))
+    Ok((filler, tickets, handles.remove(0)))
 }
 
 #[test]
@@ -38,27 +37,26 @@ fn a_put_that_has_gone_again_is_a_change() -> Tested {
     let ticket = tickets.take();
     filler.put(1, &[11])?;
     assert_eq!(reader.get(1).value(), Some([11]));
-    filler.writer().remove(1)?;
+    filler.writing().remove(1)?;
     assert_eq!(filler.fill(1, ticket, &[10]), Err(FillError::Stale));
     filler.fill(2, ticket, &[20])?;
-    // What the writer does by itself is no change of the store.
-    filler.writer().remove(2)?;
+    // What the holder does by itself is no change of the store.
+    filler.writing().remove(2)?;
     filler.fill(2, ticket, &[20])?;
     assert_eq!(reader.get(2).value(), Some([20]));
-    assert_eq!(filler.into_writer().len(), 1);
+    assert_eq!(filler.into_writing().len(), 1);
     Ok(())
 }
 
 // The store has changed though the cache had no place for the new value. An older one must not come into the cache.
 #[test]
 fn a_put_that_finds_no_place_is_a_change() -> Tested {
-    let shape = Shape { buckets: 2, items: 8, stripes: 1, ..Shape::for_items(8)? };
-    let (writer, _readers) = Cache::<1>::open(&shape, 1)?;
-    let mut filler = Filler::new(writer, 100);
+    let shape = Shape { buckets: 2, items: 8, stripes: 1, ..Shape::for_items(8, 1)? };
+    let mut filler = Filler::new(Cache::<1>::open(&shape, 1, 1)?.remove(0).into_writing()?, 100);
     let tickets = filler.tickets();
     let (ticket, old, new) = (tickets.take(), [10], [11]);
     let refused = (0..20).find(|key| filler.put(*key, &new) == Err(PutError::NoPath)).ok_or("each key has a place")?;
-    (0..20).try_for_each(|key| filler.writer().remove(key).map(drop))?;
+    (0..20).try_for_each(|key| filler.writing().remove(key).map(drop))?;
     assert_eq!(filler.fill(refused, ticket, &old), Err(FillError::Stale));
     filler.fill(refused, tickets.take(), &new)?;
     Ok(())
@@ -103,8 +101,7 @@ fn a_ticket_of_another_filler_is_stale() -> Tested {
 #[test]
 fn a_fill_that_is_refused_says_why() -> Tested {
     let shape = Shape { limit: 0, buckets: 4, items: 16, stripes: 1, depth: 2, tries: 2, mix: Mix::None };
-    let (writer, _readers): (Writer<1>, _) = Cache::open(&shape, 1)?;
-    let mut filler = Filler::new(writer, 1);
+    let mut filler = Filler::new(Cache::<1>::open(&shape, 1, 1)?.remove(0).into_writing()?, 1);
     let ticket = filler.tickets().take();
     assert_eq!(filler.fill(1, ticket, &[1]), Err(FillError::Put(PutError::Spent)));
     assert_eq!((filler.put(1, &[1]), filler.remove(1)), (Err(PutError::Spent), Err(Spent)));
@@ -115,12 +112,12 @@ fn a_fill_that_is_refused_says_why() -> Tested {
     Ok(())
 }
 
-// At a desk a fill needs no filler: a thread that misses a key first puts a mark, and then its value in place of that mark alone.
+// If many threads write, a fill needs no filler: a thread that misses a key first puts a mark, and then its value in place of that mark alone.
 #[test]
-fn at_a_desk_a_mark_is_filled_once() -> Tested {
+fn a_mark_is_filled_once() -> Tested {
     const MARK: [u64; 1] = [u64::MAX];
-    let mut passes = Desk::<1>::open(&Shape::for_items(100)?, 2)?.into_passes();
-    let (mut one, mut two) = (passes.remove(0), passes.remove(0));
+    let mut handles = Cache::<1>::open(&Shape::for_items(100, 1)?, 1, 2)?;
+    let (mut one, mut two) = (handles.remove(0), handles.remove(0));
     let mut store = 10;
     let mark = one.try_put_if_absent(1, &MARK)?.at();
     let read = store;

@@ -1,6 +1,6 @@
 //! A process forks while its threads open, write, count and drop. A child drops what it has from its parent, opens caches of its own, and ends by
 //! `exit`. No child hangs.
-use cefrodil::{Cache, Put, Reply, Shape, Shards};
+use cefrodil::{Cache, Put, Reply, Shape};
 use std::ffi::c_int;
 use std::process::exit;
 use std::sync::atomic::{AtomicBool, Ordering::Relaxed};
@@ -16,10 +16,10 @@ extern "C" {
 
 /// Blocks of such shards are cut from a region, behind a lock.
 fn opens_and_drops() -> bool {
-    let shape = Shape::for_shards(40_000, 4).expect("a shape");
-    let mut passes = Shards::<1>::open(&shape, 4, 2).expect("memory");
-    let put = passes[0].try_put(1, &[2]);
-    matches!(put, Ok(Put::Stored { .. })) && matches!(passes[1].get(1), Reply::Found { value: [2], .. })
+    let shape = Shape::for_items(40_000, 4).expect("a shape");
+    let mut handles = Cache::<1>::open(&shape, 4, 2).expect("memory");
+    let put = handles[0].try_put(1, &[2]);
+    matches!(put, Ok(Put::Stored { .. })) && matches!(handles[1].get(1), Reply::Found { value: [2], .. })
 }
 
 /// Runs this in a child, and says whether it ended well. A child that hangs is ended by a signal.
@@ -40,10 +40,11 @@ fn ends_well(child: impl FnOnce() -> bool) -> bool {
 #[test]
 fn no_child_hangs() {
     let is_over = AtomicBool::new(false);
-    let shape = Shape::for_items(2000).expect("a shape");
-    let (mut writer, mut readers) = Cache::<1>::open(&shape, 2).expect("memory");
-    let passes = Shards::<1>::open(&shape, 2, 2).expect("memory");
-    let (meter, mut mine) = (writer.meter(), readers.pop());
+    let shape = Shape::for_items(2000, 1).expect("a shape");
+    let mut handles = Cache::<1>::open(&shape, 1, 3).expect("memory");
+    let others = Cache::<1>::open(&shape, 2, 2).expect("memory");
+    let (meter, mut mine) = (handles[0].meter(), handles.pop());
+    let mut writing = handles.remove(0).into_writing().expect("nobody else has the turn");
     thread::scope(|scope| {
         scope.spawn(|| {
             while !is_over.load(Relaxed) {
@@ -57,21 +58,21 @@ fn no_child_hangs() {
         });
         scope.spawn(|| {
             for number in (0..u64::MAX).take_while(|_| !is_over.load(Relaxed)) {
-                writer.put(number % 1000, &[number]).expect("room");
+                writing.put(number % 1000, &[number]).expect("room");
             }
         });
         let mut ended = 0;
         for _ in 0..CHILDREN {
-            let (mine, passes) = (&mut mine, &passes);
+            let (mine, others) = (&mut mine, &others);
             ended += usize::from(ends_well(move || {
                 drop(mine.take());
                 // SAFETY: the child never returns from here, so nobody uses these again.
-                passes.iter().for_each(|pass| drop(unsafe { std::ptr::read(pass) }));
+                others.iter().for_each(|handle| drop(unsafe { std::ptr::read(handle) }));
                 opens_and_drops()
             }));
         }
         is_over.store(true, Relaxed);
         assert_eq!(ended, CHILDREN);
     });
-    assert!(matches!(mine.expect("a reader").get(1), Reply::Found { .. }));
+    assert!(matches!(mine.expect("a handle").get(1), Reply::Found { .. }));
 }

@@ -1,10 +1,6 @@
-//! Without memory an opening and a list are errors, which keep nothing, and a desk that does not end loses no pass. Each allocation is refused
-//! in turn: the archive and the crate allocate by this program's own functions. A list allocates in its turn, so a batch of another pass is
-//! held meanwhile.
-use cefrodil::{
-    Cache, Desk, EndError, Entry, ListError, NoDesk, NotEnded, OpenError, Pass, Put, PutError, Reply, Shape, Shards, TurnError,
-    Why, Writer,
-};
+//! Without memory an opening and a list are errors, which keep nothing. Each allocation is refused in turn: the archive and the crate allocate
+//! by this program's own functions. A list allocates in its turn, so a batch of another handle is held meanwhile.
+use cefrodil::{Cache, Entry, Handle, ListError, OpenError, Put, PutError, Reply, Shape, TurnError, Why};
 use std::cell::{Cell, RefCell};
 use std::error::Error;
 use std::ffi::{c_int, c_void};
@@ -117,250 +113,196 @@ fn opens<T: Debug>(least: u32, mut open: impl FnMut() -> Result<T, OpenError>) -
     panic!("no opening after 500 allocations");
 }
 
-// For two readers or passes, the crate takes a list of handles, one of what they become, and one of counters. To count, it takes what they
-// share, two lists of lines, and three lines.
-const OF_CRATE: u32 = if cfg!(feature = "counts") { 9 } else { 3 };
+// For two handles, the crate takes a list of the archive's, one of its own, and one of counters. To count, it takes what they share, a list of
+// lines, and two lines.
+const OF_CRATE: u32 = if cfg!(feature = "counts") { 7 } else { 3 };
 
 #[test]
 fn an_opening_without_memory_is_an_error() -> Tested {
-    let shape = Shape::for_items(100)?;
-    let (mut writer, mut readers) = opens(OF_CRATE, || Cache::<2>::open(&shape, 2));
-    writer.put(7, &[70, 71])?;
-    assert_eq!(readers[1].get(7).value(), Some([70, 71]));
-    let mut passes = opens(OF_CRATE, || Desk::<2>::open(&shape, 2)).into_passes();
-    passes[1].try_put(7, &[70, 71])?;
-    assert_eq!(passes[0].get(7).value(), Some([70, 71]));
-    let mut passes = opens(OF_CRATE, || Shards::<2>::open(&shape, 4, 2));
-    passes[1].try_put(7, &[70, 71])?;
-    assert_eq!(passes[0].get(7).value(), Some([70, 71]));
+    let shape = Shape::for_items(100, 1)?;
+    for shards in [1, 4] {
+        let mut handles = opens(OF_CRATE, || Cache::<2>::open(&shape, shards, 2));
+        handles[1].try_put(7, &[70, 71])?;
+        assert_eq!(handles[0].get(7).value(), Some([70, 71]));
+    }
     Ok(())
 }
 
 // Its own lists are those of words, of statuses, and of what was left out.
 #[test]
 fn an_opening_with_entries_without_memory_is_an_error() -> Tested {
-    let small = Shape { items: 2, ..Shape::for_items(100)? };
-    let mut opened = opens(OF_CRATE + 3, || Cache::<1>::open_with(&small, 2, &[(7, [70]), (8, [80]), (9, [90])]));
+    let small = Shape { items: 2, ..Shape::for_items(100, 1)? };
+    let mut opened = opens(OF_CRATE + 3, || Cache::<1>::open_with(&small, 1, 2, &[(7, [70]), (8, [80]), (9, [90])]));
     assert_eq!(opened.left, [(2, Why::NoItem)]);
-    assert_eq!((opened.writer.len(), opened.readers[0].get(8).value()), (2, Some([80])));
-    let mut opened = opens(OF_CRATE + 3, || Shards::<1>::open_with(&small, 1, 2, &[(7, [70]), (8, [80]), (9, [90])]));
-    assert_eq!(opened.left, [(2, Why::NoItem)]);
-    assert_eq!((opened.passes[0].try_len()?, opened.passes[1].get(8).value()), (2, Some([80])));
+    assert_eq!((opened.handles[0].try_len()?, opened.handles[1].get(8).value()), (2, Some([80])));
     Ok(())
-}
-
-// The writer stays usable. Lines that were made are kept for the next handles.
-#[test]
-fn a_desk_for_a_writer_without_memory_is_an_error() -> Tested {
-    fn try_desk(writer: Writer<1>, allowed: u32) -> Result<Desk<1>, Writer<1>> {
-        with_allocations(allowed, || writer.into_desk(40)).map_err(|NoDesk { mut writer, why }| {
-            assert_eq!((why, writer.get(7).value()), (OpenError::NoMemory, Some([70])));
-            writer
-        })
-    }
-    let (mut writer, mut readers) = Cache::<1>::open(&Shape::for_items(100)?, 1)?;
-    writer.put(7, &[70])?;
-    for allowed in 0..500 {
-        match try_desk(writer, allowed) {
-            Err(refused) => writer = refused,
-            Ok(desk) => {
-                assert!(allowed > 3, "a desk after {allowed} allocations");
-                desk.pass().ok_or("no pass")?.try_put(8, &[80])?;
-                assert_eq!(readers[0].get(8).value(), Some([80]));
-                return Ok(());
-            }
-        }
-    }
-    Err("no desk after 500 allocations".into())
 }
 
 #[test]
 fn a_list_without_memory_is_an_error() -> Tested {
-    let (mut writer, _readers) = Cache::<2>::open(&Shape::for_items(100)?, 1)?;
-    writer.put(7, &[70, 71])?;
-    assert_eq!(lists(|| writer.entries(), &ListError::NoMemory), [(7, [70, 71])]);
-    assert_eq!(lists(|| writer.stamped_entries(), &ListError::NoMemory), [Entry { key: 7, value: [70, 71], since: 1 }]);
-    let held = TurnError::Call(ListError::NoMemory);
-    let desk = writer.into_desk(1)?;
-    let mut pass = desk.pass().ok_or("no pass")?;
-    assert_eq!(lists(|| pass.try_entries(), &held), [(7, [70, 71])]);
-    assert_eq!(lists(|| pass.try_stamped_entries(), &held), [Entry { key: 7, value: [70, 71], since: 1 }]);
-    let mut shards = Shards::<2>::open(&Shape::for_shards(100, 4)?, 4, 1)?;
-    shards[0].try_put(7, &[70, 71])?;
-    assert_eq!(lists(|| shards[0].try_entries(), &held), [(7, [70, 71])]);
+    for shards in [1, 4] {
+        let mut handles = Cache::<2>::open(&Shape::for_items(100, shards)?, shards, 1)?;
+        handles[0].try_put(7, &[70, 71])?;
+        assert_eq!(lists(|| handles[0].try_entries(), &TurnError::Call(ListError::NoMemory)), [(7, [70, 71])]);
+        let mut writing = handles[0].hold()?;
+        assert_eq!(lists(|| writing.entries(), &ListError::NoMemory), [(7, [70, 71])]);
+    }
+    Ok(())
+}
+
+#[test]
+#[ignore = "the library lists stamps of shards from the next version on"]
+fn a_list_with_stamps_without_memory_is_an_error() -> Tested {
+    let expected = [Entry { key: 7, value: [70, 71], since: 1 }];
+    for shards in [1, 4] {
+        let mut handles = Cache::<2>::open(&Shape::for_items(100, shards)?, shards, 2)?;
+        handles[0].try_put(7, &[70, 71])?;
+        assert_eq!(lists(|| handles[0].try_stamped_entries(), &TurnError::Call(ListError::NoMemory)), expected);
+        // None of those that failed holds.
+        assert_eq!(handles[1].try_len(), Ok(1));
+        let mut writing = handles[0].hold()?;
+        assert_eq!(lists(|| writing.stamped_entries(), &ListError::NoMemory), expected);
+    }
     Ok(())
 }
 
 thread_local! {
-    static BESIDE: RefCell<Option<Pass<'static, 1>>> = const { RefCell::new(None) };
+    static BESIDE: RefCell<Option<Handle<1>>> = const { RefCell::new(None) };
     static TOLD: Cell<Option<[PutInTurn; 40]>> = const { Cell::new(None) };
+}
+
+fn shape() -> Result<Shape, OpenError> {
+    Ok(Shape { items: 100, ..Shape::for_items(100, 1)? })
 }
 
 type PutInTurn = Result<Put, TurnError<PutError>>;
 
-// Forty keys are two groups of sixteen and a third of eight.
-fn put_batch(pass: &mut Pass<1>) -> [PutInTurn; 40] {
+// More keys than one call of the archive takes.
+fn put_batch(handle: &mut Handle<1>) -> [PutInTurn; 40] {
     let entries: [(u64, [u64; 1]); 40] = std::array::from_fn(|n| (100 + n as u64, [n as u64]));
     let mut told = [Ok(Put::Renewed { at: 0 }); 40];
-    pass.try_put_many(&entries, &mut told);
+    handle.try_put_many(&entries, &mut told);
     told
 }
 
-// The batch, once another pass has the turn.
+// The batch, once another handle has the turn.
 fn put_beside() -> bool {
-    BESIDE.with_borrow_mut(|pass| {
-        let Some(pass) = pass else { return false };
-        let is_held = pass.try_len() == Err(TurnError::Held);
+    BESIDE.with_borrow_mut(|handle| {
+        let Some(handle) = handle else { return false };
+        let is_held = handle.try_len() == Err(TurnError::Held);
         if is_held {
-            TOLD.set(Some(put_batch(pass)));
+            TOLD.set(Some(put_batch(handle)));
         }
         is_held
     })
 }
 
-// While a list has the turn, each group of a batch is held, and nothing is changed.
+// While a list has the turn, each put of a batch is held, and nothing is changed.
 #[test]
 fn a_batch_beside_a_list_is_held() -> Tested {
-    let mut passes = Desk::<1>::open(&Shape::for_items(100)?, 2)?.into_passes();
-    BESIDE.set(passes.pop());
-    passes[0].try_put(7, &[70])?;
+    let mut handles = Cache::<1>::open(&shape()?, 1, 2)?;
+    BESIDE.set(handles.pop());
+    handles[0].try_put(7, &[70])?;
     IN_TURN.set(Some(put_beside));
-    assert_eq!(passes[0].try_entries()?, [(7, [70])]);
-    assert_eq!((TOLD.get(), passes[0].try_len()?), (Some([Err(TurnError::Held); 40]), 1));
-    let told = BESIDE.take().map(|mut pass| put_batch(&mut pass)).ok_or("no pass")?;
+    assert_eq!(handles[0].try_entries()?, [(7, [70])]);
+    assert_eq!((TOLD.get(), handles[0].try_len()?), (Some([Err(TurnError::Held); 40]), 1));
+    let told = BESIDE.take().map(|mut handle| put_batch(&mut handle)).ok_or("no handle")?;
     assert_eq!(told.map(|put| put.map(Put::at)), std::array::from_fn(|n| Ok(2 + n as u64)));
-    assert_eq!(passes[0].get(139).value(), Some([39]));
+    assert_eq!(handles[0].get(139).value(), Some([39]));
     Ok(())
 }
 
 // Each call that tries for the turn is held, and each but a batch's is counted once. Lookups need no turn.
 fn call_beside() -> bool {
-    BESIDE.with_borrow_mut(|pass| {
-        let Some(pass) = pass else { return false };
-        let is_held = pass.try_len() == Err(TurnError::Held);
+    BESIDE.with_borrow_mut(|handle| {
+        let Some(handle) = handle else { return false };
+        let is_held = handle.try_len() == Err(TurnError::Held);
         if is_held {
-            each_call_is_held(pass);
+            each_call_is_held(handle);
         }
         is_held
     })
 }
 
-fn each_call_is_held(pass: &mut Pass<1>) {
-    let meter = pass.meter();
-    type Call = fn(&mut Pass<1>) -> bool;
-    let calls: [Call; 14] = [
-        |pass| pass.try_put(7, &[71]) == Err(TurnError::Held),
-        |pass| pass.put_within(3, 7, &[71]) == Err(TurnError::Held),
-        |pass| pass.try_put_if(7, 1, &[71]) == Err(TurnError::Held),
-        |pass| pass.try_put_if_absent(8, &[80]) == Err(TurnError::Held),
-        |pass| pass.try_remove(7) == Err(TurnError::Held),
-        |pass| pass.try_swap(7, &[71]) == Err(TurnError::Held),
-        |pass| pass.try_swap_if(7, 1, &[71]) == Err(TurnError::Held),
-        |pass| pass.try_take(7) == Err(TurnError::Held),
-        |pass| pass.try_take_if(7, 1) == Err(TurnError::Held),
-        |pass| pass.try_peek(7).is_none(),
-        |pass| pass.try_len() == Err(TurnError::Held),
-        |pass| pass.try_entries() == Err(TurnError::Held),
-        |pass| pass.try_stamped_entries() == Err(TurnError::Held),
-        |pass| {
+fn each_call_is_held(handle: &mut Handle<1>) {
+    let meter = handle.meter();
+    type Call = fn(&mut Handle<1>) -> bool;
+    let calls: [Call; 16] = [
+        |handle| handle.try_put(7, &[71]) == Err(TurnError::Held),
+        |handle| handle.put_within(3, 7, &[71]) == Err(TurnError::Held),
+        |handle| handle.try_put_if(7, 1, &[71]) == Err(TurnError::Held),
+        |handle| handle.try_put_if_absent(8, &[80]) == Err(TurnError::Held),
+        |handle| handle.try_remove(7) == Err(TurnError::Held),
+        |handle| handle.try_swap(7, &[71]) == Err(TurnError::Held),
+        |handle| handle.try_swap_if(7, 1, &[71]) == Err(TurnError::Held),
+        |handle| handle.try_take(7) == Err(TurnError::Held),
+        |handle| handle.try_take_if(7, 1) == Err(TurnError::Held),
+        |handle| handle.try_peek(7).is_none(),
+        |handle| handle.try_len() == Err(TurnError::Held),
+        |handle| handle.try_entries() == Err(TurnError::Held),
+        |handle| handle.try_stamped_entries() == Err(TurnError::Held),
+        |handle| handle.try_moment().is_err(),
+        |handle| handle.hold().is_err(),
+        |handle| {
             let mut told = [Ok(Put::Renewed { at: 0 })];
-            pass.try_put_many(&[(7, [71])], &mut told);
+            handle.try_put_many(&[(7, [71])], &mut told);
             told == [Err(TurnError::Held)]
         },
     ];
     for (number, call) in calls.into_iter().enumerate() {
         let before = meter.counts().held;
-        assert!(call(pass), "call {number}");
+        assert!(call(handle), "call {number}");
         assert_eq!(meter.counts().held, before + u64::from(cfg!(feature = "counts")), "call {number}");
     }
     let found = Reply::Found { value: [70], at: 1, since: 1 };
-    assert_eq!((pass.get(7), pass.get_or_desk(7), pass.get(8), pass.capacity()), (found, found, Reply::Absent { at: 1 }, 100));
+    assert_eq!(
+        (handle.get(7), handle.get_or_turn(7), handle.get(8), handle.capacity()),
+        (found, found, Reply::Absent { at: 1 }, 100)
+    );
 }
 
 #[test]
 fn each_call_beside_a_list_is_held() -> Tested {
-    let mut passes = Desk::<1>::open(&Shape::for_items(100)?, 2)?.into_passes();
-    BESIDE.set(passes.pop());
-    passes[0].try_put(7, &[70])?;
+    let mut handles = Cache::<1>::open(&shape()?, 1, 2)?;
+    BESIDE.set(handles.pop());
+    handles[0].try_put(7, &[70])?;
     IN_TURN.set(Some(call_beside));
-    assert_eq!(passes[0].try_entries()?, [(7, [70])]);
+    assert_eq!(handles[0].try_entries()?, [(7, [70])]);
     assert!(IN_TURN.take().is_none(), "the list took no memory in its turn");
-    assert_eq!((passes[0].get(7), passes[0].try_len()?), (Reply::Found { value: [70], at: 1, since: 1 }, 1));
+    assert_eq!((handles[0].get(7), handles[0].try_len()?), (Reply::Found { value: [70], at: 1, since: 1 }, 1));
     drop(BESIDE.take());
     Ok(())
 }
 
-// A list takes memory for its words before it has the turn. Another pass may put entries meanwhile.
+// A list takes memory for its words before it has the turn. Another handle may put entries meanwhile.
 #[test]
 fn a_list_has_room_for_what_is_put_before_its_turn() -> Tested {
     fn put_before() -> bool {
-        BESIDE.with_borrow_mut(|pass| pass.as_mut().is_some_and(|pass| pass.try_put(8, &[80]).is_ok()))
+        BESIDE.with_borrow_mut(|handle| handle.as_mut().is_some_and(|handle| handle.try_put(8, &[80]).is_ok()))
     }
-    for is_stamped in [false, true] {
-        let mut passes = Desk::<1>::open(&Shape::for_items(100)?, 2)?.into_passes();
-        BESIDE.set(passes.pop());
-        passes[0].try_put(7, &[70])?;
-        IN_TURN.set(Some(put_before));
-        let listed = if is_stamped { passes[0].try_stamped_entries()?.len() } else { passes[0].try_entries()?.len() };
-        assert_eq!((listed, IN_TURN.take().is_none()), (2, true));
-        drop(BESIDE.take());
-    }
+    let mut handles = Cache::<1>::open(&shape()?, 1, 2)?;
+    BESIDE.set(handles.pop());
+    handles[0].try_put(7, &[70])?;
+    IN_TURN.set(Some(put_before));
+    assert_eq!((handles[0].try_entries()?.len(), IN_TURN.take().is_none()), (2, true));
+    drop(BESIDE.take());
     Ok(())
 }
 
 #[test]
-fn to_lend_and_to_close_takes_no_memory() -> Tested {
+fn to_hold_and_to_close_takes_no_memory() -> Tested {
     let before = KEPT.get();
-    let (writer, readers) = Cache::<1>::open(&Shape::for_items(100)?, 1)?;
-    let desk = writer.into_desk(64)?;
-    with_allocations(0, || {
-        let meter = desk.meter();
-        drop(desk.pass());
-        let passes = desk.into_passes();
-        assert_eq!((passes.len(), meter.counts().hits), (64, 0));
-        drop((passes, readers));
-    });
-    let passes = Shards::<1>::open(&Shape::for_shards(100, 4)?, 4, 5)?;
-    with_allocations(0, || drop(passes));
+    for shards in [1, 4] {
+        let mut handles = Cache::<1>::open(&shape()?, shards, 64)?;
+        let told = with_allocations(0, || {
+            let meter = handles[0].meter();
+            let moment = handles[0].hold().map(|mut writing| writing.moment());
+            let writing = handles.pop().map(Handle::into_writing).is_some_and(|held| held.is_ok());
+            drop(handles);
+            (moment, writing, meter.counts().hits)
+        });
+        assert_eq!(told, (Ok(0), true, 0));
+    }
     assert_eq!(KEPT.get(), before);
-    Ok(())
-}
-
-#[test]
-fn a_desk_that_is_made_again_and_again_takes_no_more_memory() -> Tested {
-    let (mut writer, _readers) = Cache::<1>::open(&Shape::for_items(100)?, 1)?;
-    let mut kept = Vec::with_capacity(20);
-    for _ in 0..20 {
-        writer = writer.into_desk(3)?.end()?.0;
-        kept.push(KEPT.get());
-    }
-    assert!(kept.iter().all(|blocks| *blocks == kept[0]), "{kept:?}");
-    Ok(())
-}
-
-#[test]
-fn a_desk_that_does_not_end_loses_no_pass() -> Tested {
-    let mut most_readers = 0;
-    for allowed in 0..20 {
-        let desk = Desk::<1>::open(&Shape::for_items(100)?, 3)?;
-        desk.pass().ok_or("no pass")?.try_put(7, &[70])?;
-        let (mut writer, readers) = match with_allocations(allowed, || desk.end()) {
-            Ok(ended) => ended,
-            Err(NotEnded { desk, mut readers, why }) => {
-                assert_eq!(why, EndError::NoMemory);
-                most_readers = most_readers.max(readers.len());
-                let (writer, others) = desk.end()?;
-                readers.extend(others);
-                (writer, readers)
-            }
-        };
-        writer.put(8, &[80])?;
-        assert_eq!(readers.len(), 3);
-        for mut reader in readers {
-            assert_eq!((reader.get(7).value(), reader.get(8).value()), (Some([70]), Some([80])));
-        }
-    }
-    // The last pass was refused memory once, after the others had left.
-    assert_eq!(most_readers, 2);
     Ok(())
 }

@@ -1,6 +1,6 @@
 //! A program keeps objects behind the cache: the value of a key is the number of its object. Each object that it makes is in the cache, or was
 //! returned to be dropped, and none twice.
-use cefrodil::{Cache, Desk, Entry, PutIfError, Reply, Shape, Shards, Take, TurnError};
+use cefrodil::{Cache, Entry, PutIfError, Reply, Shape, Take, TurnError};
 
 const OBJECTS: u64 = 1_000;
 const KEYS: u64 = 300;
@@ -14,7 +14,7 @@ fn each_once(mut returned: Vec<u64>) {
     assert_eq!(returned, (0..OBJECTS).collect::<Vec<_>>());
 }
 
-// Keeps the objects by the two calls of a writer or a pass. Gives those that were returned.
+// Keeps the objects by the two calls of a handle, or of one that holds. Gives those that were returned.
 macro_rules! keep {
     ($keeper:expr, $swap:ident, $take:ident) => {{
         let mut returned = Vec::new();
@@ -33,35 +33,33 @@ macro_rules! keep {
 
 #[test]
 fn no_object_is_lost() {
-    let shape = Shape::for_items(100).unwrap();
-    let (mut writer, _readers) = Cache::<1>::open(&shape, 1).unwrap();
-    each_once(keep!(writer, swap, take));
-    let desk = Desk::<1>::open(&shape, 1).unwrap();
-    let mut pass = desk.pass().unwrap();
-    each_once(keep!(pass, try_swap, try_take));
-    let mut passes = Shards::<1>::open(&Shape::for_shards(100, 4).unwrap(), 4, 1).unwrap();
-    each_once(keep!(passes[0], try_swap, try_take));
+    for shards in [1, 4] {
+        let mut handles = Cache::<1>::open(&Shape::for_items(100, shards).unwrap(), shards, 1).unwrap();
+        each_once(keep!(handles[0], try_swap, try_take));
+        each_once(keep!(handles[0].hold().unwrap(), swap, take));
+    }
 }
 
 #[test]
 fn an_object_takes_the_place_of_the_one_that_was_seen() {
-    let shape = Shape::for_items(100).unwrap();
-    let (mut writer, _readers) = Cache::<1>::open(&shape, 1).unwrap();
-    writer.put(7, &[70]).unwrap();
-    assert_eq!(writer.swap_if(7, 2, &[71]), Err(PutIfError::Changed { since: 1 }));
-    let replaced = writer.swap_if(7, 1, &[71]).unwrap();
+    let shape = Shape::for_items(100, 1).unwrap();
+    let mut handles = Cache::<1>::open(&shape, 1, 1).unwrap();
+    let mut writing = handles[0].hold().unwrap();
+    writing.put(7, &[70]).unwrap();
+    assert_eq!(writing.swap_if(7, 2, &[71]), Err(PutIfError::Changed { since: 1 }));
+    let replaced = writing.swap_if(7, 1, &[71]).unwrap();
     assert_eq!((replaced.at, replaced.old), (2, Entry { key: 7, value: [70], since: 1 }));
-    assert_eq!(writer.take_if(7, 1), Err(PutIfError::Changed { since: 2 }));
-    assert_eq!(writer.take(7), Ok(Take::Taken { at: 3, old: Entry { key: 7, value: [71], since: 2 } }));
-    assert_eq!(writer.take(7), Ok(Take::NotThere { at: 3 }));
-    assert_eq!(writer.take_if(7, 2), Err(PutIfError::NotThere { at: 3 }));
-    let desk = Desk::<1>::open(&shape, 1).unwrap();
-    let mut pass = desk.pass().unwrap();
-    pass.try_put(7, &[70]).unwrap();
-    assert_eq!(pass.try_swap_if(7, 2, &[71]), Err(TurnError::Call(PutIfError::Changed { since: 1 })));
-    assert_eq!(pass.try_swap_if(7, 1, &[71]).unwrap().old, Entry { key: 7, value: [70], since: 1 });
-    assert_eq!(pass.try_take_if(7, 1), Err(TurnError::Call(PutIfError::Changed { since: 2 })));
-    let taken = pass.try_take_if(7, 2).unwrap();
+    assert_eq!(writing.take_if(7, 1), Err(PutIfError::Changed { since: 2 }));
+    assert_eq!(writing.take(7), Ok(Take::Taken { at: 3, old: Entry { key: 7, value: [71], since: 2 } }));
+    assert_eq!(writing.take(7), Ok(Take::NotThere { at: 3 }));
+    assert_eq!(writing.take_if(7, 2), Err(PutIfError::NotThere { at: 3 }));
+    let mut handles = Cache::<1>::open(&shape, 1, 1).unwrap();
+    let handle = &mut handles[0];
+    handle.try_put(7, &[70]).unwrap();
+    assert_eq!(handle.try_swap_if(7, 2, &[71]), Err(TurnError::Call(PutIfError::Changed { since: 1 })));
+    assert_eq!(handle.try_swap_if(7, 1, &[71]).unwrap().old, Entry { key: 7, value: [70], since: 1 });
+    assert_eq!(handle.try_take_if(7, 1), Err(TurnError::Call(PutIfError::Changed { since: 2 })));
+    let taken = handle.try_take_if(7, 2).unwrap();
     assert_eq!((taken.at, taken.old), (3, Entry { key: 7, value: [71], since: 2 }));
-    assert_eq!(pass.get(7), Reply::Absent { at: 3 });
+    assert_eq!(handle.get(7), Reply::Absent { at: 3 });
 }

@@ -1,8 +1,5 @@
 //! Each status that is an error in Rust has the text of the archive. If one has another, the table says so.
-use cefrodil::{
-    Cache, Desk, EndError, ListError, NoDesk, NotEnded, OpenError, PutError, PutIfAbsentError, PutIfError, Shape, Spent,
-    TurnError, Why,
-};
+use cefrodil::{Held, ListError, OpenError, PutError, PutIfAbsentError, PutIfError, Spent, TurnError, Why};
 use std::ffi::{c_char, CStr};
 
 extern "C" {
@@ -20,8 +17,8 @@ fn errors_of(status: u32) -> Vec<String> {
         3 => vec![PutError::NoPath.to_string(), Why::NoPath.to_string(), PutIfAbsentError::Put(PutError::NoPath).to_string()],
         4 => vec![PutError::AllRecent.to_string()],
         5 => vec![PutError::Spent.to_string(), PutIfError::Spent.to_string(), Spent.to_string(), Why::Spent.to_string()],
-        7 => vec![TurnError::<Spent>::Held.to_string()],
-        12 => vec![OpenError::NoMemory.to_string(), ListError::NoMemory.to_string(), EndError::NoMemory.to_string()],
+        7 => vec![TurnError::<Spent>::Held.to_string(), Held.to_string(), TurnError::<Spent>::from(Held).to_string()],
+        12 => vec![OpenError::NoMemory.to_string(), ListError::NoMemory.to_string()],
         15 => vec![OpenError::Buckets.to_string(), TurnError::Call(OpenError::Buckets).to_string()],
         16 => vec![OpenError::Items.to_string()],
         17 => vec![OpenError::Stripes.to_string()],
@@ -51,38 +48,16 @@ fn errors_that_say_more_have_texts_of_their_own() {
     for (status, text, error) in [
         (1, "absent", PutIfError::NotThere { at: 7 }.to_string()),
         (6, "changed", PutIfError::Changed { since: 7 }.to_string()),
-        (9, "a handle of this kind has no such call", ListError::OfShards.to_string()),
-        (21, "readers or passes must be from 1 to 1024, and no more than there are to spare", OpenError::Readers.to_string()),
+        (21, "readers or passes must be from 1 to 1024, and no more than there are to spare", OpenError::Handles.to_string()),
         (25, "present", PutIfAbsentError::Present { since: 7 }.to_string()),
-        (26, "other passes are at the desk", EndError::NoWriter.to_string()),
     ] {
         assert_eq!(text_of_archive(status), text);
         assert_ne!(error, text);
     }
     assert_eq!(PutIfError::NotThere { at: 7 }.to_string(), "not there at 7");
     assert_eq!(PutIfError::Changed { since: 7 }.to_string(), "changed since 7");
-    assert_eq!(ListError::OfShards.to_string(), "a pass of shards has no such call");
-    assert_eq!(OpenError::Readers.to_string(), "readers must be from 1 to 1024");
+    assert_eq!(OpenError::Handles.to_string(), "handles must be from 1 to 1024");
     assert_eq!(PutIfAbsentError::Present { since: 7 }.to_string(), "present since 7");
     let version = OpenError::Version { archive: 12_345, crate_version: 120_007 };
     assert_eq!(version.to_string(), "libcefrodil.a has version 1.23.45, and the crate 12.0.7");
-    assert_eq!(EndError::NoWriter.to_string(), "no pass got the writer, since one was forgotten");
-}
-
-#[test]
-fn a_desk_that_is_not_made_or_does_not_end_says_why() {
-    let shape = Shape::for_items(10).expect("a shape");
-    for (why, text) in [
-        (OpenError::Readers, "there must be passes, and no more than the cache has readers to spare"),
-        (OpenError::NoMemory, "no memory"),
-    ] {
-        let (writer, _readers) = Cache::<1>::open(&shape, 1).expect("a cache");
-        assert_eq!(NoDesk { writer, why }.to_string(), text);
-    }
-    for (why, text) in
-        [(EndError::NoMemory, "no memory"), (EndError::NoWriter, "no pass got the writer, since one was forgotten")]
-    {
-        let desk = Desk::<1>::open(&shape, 1).expect("a desk");
-        assert_eq!(NotEnded { desk, readers: Vec::new(), why }.to_string(), text);
-    }
 }

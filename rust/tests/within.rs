@@ -1,5 +1,5 @@
 //! A call is made again only while it is held, and at most as often as it may be. So is a put with many tries.
-use cefrodil::{Desk, Shape, Shards, Spent, Take, TurnError};
+use cefrodil::{Cache, Shape, Spent, Take, TurnError};
 use std::cell::Cell;
 use std::sync::atomic::{AtomicBool, Ordering::SeqCst};
 use std::thread;
@@ -7,15 +7,14 @@ use std::time::{Duration, Instant};
 
 /// Makes a call that is held this often, and takes key 1 then: what came of it, and how often it was made.
 fn tried(tries: u32, held: u32) -> (Result<Take<1>, TurnError<Spent>>, u32) {
-    let desk = Desk::<1>::open(&Shape::for_items(10).unwrap(), 1).unwrap();
-    let mut pass = desk.pass().unwrap();
+    let mut handles = Cache::<1>::open(&Shape::for_items(10, 1).unwrap(), 1, 1).unwrap();
     let calls = Cell::new(0);
-    let told = pass.within(tries, |pass| {
+    let told = handles[0].within(tries, |handle| {
         calls.set(calls.get() + 1);
         if calls.get() <= held {
             return Err(TurnError::Held);
         }
-        pass.try_take(1)
+        handle.try_take(1)
     });
     (told, calls.get())
 }
@@ -33,11 +32,11 @@ fn a_call_is_made_again_while_it_is_held() {
 
 #[test]
 fn a_refusal_is_returned_at_once() {
-    let mut passes = Shards::<1>::open(&Shape { limit: 0, ..Shape::for_shards(10, 1).unwrap() }, 1, 1).unwrap();
+    let mut handles = Cache::<1>::open(&Shape { limit: 0, ..Shape::for_items(10, 1).unwrap() }, 1, 1).unwrap();
     let mut calls = 0;
-    let told = passes[0].within(5, |pass| {
+    let told = handles[0].within(5, |handle| {
         calls += 1;
-        pass.try_remove(1)
+        handle.try_remove(1)
     });
     assert_eq!((told, calls), (Err(TurnError::Call(Spent)), 1));
 }
@@ -47,8 +46,8 @@ fn a_refusal_is_returned_at_once() {
 fn a_put_with_many_tries_gets_the_turn_that_one_try_was_refused() {
     const KEYS: u64 = 10_000;
     const LONG: Duration = Duration::from_secs(60);
-    let mut passes = Desk::<1>::open(&Shape::for_items(KEYS as u32).unwrap(), 2).unwrap().into_passes();
-    let (mut lists, mut puts) = (passes.remove(0), passes.remove(0));
+    let mut handles = Cache::<1>::open(&Shape::for_items(KEYS as u32, 1).unwrap(), 1, 2).unwrap();
+    let (mut lists, mut puts) = (handles.remove(0), handles.remove(0));
     (0..KEYS).for_each(|key| assert!(puts.try_put(key, &[key]).is_ok()));
     let (end, begin, mut refused, mut lost) = (AtomicBool::new(false), Instant::now(), 0, 0);
     thread::scope(|threads| {

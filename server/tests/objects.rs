@@ -134,6 +134,6 @@ fn the_more_items_the_more_shards() {
     ];
     for (items, shards) in table {
         assert_eq!(shards_for(items), shards, "{items}");
-        assert!(cefrodil::Shape::for_shards(items as u32, shards.unwrap_or(16)).is_ok(), "{items}");
+        assert!(cefrodil::Shape::for_items(items as u32, shards.unwrap_or(16)).is_ok(), "{items}");
     }
 }

@@ -9,7 +9,7 @@ use crate::flight::Flights;
 use crate::settings::Settings;
 use crate::slots::Slots;
 use crate::wait::TRIES;
-use cefrodil::{Shape, Shards};
+use cefrodil::{Cache, Shape};
 use std::collections::hash_map::RandomState;
 use std::fmt::{self, Debug, Formatter};
 use std::hash::{BuildHasher, Hash};
@@ -146,12 +146,12 @@ impl<O: Held, S> ObjectInner<O, S> {
         listener: Option<Listener<O>>,
         freed: Option<Freed<O>>,
     ) -> Result<ObjectInner<O, S>, OpenError> {
-        let count = settings.passes();
-        let mut passes = Shards::open(shape, shards, count).map_err(OpenError::of)?;
+        let count = settings.handles();
+        let mut handles = Cache::open(shape, shards, count).map_err(OpenError::of)?;
         let Settings { hasher, life, threads, .. } = settings;
         Ok(ObjectInner {
-            capacity: passes[0].capacity(),
-            slots: Arc::new(Slots::new(passes)),
+            capacity: handles[0].capacity(),
+            slots: Arc::new(Slots::new(handles)),
             epochs: Epochs::new(threads),
             flights: Flights::new(),
             stripes: (0..STRIPES).map(|_| Stripe::default()).collect(),

@@ -46,7 +46,7 @@ impl<H: Head, S> BytesBuilder<H, S> {
         self
     }
 
-    /// How many threads have a pass of their own.
+    /// How many threads have a handle of their own.
     pub fn threads(mut self, threads: usize) -> Self {
         self.settings.threads = threads;
         self
@@ -125,7 +125,7 @@ impl<H: Head, S> BytesMap<H, S> {
     /// tries once for the turn of the hash's shard, as a write does, and is busy if that did not win.
     pub fn peek_hash<R>(&self, hash: u64, look: impl FnOnce(Result<Look<&Bytes<H>>, GetError>) -> R) -> R {
         let pinned = self.inner.pin();
-        let reply = self.inner.slots.call(|pass| pass.try_peek(hash)).unwrap_or(Reply::Busy);
+        let reply = self.inner.slots.call(|handle| handle.try_peek(hash)).unwrap_or(Reply::Busy);
         look(pinned.state_or_look(hash, &Any, reply, 1).map(|state| state.object()).ok_or(GetError::Busy))
     }
 

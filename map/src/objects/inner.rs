@@ -8,7 +8,7 @@ use crate::print::Print;
 use crate::slots::Slots;
 use crate::stats::Kind;
 use crate::wait::{LISTS, LOOKS};
-use cefrodil::Pass;
+use cefrodil::Handle;
 use std::hash::{BuildHasher, Hash};
 use std::marker::PhantomData;
 use std::mem;
@@ -17,7 +17,7 @@ use std::sync::{Arc, Mutex};
 use std::time::Duration;
 
 pub(crate) struct ObjectInner<O: Held, S> {
-    pub slots: Arc<Slots<Pass<'static, 1>>>,
+    pub slots: Arc<Slots<Handle<1>>>,
     pub epochs: Epochs,
     pub flights: Flights<()>,
     /// A call locks its key's stripe if it puts the key whatever is there, or only where it is absent. So does a call that moves or keeps a
@@ -130,7 +130,7 @@ impl<O: Held, S> Drop for ObjectInner<O, S> {
         if !self.slots.are_of_this_process() {
             return;
         }
-        let listed = self.slots.in_turn(LISTS, || self.slots.call(Pass::try_entries));
+        let listed = self.slots.in_turn(LISTS, || self.slots.call(Handle::try_entries));
         for (_, [word]) in listed.into_iter().flatten() {
             self.free(self.epochs.retire(word));
         }

@@ -4,7 +4,7 @@ use super::map::ObjectMap;
 use super::object::{Held, Keyed};
 use super::pinned::State;
 use crate::error::GetError;
-use crate::pass::MANY;
+use crate::handle::MANY;
 use crate::stats::Kind;
 use cefrodil::{Reply, TurnError};
 use std::borrow::Borrow;
@@ -196,7 +196,7 @@ impl<O: Held, S: BuildHasher> ObjectInner<O, S> {
             let mut hashes = [0; MANY];
             hashes.iter_mut().zip(keys).for_each(|(hash, key)| *hash = self.hash(*key));
             let mut replies = [Reply::Busy; MANY];
-            self.slots.call(|pass| pass.get_many(&hashes[..keys.len()], &mut replies[..keys.len()]));
+            self.slots.call(|handle| handle.get_many(&hashes[..keys.len()], &mut replies[..keys.len()]));
             for (index, ((key, hash), reply)) in keys.iter().zip(hashes).zip(replies).enumerate() {
                 let state = pinned.state_or_look(hash, *key, reply, self.looks());
                 look(chunk * MANY + index, self.count(state).map(State::object).ok_or(GetError::Busy));
@@ -214,7 +214,7 @@ impl<O: Held, S: BuildHasher> ObjectInner<O, S> {
         for _ in 0..self.tries {
             let Some(State::Live(seen)) = pinned.look(hash, key, self.looks()) else { return false };
             let touched = self.slots.in_turn(self.tries, || {
-                self.in_stripe(hash, |pass| match pass.get_or_desk(hash) {
+                self.in_stripe(hash, |handle| match handle.get_or_turn(hash) {
                     Reply::Found { since, .. } if since == seen.since => {
                         seen.object.set_deadline(self.clock.deadline(life));
                         Ok(true)

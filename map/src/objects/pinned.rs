@@ -80,7 +80,7 @@ impl<O: Held, S> Pinned<'_, O, S> {
     where
         O: Keyed<Q>,
     {
-        self.state_or_look(hash, key, self.inner.slots.call(|pass| pass.get(hash)), tries)
+        self.state_or_look(hash, key, self.inner.slots.call(|handle| handle.get_or_turn(hash)), tries)
     }
 
     /// Looks the key up under its hash in a turn, which is no use of it. `None`: no try won.
@@ -88,7 +88,7 @@ impl<O: Held, S> Pinned<'_, O, S> {
     where
         O: Keyed<Q>,
     {
-        self.state(self.inner.slots.within(tries, || self.inner.slots.call(|pass| pass.try_peek(hash)))?, key)
+        self.state(self.inner.slots.within(tries, || self.inner.slots.call(|handle| handle.try_peek(hash)))?, key)
     }
 
     /// What the reply of a first try says; if it is busy, the key is looked up again. This must have been pinned before that try.
@@ -125,7 +125,7 @@ impl<O: Held, S> Pinned<'_, O, S> {
     where
         O: Keyed<Q>,
     {
-        let reply = self.inner.slots.within(tries, || match self.inner.slots.call(|pass| pass.get_or_desk(hash)) {
+        let reply = self.inner.slots.within(tries, || match self.inner.slots.call(|handle| handle.get_or_turn(hash)) {
             Reply::Busy => None,
             reply => Some(reply),
         });

@@ -7,7 +7,7 @@ use super::object::{Held, Keyed, Object};
 use super::pinned::{Over, Pinned, Seen};
 use crate::error::InsertError;
 use crate::map::Inserted;
-use cefrodil::{Pass, PutError, PutIfError, Replaced, Reply, Swapped, TurnError};
+use cefrodil::{Handle, PutError, PutIfError, Replaced, Reply, Swapped, TurnError};
 use std::hash::{BuildHasher, Hash};
 use std::sync::TryLockError;
 use std::time::Duration;
@@ -190,9 +190,9 @@ impl<O: Held, S> ObjectInner<O, S> {
     pub fn put_over_seen(&self, pinned: &Pinned<O, S>, hash: u64, object: O::Owner, seen: Seen<O>) -> Offered<O> {
         self.offer(object, |word| {
             let put = self.slots.in_turn(self.tries, || {
-                self.in_stripe(hash, |pass| {
+                self.in_stripe(hash, |handle| {
                     pinned.object(word).set_deadline(seen.object.deadline());
-                    pass.try_swap_if(hash, seen.since, &[word])
+                    handle.try_swap_if(hash, seen.since, &[word])
                 })
             });
             self.replaced(put)
@@ -210,24 +210,24 @@ impl<O: Held, S> ObjectInner<O, S> {
     }
 
     fn put_any(&self, hash: u64, word: u64, tries: u32) -> Result<Done, Fail> {
-        let put = self.slots.in_turn(tries, || self.in_stripe(hash, |pass| pass.try_swap(hash, &[word]).map_err(failed)));
+        let put = self.slots.in_turn(tries, || self.in_stripe(hash, |handle| handle.try_swap(hash, &[word]).map_err(failed)));
         put.map(|swapped| self.swapped(swapped)).map_err(Fail::of)
     }
 
     // The lock keeps other threads from putting the key between the two calls.
     fn put_absent(&self, hash: u64, word: u64, tries: u32) -> Result<Done, Fail> {
         let put = self.slots.in_turn(tries, || {
-            self.in_stripe(hash, |pass| match pass.get_or_desk(hash) {
+            self.in_stripe(hash, |handle| match handle.get_or_turn(hash) {
                 Reply::Found { .. } => Err(TurnError::Call(Fail::Present)),
                 Reply::Busy => Err(TurnError::Held),
-                Reply::Absent { .. } => pass.try_swap(hash, &[word]).map_err(failed),
+                Reply::Absent { .. } => handle.try_swap(hash, &[word]).map_err(failed),
             })
         });
         put.map(|swapped| self.swapped(swapped)).map_err(Fail::of)
     }
 
     fn put_at(&self, hash: u64, word: u64, since: u64, tries: u32) -> Result<Done, Fail> {
-        self.replaced(self.slots.in_turn(tries, || self.slots.call(|pass| pass.try_swap_if(hash, since, &[word]))))
+        self.replaced(self.slots.in_turn(tries, || self.slots.call(|handle| handle.try_swap_if(hash, since, &[word]))))
     }
 
     fn replaced(&self, put: Result<Replaced<1>, TurnError<PutIfError>>) -> Result<Done, Fail> {
@@ -247,7 +247,7 @@ impl<O: Held, S> ObjectInner<O, S> {
     pub fn in_stripe<T, E>(
         &self,
         hash: u64,
-        call: impl FnOnce(&mut Pass<'static, 1>) -> Result<T, TurnError<E>>,
+        call: impl FnOnce(&mut Handle<1>) -> Result<T, TurnError<E>>,
     ) -> Result<T, TurnError<E>> {
         let stripe = &self.stripes[hash as usize % self.stripes.len()];
         let _locked = match stripe.0.try_lock() {

@@ -4,7 +4,7 @@ use super::map::ObjectMap;
 use crate::error::ClearError;
 use crate::stats::Kind;
 use crate::wait::LISTS;
-use cefrodil::{Pass, PutIfError, Reply, Take, TurnError};
+use cefrodil::{Handle, PutIfError, Reply, Take, TurnError};
 
 impl<K, V, S> ObjectMap<K, V, S> {
     /// Removes all entries. Once this has returned, no later lookup finds a value that was put before this call, nor one that
@@ -61,7 +61,7 @@ impl<K, V, S> ObjectMap<K, V, S> {
         let inner = &self.inner;
         inner.flights.detach_all();
         for (hash, _) in self.list()? {
-            let taken = inner.slots.in_turn(inner.tries, || inner.slots.call(|pass| pass.try_take(hash)));
+            let taken = inner.slots.in_turn(inner.tries, || inner.slots.call(|handle| handle.try_take(hash)));
             if let Take::Taken { old, .. } = taken.map_err(ClearError::of_removal)? {
                 inner.slots.count(Kind::Removed);
                 inner.left(old.value[0], Reason::Removed);
@@ -79,7 +79,7 @@ impl<K, V, S> ObjectMap<K, V, S> {
                 continue;
             }
             // The list has no moments, so the entry is looked up, and looked at again.
-            let Reply::Found { value: [word], since, .. } = inner.slots.call(|pass| pass.get(hash)) else { continue };
+            let Reply::Found { value: [word], since, .. } = inner.slots.call(|handle| handle.get(hash)) else { continue };
             if !pinned.has_expired(word) {
                 continue;
             }
@@ -94,6 +94,6 @@ impl<K, V, S> ObjectMap<K, V, S> {
     }
 
     fn list(&self) -> Result<Vec<(u64, [u64; 1])>, ClearError> {
-        self.inner.slots.in_turn(LISTS, || self.inner.slots.call(Pass::try_entries)).map_err(ClearError::of_list)
+        self.inner.slots.in_turn(LISTS, || self.inner.slots.call(Handle::try_entries)).map_err(ClearError::of_list)
     }
 }

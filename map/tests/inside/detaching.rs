@@ -11,7 +11,7 @@ type Numbers = Map<u64, u64>;
 const KEY: u64 = 7;
 const LATE: &str = "the flight is not detached yet";
 
-// A map with the key, in which no thread has a pass of its own.
+// A map with the key, in which no thread has a handle of its own.
 fn open() -> Numbers {
     let map = Numbers::builder(1_000).threads(0).time_to_live(Duration::MAX).open().unwrap();
     map.insert(&KEY, 1).unwrap();

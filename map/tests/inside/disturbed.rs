@@ -1,6 +1,7 @@
 //! Calls that other threads disturb. With one try each, many fail. What fails says so, and has changed nothing.
+use super::one_shard;
 use crate::flight::Boarding;
-use crate::pass::{AnyPass, MANY};
+use crate::handle::{AnyHandle, MANY};
 use crate::wait::TRIES;
 use crate::{ClearError, GetError, InsertError, Inserted, Map, RemoveError, UpdateError};
 use cefrodil::{Reply, Shape};
@@ -49,7 +50,7 @@ pub fn beside<const CALLS: usize>(disturb: impl Fn() + Sync, round: impl Fn(u64)
 
 // A map of one shard, with so many entries, whose calls try so often.
 fn filled(entries: u64, tries: u32) -> Map<u64, u64> {
-    let map = Map::builder(1).open_shaped(&Shape::for_items(40_000).unwrap(), 1, tries).unwrap();
+    let map = Map::builder(1).open_shaped(&one_shard(40_000), 1, tries).unwrap();
     for key in 0..entries {
         map.insert(&key, key).unwrap();
     }
@@ -58,7 +59,7 @@ fn filled(entries: u64, tries: u32) -> Map<u64, u64> {
 
 // A map whose calls try so often. It has the key 1, and a write of any other key disturbs its lookups.
 fn restless(tries: u32) -> Map<u64, u64> {
-    let shape = Shape { stripes: 1, tries: 1, ..Shape::for_items(100).unwrap() };
+    let shape = Shape { stripes: 1, tries: 1, ..one_shard(100) };
     let map = Map::builder(1).open_shaped(&shape, 1, tries).unwrap();
     map.insert(&1, 10).unwrap();
     map
@@ -67,7 +68,7 @@ fn restless(tries: u32) -> Map<u64, u64> {
 #[test]
 fn a_write_that_does_not_get_the_turn_says_so() {
     let map = filled(20_000, 1);
-    let list = || drop(map.inner.slots.call(AnyPass::keys));
+    let list = || drop(map.inner.slots.call(AnyHandle::keys));
     beside(list, |number| {
         let key = number % 100;
         let before = map.get(&key);
@@ -97,7 +98,7 @@ fn a_write_that_does_not_get_the_turn_says_so() {
 fn a_single_try_of_a_write_does_not_wait_for_the_turn() {
     const HELD: Result<u64, UpdateError> = Err(UpdateError::Insert(InsertError::Held));
     let map = filled(20_000, TRIES);
-    let list = || drop(map.inner.slots.call(AnyPass::keys));
+    let list = || drop(map.inner.slots.call(AnyHandle::keys));
     beside(list, |number| {
         let (key, other) = (number % 100, 100 + number % 100);
         let inserted = map.try_insert(&key, number);
@@ -114,7 +115,7 @@ fn a_single_try_of_a_write_does_not_wait_for_the_turn() {
 #[test]
 fn each_refusal_is_counted() {
     let map = filled(20_000, 1);
-    let list = || drop(map.inner.slots.call(AnyPass::keys));
+    let list = || drop(map.inner.slots.call(AnyHandle::keys));
     beside(list, |number| {
         let (number, before) = (number % 1_000, map.stats());
         let failed = [
@@ -132,7 +133,7 @@ fn each_refusal_is_counted() {
 #[test]
 fn a_value_made_without_waiting_is_put_by_one_try() {
     let map = filled(20_000, TRIES);
-    let list = || drop(map.inner.slots.call(AnyPass::keys));
+    let list = || drop(map.inner.slots.call(AnyHandle::keys));
     beside(list, |number| {
         let (key, before) = (number + 1_000_000, map.stats().refused);
         assert_eq!(map.try_get_or_insert_with(&key, || 3), Ok(3));
@@ -172,7 +173,7 @@ fn a_single_lookup_does_not_wait() {
 #[test]
 fn a_clear_that_does_not_get_the_turn_says_so() {
     let map = filled(20_000, TRIES);
-    let list = || drop(map.inner.slots.call(AnyPass::keys));
+    let list = || drop(map.inner.slots.call(AnyHandle::keys));
     beside(list, |_| {
         let cleared = map.try_clear();
         match cleared {
@@ -189,7 +190,7 @@ fn a_call_that_tries_more_often_is_not_refused() {
     for key in 0..10_000 {
         map.insert(&key, key).unwrap();
     }
-    let list = || drop(map.inner.slots.call(AnyPass::keys));
+    let list = || drop(map.inner.slots.call(AnyHandle::keys));
     let (end, begin) = (AtomicBool::new(false), Instant::now());
     thread::scope(|threads| {
         threads.spawn(|| {
@@ -253,7 +254,7 @@ fn a_busy_key_of_many_is_looked_up_again() {
     };
     beside(write, |_| {
         let mut replies = [Reply::Busy; MANY];
-        map.inner.slots.call(|pass| pass.get_many(&[key; MANY], &mut replies));
+        map.inner.slots.call(|handle| handle.get_many(&[key; MANY], &mut replies));
         assert_eq!(map.get_many(&[1; 40]), [Some(10); 40]);
         [replies.contains(&Reply::Busy)]
     });

@@ -24,7 +24,7 @@ fn so_is_an_opening() {
     let processor = cefrodil::OpenError::Processor;
     assert_eq!(OpenError::of(cefrodil::OpenError::Items), OpenError::Capacity);
     assert_eq!(OpenError::of(cefrodil::OpenError::Shards), OpenError::Shards);
-    assert_eq!(OpenError::of(cefrodil::OpenError::Readers), OpenError::Threads);
+    assert_eq!(OpenError::of(cefrodil::OpenError::Handles), OpenError::Threads);
     assert_eq!(OpenError::of(cefrodil::OpenError::NoMemory), OpenError::NoMemory);
     assert_eq!(OpenError::of(processor), OpenError::Index(processor));
 }

@@ -21,13 +21,13 @@ fn board(map: &Numbers) -> Leader<'_, u64> {
 fn put(map: &Numbers, value: u64) {
     let print = map.inner.print(&KEY);
     let words = map.inner.words(print, value, NEVER);
-    map.inner.slots.call(|pass| pass.put(print.key, &words)).unwrap();
+    map.inner.slots.call(|handle| handle.put(print.key, &words)).unwrap();
 }
 
 // Removes the key, as a removal does that has detached the flight of the key before this one.
 fn remove(map: &Numbers) {
     let key = map.inner.print(&KEY).key;
-    map.inner.slots.call(|pass| pass.remove(key)).unwrap();
+    map.inner.slots.call(|handle| handle.remove(key)).unwrap();
     assert_eq!(map.get(&KEY), None);
 }
 

@@ -1,8 +1,8 @@
 //! Calls of a map while another thread has the turn. Each tries as often as it may, says that it was held, and has changed nothing.
+use super::one_shard;
 use super::turns::{before_calls, calls, Turn};
-use crate::pass::AnyPass;
+use crate::handle::AnyHandle;
 use crate::{ClearError, GetError, InsertError, Map, RemoveError, UpdateError};
-use cefrodil::Shape;
 use std::cell::RefCell;
 use std::rc::Rc;
 use std::time::Duration;
@@ -17,13 +17,13 @@ const LIFE: Duration = Duration::MAX;
 
 // A map of one shard with the key 1, whose calls try five times.
 fn open() -> Map<u64, u64> {
-    let map = Map::builder(1).time_to_live(LIFE).open_shaped(&Shape::for_items(100).unwrap(), 1, TRIES).unwrap();
+    let map = Map::builder(1).time_to_live(LIFE).open_shaped(&one_shard(100), 1, TRIES).unwrap();
     map.insert(&1, 10).unwrap();
     map
 }
 
 fn hold(map: &Map<u64, u64>) -> Turn {
-    Turn::begin(&map.inner.slots, AnyPass::keys)
+    Turn::begin(&map.inner.slots, AnyHandle::keys)
 }
 
 #[test]

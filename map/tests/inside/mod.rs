@@ -1,4 +1,4 @@
-//! Tests that need what the map doesn't show: its clock, shapes and tries, its passes and calls of the index, who waits for a value, and where its
+//! Tests that need what the map doesn't show: its clock, shapes and tries, its handles and calls of the index, who waits for a value, and where its
 //! errors come from.
 mod detaching;
 mod disturbed;
@@ -29,6 +29,13 @@ mod timed;
 mod turns;
 mod waiting;
 mod waits;
+
+use cefrodil::Shape;
+
+// The shape of a map of one shard with places for so many entries.
+fn one_shard(items: u32) -> Shape {
+    Shape { items, ..Shape::for_items(items, 1).unwrap() }
+}
 
 // Takes what a call returned that a test has no use for.
 fn done<T>(_: T) {}

@@ -32,7 +32,7 @@ fn a_lookup_finds_a_key_that_moves_meanwhile() {
     }
 }
 
-// The thread that moves the key, and notes that, ends. This one takes its pass over, and has looked into the main table before.
+// The thread that moves the key, and notes that, ends. This one takes its handle over, and has looked into the main table before.
 #[test]
 fn a_lookup_finds_it_though_it_takes_over_a_pass_that_knows_of_the_move() {
     let ((ready, is_ready), (go, goes)) = (channel(), channel());
@@ -45,7 +45,7 @@ fn a_lookup_finds_it_though_it_takes_over_a_pass_that_knows_of_the_move() {
     });
     let map: Numbers = is_ready.recv().unwrap();
     let mover = Cell::new(Some(mover));
-    // It asks twice for a pass of its own before it looks into the main table by the shared one.
+    // It asks twice for a handle of its own before it looks into the main table by the shared one.
     before_calls(2, 1, move || {
         go.send(()).unwrap();
         mover.take().unwrap().join().unwrap();
@@ -53,13 +53,13 @@ fn a_lookup_finds_it_though_it_takes_over_a_pass_that_knows_of_the_move() {
     assert_eq!(calls(|| map.get(&KEY)).1, Some(10));
 }
 
-// Nor does it matter what others noted in the pass that all threads share.
+// Nor does it matter what others noted in the handle that all threads share.
 #[test]
 fn a_lookup_by_the_shared_pass_finds_a_key_that_moves_meanwhile() {
     let map = open_for(0);
     map.insert(&KEY, 10).unwrap();
     let other = map.clone();
-    // It asks twice for a pass of its own before each call.
+    // It asks twice for a handle of its own before each call.
     before_calls(3, 1, move || {
         let map = other.clone();
         thread::spawn(move || assert_eq!((map.get(&KEY), map.get(&7)), (Some(10), None))).join().unwrap();

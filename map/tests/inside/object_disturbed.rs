@@ -1,7 +1,7 @@
 //! Calls of a map of objects that writes of other threads disturb. What fails says so, and has changed nothing.
 use super::disturbed::beside;
-use super::done;
-use crate::pass::MANY;
+use super::{done, one_shard};
+use crate::handle::MANY;
 use crate::stats::Stats;
 use crate::wait::TRIES;
 use crate::{AbsentError, GetError, IfError, InsertError, Look, ObjectMap, RemoveError, UpdateError};
@@ -12,7 +12,7 @@ use std::time::Duration;
 
 // A map of objects whose calls try so often. It has the key 1, and a write of any other key disturbs its lookups.
 fn restless(tries: u32) -> ObjectMap<u64, u64> {
-    let shape = Shape { stripes: 1, tries: 1, ..Shape::for_items(100).unwrap() };
+    let shape = Shape { stripes: 1, tries: 1, ..one_shard(100) };
     let map = ObjectMap::builder(1).open_shaped(&shape, 1, tries).unwrap();
     map.insert(1, 10).unwrap();
     map
@@ -66,7 +66,7 @@ fn a_busy_object_is_not_taken_for_an_absent_one() {
 // The lookup before the put may be busy, too: then the value is not put, and that is counted.
 #[test]
 fn a_computed_object_is_put_or_refused() {
-    let shape = Shape { stripes: 1, tries: 1, ..Shape::for_items(10_000).unwrap() };
+    let shape = Shape { stripes: 1, tries: 1, ..one_shard(10_000) };
     let map = ObjectMap::<u64, u64>::builder(1).open_shaped(&shape, 1, 1).unwrap();
     // What this thread has counted.
     let count = || Stats::sum(once(map.inner.slots.own().unwrap().1));
@@ -90,7 +90,7 @@ fn a_busy_key_of_many_is_looked_up_again() {
         || done(map.insert(2, 20)),
         |_| {
             let mut replies = [Reply::Busy; MANY];
-            map.inner.slots.call(|pass| pass.get_many(&[hash; MANY], &mut replies));
+            map.inner.slots.call(|handle| handle.get_many(&[hash; MANY], &mut replies));
             let (mut found, mut looked) = (0, 0);
             map.get_many_with(&[&1; 40], |_, value| found += *value);
             map.look_many(&[&1; 40], |_, look| looked += *look.unwrap().found().unwrap());
@@ -116,7 +116,7 @@ fn a_call_that_tries_more_often_finds_its_key() {
         assert!(map.update(1, |old| *old.unwrap()).is_ok());
         assert!(map.remove(&1) == Ok(Some(10)) && map.insert(1, 10).is_ok());
         // A single try is disturbed now and then.
-        [map.inner.slots.call(|pass| pass.get(hash)) == Reply::Busy]
+        [map.inner.slots.call(|handle| handle.get(hash)) == Reply::Busy]
     });
     assert_eq!((map.stats().busy, map.stats().misses, map.stats().refused), (0, 0, rounds.get()));
 }

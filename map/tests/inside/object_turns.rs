@@ -1,7 +1,8 @@
 //! Calls of a map of objects while another thread has the turn, and calls between whose calls of the index another write comes.
+use super::one_shard;
 use super::turns::{before_calls, calls, Turn};
 use crate::{AbsentError, ClearError, IfError, InsertError, Inserted, Look, ObjectMap, RemoveError, UpdateError};
-use cefrodil::{Pass, Shape};
+use cefrodil::Handle;
 use std::cell::RefCell;
 use std::rc::Rc;
 use std::time::Duration;
@@ -18,13 +19,13 @@ const LIFE: Duration = Duration::MAX;
 
 // A map of one shard with the key 1, and the moment of its put.
 fn open() -> (Numbers, u64) {
-    let map = ObjectMap::builder(1).open_shaped(&Shape::for_items(100).unwrap(), 1, TRIES).unwrap();
+    let map = ObjectMap::builder(1).open_shaped(&one_shard(100), 1, TRIES).unwrap();
     let since = map.put(1, 10, None).unwrap().at;
     (map, since)
 }
 
 fn hold(map: &Numbers) -> Turn {
-    Turn::begin(&map.inner.slots, |pass: &mut Pass<'static, 1>| pass.try_entries())
+    Turn::begin(&map.inner.slots, |handle: &mut Handle<1>| handle.try_entries())
 }
 
 #[test]

@@ -1,5 +1,5 @@
 //! Objects expire by a clock that the tests turn. What is refused comes back.
-use super::done;
+use super::{done, one_shard};
 use crate::clock::NEVER;
 use crate::objects::{Held, State, BATCH};
 use crate::{
@@ -183,7 +183,7 @@ fn heard(builder: ObjectBuilder<u64, String>) -> (ObjectBuilder<u64, String>, He
 #[test]
 fn each_object_leaves_for_its_reason() {
     let (builder, heard) = heard(ObjectMap::builder(8));
-    let map = builder.open_shaped(&Shape::for_items(8).unwrap(), 1, 100).unwrap();
+    let map = builder.open_shaped(&one_shard(8), 1, 100).unwrap();
     (1..=4).for_each(|key| done(map.insert(key, text("a")).unwrap()));
     map.insert(1, text("b")).unwrap();
     map.remove(&2).unwrap();
@@ -222,7 +222,7 @@ fn what_has_expired_leaves_as_expired() {
     ];
     for (way, leave) in ways.into_iter().enumerate() {
         let (builder, heard) = heard(ObjectMap::builder(8));
-        let map = builder.open_shaped(&Shape::for_items(8).unwrap(), 1, 100).unwrap();
+        let map = builder.open_shaped(&one_shard(8), 1, 100).unwrap();
         let since = map.put(1, text("a"), Some(seconds(5))).unwrap().at;
         turn(&map, seconds(6));
         leave(&map, since);
@@ -277,7 +277,7 @@ fn few_objects_wait_once_a_long_closure_has_ended() {
 
 #[test]
 fn an_insert_without_a_place_gives_the_key_and_the_value_back() {
-    let shape = Shape { buckets: 2, items: 8, stripes: 1, depth: 2, ..Shape::for_items(8).unwrap() };
+    let shape = Shape { buckets: 2, items: 8, stripes: 1, depth: 2, ..one_shard(8) };
     let map: ObjectMap<String, Arc<String>> = ObjectBuilder::new(1).open_shaped(&shape, 1, 10).unwrap();
     let value = Arc::new(text("value"));
     let mut refused = 0;
@@ -306,7 +306,7 @@ fn an_insert_without_a_place_gives_the_key_and_the_value_back() {
 #[test]
 fn a_map_without_changes_left_says_so() {
     // Enough for one insert and one replacement.
-    let shape = Shape { limit: 4, depth: 0, ..Shape::for_items(8).unwrap() };
+    let shape = Shape { limit: 4, depth: 0, ..one_shard(8) };
     let map: Names = ObjectBuilder::new(1).open_shaped(&shape, 1, 10).unwrap();
     map.insert(1, text("a")).unwrap();
     assert_eq!(map.replace_if(1, 1, text("b"), None).unwrap().at, 2);
@@ -332,7 +332,7 @@ fn in_stripe<T>(map: &Names, key: u64, call: impl FnOnce() -> T) -> T {
 
 #[test]
 fn a_write_that_does_not_get_its_turn_says_so() {
-    let map: Names = ObjectBuilder::new(100).open_shaped(&Shape::for_items(100).unwrap(), 1, 5).unwrap();
+    let map: Names = ObjectBuilder::new(100).open_shaped(&one_shard(100), 1, 5).unwrap();
     let held = InsertError::Held;
     in_stripe(&map, 1, || {
         let refused = map.insert(1, text("a")).unwrap_err();

@@ -1,7 +1,7 @@
 //! Calls of a map between whose calls of the index another write comes: they begin anew, so often as they may, and undo nothing.
+use super::one_shard;
 use super::turns::{before_calls, calls};
 use crate::{Inserted, Map, RemoveError, UpdateError};
-use cefrodil::Shape;
 use std::cell::Cell;
 use std::time::Duration;
 
@@ -14,7 +14,7 @@ const LIFE: Duration = Duration::MAX;
 
 // A map with the key 1.
 fn open() -> Numbers {
-    let map = Map::builder(1).time_to_live(LIFE).open_shaped(&Shape::for_items(100).unwrap(), 1, TRIES).unwrap();
+    let map = Map::builder(1).time_to_live(LIFE).open_shaped(&one_shard(100), 1, TRIES).unwrap();
     map.insert(&1, 10).unwrap();
     map
 }

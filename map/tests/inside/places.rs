@@ -1,4 +1,5 @@
 //! An insert fails if no entry can give way or no changes are left. A key never has the value of another with the same first hash.
+use super::one_shard;
 use crate::words::Layout;
 use crate::{GetError, InsertError, Inserted, Map, RemoveError, UpdateError};
 use cefrodil::Shape;
@@ -7,7 +8,7 @@ use std::time::Duration;
 
 #[test]
 fn an_insert_without_a_place_says_so() {
-    let shape = Shape { buckets: 2, items: 8, stripes: 1, depth: 2, ..Shape::for_items(8).unwrap() };
+    let shape = Shape { buckets: 2, items: 8, stripes: 1, depth: 2, ..one_shard(8) };
     let map: Map<u64, u64> = Map::builder(1).open_shaped(&shape, 1, 10).unwrap();
     let (mut there, mut refused) = (0, 0);
     for key in 0..50 {
@@ -31,7 +32,7 @@ fn an_insert_without_a_place_says_so() {
 #[test]
 fn a_map_without_changes_left_says_so() {
     // Enough for one insert and one update.
-    let shape = Shape { limit: 4, depth: 0, ..Shape::for_items(8).unwrap() };
+    let shape = Shape { limit: 4, depth: 0, ..one_shard(8) };
     let map: Map<u64, u64> = Map::builder(1).open_shaped(&shape, 1, 10).unwrap();
     assert_eq!((map.insert(&1, 10), map.update(&1, |_| 11)), (Ok(Inserted::New), Ok(11)));
     assert_eq!(map.insert(&1, 12), Err(InsertError::Spent));

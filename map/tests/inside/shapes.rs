@@ -34,13 +34,13 @@ fn there_are_so_many_shards_by_default() {
 }
 
 #[test]
-fn there_are_so_many_passes() {
-    let passes = |threads| {
+fn there_are_so_many_handles() {
+    let handles = |threads| {
         let mut settings = Settings::new(100);
         settings.threads = threads;
-        settings.passes()
+        settings.handles()
     };
-    assert_eq!((Settings::new(100).passes(), passes(0), passes(1), passes(usize::MAX)), (65, 1, 2, usize::MAX));
+    assert_eq!((Settings::new(100).handles(), handles(0), handles(1), handles(usize::MAX)), (65, 1, 2, usize::MAX));
 }
 
 // Shards of fewer than 256 entries have four times the buckets that the index would choose.
@@ -48,7 +48,7 @@ fn there_are_so_many_passes() {
 fn small_shards_have_more_buckets() {
     for items in [1, 10, 100, 255, 256, 1_000] {
         let (shape, shards) = Settings::new(items as usize).shape().unwrap();
-        let plain = Shape::for_items(items).unwrap();
+        let plain = Shape::for_items(items, 1).unwrap();
         assert_eq!((shards, shape.items), (1, items));
         assert_eq!(shape.buckets, if items < 256 { 4 * plain.buckets } else { plain.buckets }, "of {items}");
     }

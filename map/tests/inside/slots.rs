@@ -1,4 +1,4 @@
-//! No two calls use a pass at once, whether threads own one or share it, and no count is lost.
+//! No two calls use a handle at once, whether threads own one or share it, and no count is lost.
 use crate::slots::Slots;
 use crate::stats::Kind;
 use crate::Map;
@@ -9,8 +9,8 @@ use std::thread;
 
 const THREADS: usize = 6;
 
-// How many passes are used by threads of which so many may own one.
-fn passes_used(owners: usize) -> usize {
+// How many handles are used by threads of which so many may own one.
+fn handles_used(owners: usize) -> usize {
     let map: Map<u64, u64> = Map::builder(10).threads(owners).open().unwrap();
     let (in_use, seen, all_called) = (Mutex::new(HashSet::new()), Mutex::new(HashSet::new()), Barrier::new(THREADS));
     thread::scope(|threads| {
@@ -20,9 +20,9 @@ fn passes_used(owners: usize) -> usize {
                 let _ = map.get(&1);
                 all_called.wait();
                 for _ in 0..200 {
-                    map.inner.slots.call(|pass| {
-                        let place = ptr::from_mut(pass) as usize;
-                        assert!(in_use.lock().unwrap().insert(place), "two calls use a pass at once");
+                    map.inner.slots.call(|handle| {
+                        let place = ptr::from_mut(handle) as usize;
+                        assert!(in_use.lock().unwrap().insert(place), "two calls use a handle at once");
                         thread::yield_now();
                         assert!(in_use.lock().unwrap().remove(&place));
                         seen.lock().unwrap().insert(place);
@@ -37,7 +37,7 @@ fn passes_used(owners: usize) -> usize {
 
 #[test]
 fn no_two_calls_use_a_pass_at_once() {
-    assert_eq!((passes_used(0), passes_used(2), passes_used(THREADS)), (1, 3, THREADS));
+    assert_eq!((handles_used(0), handles_used(2), handles_used(THREADS)), (1, 3, THREADS));
 }
 
 // So many counts of each thread show one that isn't atomic also where there are few processors.
@@ -73,7 +73,7 @@ fn what_is_removed_before_it_is_counted_is_no_entry() {
     assert_eq!(slots.stats().entries(), 1);
 }
 
-// Each kind has a number of its own, by a pass of a thread's own and by the shared one.
+// Each kind has a number of its own, by a handle of a thread's own and by the shared one.
 #[test]
 fn each_kind_is_counted_by_itself() {
     use Kind::{Added, Busy, Collided, Evicted, Expired, Hit, Miss, Refused, Removed, Renewed, Shared};

@@ -1,9 +1,9 @@
 //! Calls that give up, while another thread keeps the turn: how many, and for how long.
+use super::one_shard;
 use super::turns::Turn;
-use crate::pass::AnyPass;
+use crate::handle::AnyHandle;
 use crate::wait::SLEEPS_FROM;
 use crate::{InsertError, Map, RemoveError};
-use cefrodil::Shape;
 use std::thread::sleep;
 use std::time::Duration;
 
@@ -11,13 +11,13 @@ const LIFE: Duration = Duration::MAX;
 
 // A map of one shard with the key 1, whose calls try so often.
 fn open(tries: u32) -> Map<u64, u64> {
-    let map = Map::builder(1).time_to_live(LIFE).open_shaped(&Shape::for_items(100).unwrap(), 1, tries).unwrap();
+    let map = Map::builder(1).time_to_live(LIFE).open_shaped(&one_shard(100), 1, tries).unwrap();
     map.insert(&1, 10).unwrap();
     map
 }
 
 fn hold(map: &Map<u64, u64>) -> Turn {
-    Turn::begin(&map.inner.slots, AnyPass::keys)
+    Turn::begin(&map.inner.slots, AnyHandle::keys)
 }
 
 #[test]

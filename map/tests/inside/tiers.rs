@@ -1,7 +1,8 @@
 //! A small table before the main one: which keys go where, and what both tables have.
+use super::one_shard;
 use super::turns::{before_calls, calls, Turn};
 use crate::sketch::Sketch;
-use crate::tiers::{SmallPass, OF_SMALL};
+use crate::tiers::{SmallHandle, OF_SMALL};
 use crate::{InsertError, Inserted, Map, RemoveError, UpdateError};
 use cefrodil::Reply;
 use std::collections::HashMap;
@@ -21,10 +22,10 @@ fn open() -> Numbers {
     open_for(64)
 }
 
-// As `open`, with a pass of their own for so many threads.
+// As `open`, with a handle of their own for so many threads.
 pub fn open_for(threads: usize) -> Numbers {
     let map = Map::builder(40).time_to_live(Duration::MAX).threads(threads).small_table();
-    let map = map.open_shaped(&cefrodil::Shape::for_items(36).unwrap(), 1, TRIES).unwrap();
+    let map = map.open_shaped(&one_shard(36), 1, TRIES).unwrap();
     (1_000..1_037).for_each(|key| _ = map.insert(&key, 0).unwrap());
     assert_eq!((map.len(), map.stats().evicted), (36, 1));
     map
@@ -41,12 +42,12 @@ pub fn with_young() -> Numbers {
 // Whether the main table has the key, and whether the small one has it.
 pub fn place(map: &Numbers, key: u64) -> (bool, bool) {
     let (key, tiers) = (map.inner.print(&key).key, map.inner.tiers.as_ref().unwrap());
-    let in_main = matches!(map.inner.slots.call(|pass| pass.get_or_desk(key)), Reply::Found { .. });
+    let in_main = matches!(map.inner.slots.call(|handle| handle.get_or_turn(key)), Reply::Found { .. });
     (in_main, matches!(tiers.look_small(key), Reply::Found { since, .. } if since & OF_SMALL != 0))
 }
 
 pub fn hold_small(map: &Numbers) -> Turn {
-    Turn::begin(map.inner.tiers.as_ref().unwrap().small(), SmallPass::keys)
+    Turn::begin(map.inner.tiers.as_ref().unwrap().small(), SmallHandle::keys)
 }
 
 // Both tables have the key: a lookup moved it, and could not take it out of the small table.

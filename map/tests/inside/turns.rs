@@ -37,9 +37,9 @@ pub struct Turn {
 
 impl Turn {
     /// `list` lists the entries.
-    pub fn begin<P: Send + 'static, T, E>(
-        slots: &Arc<Slots<P>>,
-        list: impl Fn(&mut P) -> Result<T, TurnError<E>> + Copy + Send + Sync + 'static,
+    pub fn begin<H: Send + 'static, T, E>(
+        slots: &Arc<Slots<H>>,
+        list: impl Fn(&mut H) -> Result<T, TurnError<E>> + Copy + Send + Sync + 'static,
     ) -> Turn {
         let (begun, wait) = channel();
         let (end, ended): (Sender<()>, Receiver<()>) = channel();

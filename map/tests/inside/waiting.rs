@@ -8,10 +8,10 @@ use std::time::{Duration, Instant};
 /// How long a thread may take to do what it must do at once.
 pub const LONG: Duration = Duration::from_secs(60);
 
-/// Makes a call in another thread. From when it calls the function that it gets, this has the pass that all threads of the map share. Once the
-/// call waits for the pass, `meanwhile` is called. No thread may have a pass of its own.
-pub fn while_it_waits<P: Send + 'static, T: Send>(
-    slots: &Arc<Slots<P>>,
+/// Makes a call in another thread. From when it calls the function that it gets, this has the handle that all threads of the map share. Once the
+/// call waits for the handle, `meanwhile` is called. No thread may have a handle of its own.
+pub fn while_it_waits<H: Send + 'static, T: Send>(
+    slots: &Arc<Slots<H>>,
     call: impl FnOnce(&dyn Fn()) -> T + Send,
     meanwhile: impl FnOnce(),
 ) -> T {

@@ -1,4 +1,5 @@
 //! How often a call tries, and how it waits in between.
+use super::one_shard;
 use crate::wait::{in_turn, within, Pause};
 use crate::Map;
 use cefrodil::TurnError;
@@ -52,7 +53,7 @@ fn a_call_that_gets_no_turn_says_so() {
 fn the_calls_of_a_map_try_so_often() {
     let map = Map::<u64, u64>::new(10).unwrap();
     assert_eq!((map.inner.tries, map.inner.looks()), (10_000, 1_000));
-    let once = Map::<u64, u64>::builder(1).open_shaped(&cefrodil::Shape::for_items(10).unwrap(), 1, 1).unwrap();
+    let once = Map::<u64, u64>::builder(1).open_shaped(&one_shard(10), 1, 1).unwrap();
     assert_eq!((once.inner.tries, once.inner.looks()), (1, 1));
     #[cfg(feature = "objects")]
     {

@@ -87,7 +87,7 @@ fn nor_beside_evictions() {
 }
 
 #[test]
-fn nor_if_threads_share_a_pass() {
+fn nor_if_threads_share_a_handle() {
     no_value_is_wrong(100, 300, 0, 5_000);
 }
 

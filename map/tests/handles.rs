@@ -1,4 +1,4 @@
-//! A thread has a pass from its first call to its end. Threads and maps end in any order.
+//! A thread has a handle from its first call to its end. Threads and maps end in any order.
 use cefrodil_map::Map;
 use std::cell::RefCell;
 use std::sync::mpsc::channel;
@@ -59,7 +59,7 @@ fn a_thread_has_a_pass_of_each_of_many_maps() {
         threads.spawn(|| use_each(2));
     });
     assert!(maps.iter().all(|map| (map.stats().shared, map.stats().hits, map.len()) == (0, 6, 2)));
-    // The threads have given their passes back.
+    // The threads have given their handles back.
     use_each(3);
     assert!(maps.iter().all(|map| map.stats().shared == 0));
 }
@@ -117,7 +117,7 @@ fn a_thread_does_not_use_the_pass_of_another() {
     thread::scope(|threads| {
         threads.spawn(|| {
             maps[0].insert(&1, 1).unwrap();
-            // This thread has a pass of the first map, and none of the second.
+            // This thread has a handle of the first map, and none of the second.
             assert_eq!((maps[1].get(&1), maps[0].get(&1)), (Some(10), Some(1)));
         });
     });
@@ -197,8 +197,8 @@ fn what_a_thread_keeps_may_call_the_map_at_its_end() {
         assert_eq!((map.len(), map.stats().hits), (20, 20));
         shared += map.stats().shared;
         let before = map.stats().shared;
-        assert_eq!((map.get(&19), map.stats().shared), (Some(119), before), "the pass was not given back");
+        assert_eq!((map.get(&19), map.stats().shared), (Some(119), before), "the handle was not given back");
     }
-    // One of the two threads has given its pass back before, and must not use it again.
+    // One of the two threads has given its handle back before, and must not use it again.
     assert_eq!(shared, 40);
 }

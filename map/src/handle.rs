@@ -1,48 +1,48 @@
-//! A pass of shards, or of a desk, whose entries have any width, 1 to 8 words. The width is chosen at opening.
+//! A handle of the index, whose entries have any width, 1 to 8 words. The width is chosen at opening.
 use crate::words::{Layout, Seen, Words, MOST};
 use cefrodil::{
-    Desk, Entry, ListError, OpenError, Pass, Put, PutError, PutIfAbsentError, PutIfError, Removal, Replaced, Reply, Shape,
-    Shards, Spent, TurnError, Value,
+    Cache, Entry, Handle, ListError, OpenError, Put, PutError, PutIfAbsentError, PutIfError, Removal, Replaced, Reply, Shape,
+    Spent, TurnError,
 };
 use std::ops::DerefMut;
 
 /// How many keys one call looks up at most.
 pub(crate) const MANY: usize = 32;
 
-/// A pass by the width of its entries.
-pub(crate) enum AnyPass {
-    One(Pass<'static, 1>),
-    Two(Pass<'static, 2>),
-    Three(Pass<'static, 3>),
-    Four(Pass<'static, 4>),
-    Five(Pass<'static, 5>),
-    Six(Pass<'static, 6>),
-    Seven(Pass<'static, 7>),
-    Eight(Pass<'static, 8>),
+/// A handle by the width of its entries.
+pub(crate) enum AnyHandle {
+    One(Handle<1>),
+    Two(Handle<2>),
+    Three(Handle<3>),
+    Four(Handle<4>),
+    Five(Handle<5>),
+    Six(Handle<6>),
+    Seven(Handle<7>),
+    Eight(Handle<8>),
 }
 
-// What `$call` gives for the pass, whatever its width is.
+// What `$call` gives for the handle, whatever its width is.
 macro_rules! any {
-    ($any:expr, $pass:ident => $call:expr) => {
+    ($any:expr, $handle:ident => $call:expr) => {
         match $any {
-            AnyPass::One($pass) => $call,
-            AnyPass::Two($pass) => $call,
-            AnyPass::Three($pass) => $call,
-            AnyPass::Four($pass) => $call,
-            AnyPass::Five($pass) => $call,
-            AnyPass::Six($pass) => $call,
-            AnyPass::Seven($pass) => $call,
-            AnyPass::Eight($pass) => $call,
+            AnyHandle::One($handle) => $call,
+            AnyHandle::Two($handle) => $call,
+            AnyHandle::Three($handle) => $call,
+            AnyHandle::Four($handle) => $call,
+            AnyHandle::Five($handle) => $call,
+            AnyHandle::Six($handle) => $call,
+            AnyHandle::Seven($handle) => $call,
+            AnyHandle::Eight($handle) => $call,
         }
     };
 }
 
-impl AnyPass {
-    /// Opens shards whose entries have this width.
-    pub fn open(width: usize, shape: &Shape, shards: u32, passes: usize) -> Result<Vec<AnyPass>, OpenError> {
+impl AnyHandle {
+    /// Opens an index whose entries have this width.
+    pub fn open(width: usize, shape: &Shape, shards: u32, handles: usize) -> Result<Vec<AnyHandle>, OpenError> {
         macro_rules! open {
             ($variant:ident) => {
-                opened(shape, shards, passes)?.into_iter().map(AnyPass::$variant).collect()
+                Cache::open(shape, shards, handles)?.into_iter().map(AnyHandle::$variant).collect()
             };
         }
         Ok(match width {
@@ -58,21 +58,21 @@ impl AnyPass {
     }
 
     pub fn capacity(&mut self) -> usize {
-        any!(self, pass => pass.capacity())
+        any!(self, handle => handle.capacity())
     }
 
-    /// Looks the key up by `get_or_desk` of a pass of a map of such values, with this layout. Gives the pass back, and then calls `then`.
+    /// Looks the key up by `get_or_turn` of a handle of a map of such values, with this layout. Gives the handle back, and then calls `then`.
     ///
     /// The compiler knows the width, and leaves the calls for the others out. The words stay where the index wrote them.
     #[inline(always)]
-    pub fn get<V, R>(mut pass: impl DerefMut<Target = AnyPass>, key: u64, layout: Layout, then: impl FnOnce(Seen) -> R) -> R {
+    pub fn get<V, R>(mut handle: impl DerefMut<Target = AnyHandle>, key: u64, layout: Layout, then: impl FnOnce(Seen) -> R) -> R {
         macro_rules! get {
             ($($width:literal $variant:ident),*) => {
-                match (layout.width::<V>(), &mut *pass) {
-                    $(($width, AnyPass::$variant(by_width)) => {
+                match (layout.width::<V>(), &mut *handle) {
+                    $(($width, AnyHandle::$variant(by_width)) => {
                         let mut reply = Reply::Busy;
-                        by_width.get_or_desk_into(key, &mut reply);
-                        drop(pass);
+                        by_width.get_or_turn_into(key, &mut reply);
+                        drop(handle);
                         then(Seen::of(&mut reply))
                     })*
                     _ => unreachable!("opening takes this width"),
@@ -84,21 +84,21 @@ impl AnyPass {
 
     /// Looks these keys up, `MANY` at most. There must be as many replies.
     pub fn get_many(&mut self, keys: &[u64], replies: &mut [Reply<MOST>]) {
-        any!(self, pass => wide_replies(pass, keys, replies))
+        any!(self, handle => wide_replies(handle, keys, replies))
     }
 
-    pub fn get_or_desk(&mut self, key: u64) -> Reply<MOST> {
-        any!(self, pass => wide_reply(pass.get_or_desk(key)))
+    pub fn get_or_turn(&mut self, key: u64) -> Reply<MOST> {
+        any!(self, handle => wide_reply(handle.get_or_turn(key)))
     }
 
     /// Looks the key up in a turn, which is no use of it. `Busy`: the try did not win.
     pub fn peek(&mut self, key: u64) -> Reply<MOST> {
-        any!(self, pass => pass.try_peek(key).map_or(Reply::Busy, wide_reply))
+        any!(self, handle => handle.try_peek(key).map_or(Reply::Busy, wide_reply))
     }
 
     /// Whether the key is there. `None`: the lookup was busy.
     pub fn has(&mut self, key: u64) -> Option<bool> {
-        any!(self, pass => match pass.get_or_desk(key) {
+        any!(self, handle => match handle.get_or_turn(key) {
             Reply::Found { .. } => Some(true),
             Reply::Absent { .. } => Some(false),
             Reply::Busy => None,
@@ -106,41 +106,30 @@ impl AnyPass {
     }
 
     pub fn put(&mut self, key: u64, words: &Words) -> Result<Put, TurnError<PutError>> {
-        any!(self, pass => pass.try_put(key, narrow(words)))
+        any!(self, handle => handle.try_put(key, narrow(words)))
     }
 
     pub fn put_if(&mut self, key: u64, since: u64, words: &Words) -> Result<u64, TurnError<PutIfError>> {
-        any!(self, pass => pass.try_put_if(key, since, narrow(words)))
+        any!(self, handle => handle.try_put_if(key, since, narrow(words)))
     }
 
     pub fn put_if_absent(&mut self, key: u64, words: &Words) -> Result<Put, TurnError<PutIfAbsentError>> {
-        any!(self, pass => pass.try_put_if_absent(key, narrow(words)))
+        any!(self, handle => handle.try_put_if_absent(key, narrow(words)))
     }
 
     pub fn remove(&mut self, key: u64) -> Result<Removal, TurnError<Spent>> {
-        any!(self, pass => pass.try_remove(key))
+        any!(self, handle => handle.try_remove(key))
     }
 
     /// Removes the key if its last put was at the moment `since`.
     pub fn take_if(&mut self, key: u64, since: u64) -> Result<Replaced<MOST>, TurnError<PutIfError>> {
-        any!(self, pass => pass.try_take_if(key, since).map(wide_replaced))
+        any!(self, handle => handle.try_take_if(key, since).map(wide_replaced))
     }
 
     /// The keys of all entries, in a turn at each shard.
     pub fn keys(&mut self) -> Result<Vec<u64>, TurnError<ListError>> {
-        any!(self, pass => Ok(pass.try_entries()?.into_iter().map(|(key, _)| key).collect()))
+        any!(self, handle => Ok(handle.try_entries()?.into_iter().map(|(key, _)| key).collect()))
     }
-}
-
-/// A desk looks up faster than a single shard does.
-fn opened<const WIDTH: usize>(shape: &Shape, shards: u32, passes: usize) -> Result<Vec<Pass<'static, WIDTH>>, OpenError>
-where
-    [u64; WIDTH]: Value,
-{
-    if shards == 1 {
-        return Ok(Desk::open(shape, passes)?.into_passes());
-    }
-    Shards::open(shape, shards, passes)
 }
 
 fn narrow<const WIDTH: usize>(words: &Words) -> &[u64; WIDTH] {
@@ -161,10 +150,10 @@ fn wide_reply<const WIDTH: usize>(reply: Reply<WIDTH>) -> Reply<MOST> {
     }
 }
 
-fn wide_replies<const WIDTH: usize>(pass: &mut Pass<'static, WIDTH>, keys: &[u64], replies: &mut [Reply<MOST>]) {
+fn wide_replies<const WIDTH: usize>(handle: &mut Handle<WIDTH>, keys: &[u64], replies: &mut [Reply<MOST>]) {
     let mut narrow = [Reply::Busy; MANY];
     let narrow = &mut narrow[..keys.len()];
-    pass.get_many(keys, narrow);
+    handle.get_many(keys, narrow);
     replies.iter_mut().zip(narrow).for_each(|(wide, narrow)| *wide = wide_reply(*narrow));
 }
 

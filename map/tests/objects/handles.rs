@@ -1,4 +1,4 @@
-//! Threads and maps end in any order, and there may be more threads than passes.
+//! Threads and maps end in any order, and there may be more threads than handles.
 use crate::ledger::{Ledger, Owned};
 use cefrodil_map::ObjectMap;
 use std::cell::RefCell;
@@ -60,7 +60,7 @@ fn a_thread_may_outlive_the_maps_that_it_used() {
 }
 
 #[test]
-fn forty_threads_share_four_passes() {
+fn forty_threads_share_four_handles() {
     const MANY: usize = 40;
     let (ledger, start) = (Ledger::new(200_000), Barrier::new(MANY));
     let map: Values = ObjectMap::builder(1_000).threads(3).open().unwrap();
@@ -107,7 +107,7 @@ fn what_a_thread_keeps_may_call_the_map_at_its_end() {
         let (other, looked) = (map.clone(), map.clone());
         drop(map);
         let thread = thread::spawn(move || {
-            // So the thread gives its pass back after `END` has gone, or before.
+            // So the thread gives its handle back after `END` has gone, or before.
             if first {
                 work(&other, ledger, 0);
             }
