@@ -15,7 +15,7 @@ struct Open {
 
     Open(const cefrodil_shape &shape, size_t many) : handles(many, cefrodil_handle(CEFRODIL_EMPTY)) {
         double began = now(true);
-        if (cefrodil_open_shards(&shape, 1, 4, handles.data(), many) != CEFRODIL_OK) abort();
+        if (cefrodil_open(&shape, 1, 4, handles.data(), many) != CEFRODIL_OK) abort();
         seconds = now(true) - began;
         if (cefrodil_hold(&handles[0]) != CEFRODIL_OK) abort();
     }
@@ -87,12 +87,12 @@ static double reader_bytes(const cefrodil_shape &shape) { return (heap_of(shape,
 int main(int count, char **words) {
     if (count != 3) return 2;
     cefrodil_shape shape;
-    if (cefrodil_shape_for_shards(uint32_t(atol(words[1])), 1, &shape) != CEFRODIL_OK) return 2;
+    if (cefrodil_shape_for_items(uint32_t(atol(words[1])), 1, &shape) != CEFRODIL_OK) return 2;
     shape.items = uint32_t(atol(words[1]));
     uint64_t first = strtoull(words[2], nullptr, 10) << 32;
     double opening, used = put_when_all_are_used(shape, first, opening);
     cefrodil_shape small;
-    if (cefrodil_shape_for_shards(1000, 1, &small) != CEFRODIL_OK) return 2;
+    if (cefrodil_shape_for_items(1000, 1, &small) != CEFRODIL_OK) return 2;
     printf("{\"opening_ms\":%.4f,\"all_used_ms\":%.4f,\"refused_us\":%.4f,\"reader_bytes\":%.1f}\n", opening * 1e3, used * 1e3,
         refused_put(shape, first) * 1e6, reader_bytes(small));
 }

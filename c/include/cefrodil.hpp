@@ -40,7 +40,7 @@ template <size_t Words> class Handle : public inside::Calls<Words> {
     [[nodiscard]] Answer<Words> get_or_turn(uint64_t key) noexcept {
         cefrodil_reply reply;
         Value value;
-        const cefrodil_status status = cefrodil_get_or_desk_of_width(this->raw(), key, value.data(), Words, &reply);
+        const cefrodil_status status = cefrodil_get_or_turn_of_width(this->raw(), key, value.data(), Words, &reply);
         return this->looked(status, reply, value);
     }
     // Looks the key up in a turn. That doesn't count as a use of it.
@@ -193,7 +193,7 @@ template <size_t Words> class Writing : private inside::Calls<Words> {
 // can be opened: over an archive of another version (Status::other_version), and on a processor that is too old (Status::processor).
 [[nodiscard]] inline std::optional<cefrodil_shape> shape_for_items(uint32_t items, uint32_t shards = 1) noexcept {
     cefrodil_shape shape{};
-    if (!inside::same_version() || cefrodil_shape_for_shards(items, shards, &shape) != CEFRODIL_OK) {
+    if (!inside::same_version() || cefrodil_shape_for_items(items, shards, &shape) != CEFRODIL_OK) {
         return std::nullopt;
     }
     return shape;
@@ -204,7 +204,7 @@ template <size_t Words>
 [[nodiscard]] Status open(const cefrodil_shape &shape, uint32_t shards, size_t count, std::vector<Handle<Words>> &handles) noexcept {
     const auto grow = [] {};
     return inside::open_all(handles, inside::allowed(count), grow, [&](cefrodil_handle *raw, size_t many) {
-        return cefrodil_open_shards(&shape, shards, Words, raw, many);
+        return cefrodil_open(&shape, shards, Words, raw, many);
     });
 }
 
@@ -215,7 +215,7 @@ template <size_t Words>
                                std::vector<Handle<Words>> &handles, std::vector<Status> &statuses) noexcept {
     inside::EntryStatuses told(entries.size() / (1 + Words));
     const auto open = [&](cefrodil_handle *raw, size_t many) {
-        return cefrodil_open_shards_with_or_none(&shape, shards, Words, entries.data(), entries.size(), told.raw(), told.count(), raw, many);
+        return cefrodil_open_with_or_none(&shape, shards, Words, entries.data(), entries.size(), told.raw(), told.count(), raw, many);
     };
     const Status status = inside::open_all(handles, inside::allowed(count), [&] { told.allocate(); }, open);
     if (status == Status::ok) {

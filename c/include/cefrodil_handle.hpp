@@ -28,7 +28,7 @@ enum class Status : uint32_t {
     changed = CEFRODIL_CHANGED,
     held = CEFRODIL_HELD,
     closed = CEFRODIL_CLOSED,
-    kind = CEFRODIL_KIND,
+    holds = CEFRODIL_HOLDS,
     width = CEFRODIL_WIDTH,
     in_use = CEFRODIL_IN_USE,
     no_memory = CEFRODIL_NO_MEMORY,
@@ -40,12 +40,12 @@ enum class Status : uint32_t {
     bad_depth = CEFRODIL_BAD_DEPTH,
     bad_tries = CEFRODIL_BAD_TRIES,
     bad_limit = CEFRODIL_BAD_LIMIT,
-    bad_readers = CEFRODIL_BAD_READERS,
+    bad_handles = CEFRODIL_BAD_HANDLES,
     bad_count = CEFRODIL_BAD_COUNT,
     no_item = CEFRODIL_NO_ITEM,
     bad_shards = CEFRODIL_BAD_SHARDS,
     present = CEFRODIL_PRESENT,
-    not_last = CEFRODIL_NOT_LAST,
+    holds_not = CEFRODIL_HOLDS_NOT,
     processor = CEFRODIL_PROCESSOR,
     // The program is linked with an archive of another version, whose structs and calls may differ. Nothing was done.
     other_version = 1000,
@@ -187,7 +187,7 @@ struct Counting {
     // Like Handle::get_or_turn, but a value that is found is written where it stays.
     template <size_t Words>
     static Status get_or_turn(OpenHandle &handle, uint64_t key, std::array<uint64_t, Words> &value, cefrodil_reply &reply) noexcept {
-        const cefrodil_status status = cefrodil_get_or_desk_of_width(&handle.raw_, key, value.data(), Words, &reply);
+        const cefrodil_status status = cefrodil_get_or_turn_of_width(&handle.raw_, key, value.data(), Words, &reply);
         handle.counter_.looked(status);
         return static_cast<Status>(status);
     }

@@ -88,7 +88,7 @@ template <class K, class V, class Hash = SipHash<K>> class map {
     map() noexcept {}
 
     // Opens the map, empty. Unless ok, nothing was done. in_use: it is open. no_memory. no_random: the kernel gave no secret. other_version: the
-    // archive is another version's. processor: it is older than x86-64-v2. bad_shards, bad_readers: `shards` or `passes` is out of range. bad_items:
+    // archive is another version's. processor: it is older than x86-64-v2. bad_shards, bad_handles: `shards` or `passes` is out of range. bad_items:
     // no entries, as by open({0}), or too many: a shard holds up to 3,774,873.
     [[nodiscard]] Status open(const MapOptions &options, Hash hash = Hash()) noexcept {
         if (inner_) {

@@ -277,7 +277,7 @@ template <size_t Words> class Turns {
             return Status::other_version;
         }
         cefrodil_shape shape{};
-        const auto status = static_cast<Status>(cefrodil_shape_for_shards(entries, shards, &shape));
+        const auto status = static_cast<Status>(cefrodil_shape_for_items(entries, shards, &shape));
         if (status != Status::ok) {
             return status;
         }

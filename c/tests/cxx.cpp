@@ -67,8 +67,8 @@ static_assert(noexcept(any<Writing<1>>().entries(any<Words>())) && noexcept(any<
 static void one_writes(const cefrodil_shape &shape) {
     std::vector<Handle<2>> handles;
     Writing<2> writing;
-    MUST(cefrodil::open(shape, 1, 0, handles) == Status::bad_readers && handles.empty());
-    MUST(cefrodil::open(shape, 1, size_t(1) << 40, handles) == Status::bad_readers && handles.empty());
+    MUST(cefrodil::open(shape, 1, 0, handles) == Status::bad_handles && handles.empty());
+    MUST(cefrodil::open(shape, 1, size_t(1) << 40, handles) == Status::bad_handles && handles.empty());
     MUST(cefrodil::open(shape, 1, 3, handles) == Status::ok && handles.size() == 3 && handles[1].is_open());
     MUST(handles[0].get(1).status == Status::absent && !handles[0].get(1).value);
     MUST(writing.put(1, {7, 8}).status == Status::closed && writing.own(std::move(handles[2])) == Status::ok && !handles[2].is_open());
@@ -129,7 +129,7 @@ static void opened_with(const cefrodil_shape &part) {
     MUST(cefrodil::open_with(part, 3, 1, list, handles, statuses) == Status::bad_count && handles.size() == 2 && statuses.size() == 4);
     list.pop_back();
     MUST(cefrodil::open_with(part, 3, 1, list, handles, statuses) == Status::bad_shards && handles[1].is_open() && statuses.size() == 4);
-    MUST(cefrodil::open_with(part, 4, 0, list, others, statuses) == Status::bad_readers && others.size() == 1);
+    MUST(cefrodil::open_with(part, 4, 0, list, others, statuses) == Status::bad_handles && others.size() == 1);
     MUST(cefrodil::open_with(part, 4, 2, {}, others, statuses) == Status::ok && statuses.empty() && others.size() == 2);
 }
 

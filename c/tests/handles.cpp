@@ -14,7 +14,7 @@ static cefrodil_status noted_put_within(cefrodil_handle *handle, uint32_t tries,
     reply->at = answer == CEFRODIL_OK ? 3 : 0;
     return answer;
 }
-static cefrodil_status noted_get_or_desk(cefrodil_handle *handle, uint64_t key, uint64_t *value, size_t words, cefrodil_reply *reply) {
+static cefrodil_status noted_get_or_turn(cefrodil_handle *handle, uint64_t key, uint64_t *value, size_t words, cefrodil_reply *reply) {
     called = handle, look_calls++;
     MUST(key == 7 && words == 2);
     *reply = cefrodil_reply{};
@@ -22,7 +22,7 @@ static cefrodil_status noted_get_or_desk(cefrodil_handle *handle, uint64_t key, 
     return answer;
 }
 #define cefrodil_put_within noted_put_within
-#define cefrodil_get_or_desk_of_width noted_get_or_desk
+#define cefrodil_get_or_turn_of_width noted_get_or_turn
 #include "cefrodil.hpp"
 
 using cefrodil::Status;

@@ -55,8 +55,8 @@ static_assert(!noexcept(any<map<int, int, Throwing>>().find(1)) && !noexcept(any
 
 static void openings() {
     Numbers numbers;
-    MUST(numbers.open({0}) == Status::bad_items && numbers.open({100, 3}) == Status::bad_shards && numbers.open({100, 4, 0}) == Status::bad_readers);
-    MUST(numbers.open({100, 4, 1025}) == Status::bad_readers && !numbers.is_open() && numbers.capacity() == 0);
+    MUST(numbers.open({0}) == Status::bad_items && numbers.open({100, 3}) == Status::bad_shards && numbers.open({100, 4, 0}) == Status::bad_handles);
+    MUST(numbers.open({100, 4, 1025}) == Status::bad_handles && !numbers.is_open() && numbers.capacity() == 0);
     MUST(numbers.find(1) == std::nullopt && numbers.get(1).status == Status::closed && !numbers.contains(1) && numbers.size() == 0);
     MUST(numbers.insert(1, 1).status == Status::closed && numbers.insert_or_assign(1, 1).status == Status::closed);
     std::optional<uint64_t> found[2] = {1, 2};
@@ -71,7 +71,7 @@ static void openings() {
     MUST(usual.entries == 100 && usual.shards == 16 && usual.passes == 64 && usual.tries == 10000);
     MUST(numbers.open({100, 4, 1024}) == Status::ok && numbers.open({100}) == Status::in_use && numbers.is_open());
     cefrodil_shape shape{};
-    MUST(cefrodil_shape_for_shards(100, 4, &shape) == CEFRODIL_OK && numbers.capacity() == 4 * shape.items);
+    MUST(cefrodil_shape_for_items(100, 4, &shape) == CEFRODIL_OK && numbers.capacity() == 4 * shape.items);
     MUST(numbers.insert(1, 10).status == Status::ok && numbers.find(1) == 10u && !numbers.find(2));
     const cefrodil::Counts counts = numbers.meter().counts();
     MUST(counts.hits == 1 && counts.misses == 1 && counts.held == 0);

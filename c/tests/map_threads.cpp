@@ -48,7 +48,7 @@ template <class Change> static Status surely(Change change) {
 static void passes() {
     cefrodil_shape shape{};
     cefrodil::inside::Passes<1> two;
-    MUST(cefrodil_shape_for_shards(100, 1, &shape) == CEFRODIL_OK && two.open(shape, 1, 2) == Status::ok && two.free_count() == 1);
+    MUST(cefrodil_shape_for_items(100, 1, &shape) == CEFRODIL_OK && two.open(shape, 1, 2) == Status::ok && two.free_count() == 1);
     using Slot = cefrodil::inside::Slot<1>;
     const auto is_own = [&](Slot &slot) { return &slot.handle != &two.shared(); };
     for (int round = 0; round < 20; round++) {
@@ -129,7 +129,7 @@ struct CalledLast {
 static void passes_at_the_end() {
     cefrodil_shape shape{};
     cefrodil::inside::Passes<1> two;
-    MUST(cefrodil_shape_for_shards(100, 1, &shape) == CEFRODIL_OK && two.open(shape, 1, 2) == Status::ok);
+    MUST(cefrodil_shape_for_items(100, 1, &shape) == CEFRODIL_OK && two.open(shape, 1, 2) == Status::ok);
     std::thread([&] {
         static thread_local CalledLast last; // before the first call, so it goes after what that call makes
         last.passes = &two;

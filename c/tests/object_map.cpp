@@ -40,8 +40,8 @@ static void any_types() {
     object_map<std::string, std::unique_ptr<std::string>> names;
     MUST(!names.is_open() && names.look("a", [](const auto &) {}) == Status::closed && names.erase("a") == Status::closed);
     MUST(names.insert("a", nullptr).status == Status::closed && names.size() == 0 && names.free_unused() == 0 && names.close() == Status::closed);
-    MUST(names.open({100, 16, 0}) == Status::bad_readers && names.open({100, 3}) == Status::bad_shards && !names.is_open());
-    MUST(names.open({100, 16, 4000000000}) == Status::bad_readers && names.open({0}) == Status::bad_items);
+    MUST(names.open({100, 16, 0}) == Status::bad_handles && names.open({100, 3}) == Status::bad_shards && !names.is_open());
+    MUST(names.open({100, 16, 4000000000}) == Status::bad_handles && names.open({0}) == Status::bad_items);
     MUST(names.open({100}) == Status::ok && names.open({100}) == Status::in_use);
     MUST(names.insert(std::string(1000, 'k'), std::make_unique<std::string>(100000, 'v')).status == Status::ok);
     size_t size = 0;

@@ -1,4 +1,4 @@
-// Whether entries are listed with their stamps. The archive of 0.2 doesn't list those of shards (CEFRODIL_KIND); that of 0.3 does. Set it to 1 for
+// Whether entries are listed with their stamps. The archive of 0.2 doesn't list those of shards (CEFRODIL_HOLDS); that of 0.3 does. Set it to 1 for
 // that one.
 #ifndef STAMPS_HPP
 #define STAMPS_HPP

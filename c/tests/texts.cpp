@@ -7,11 +7,11 @@
 using cefrodil::Status;
 
 static const Status statuses[] = {Status::ok,          Status::absent,      Status::busy,        Status::no_path,   Status::all_recent,
-                                  Status::spent,       Status::changed,     Status::held,        Status::closed,    Status::kind,
+                                  Status::spent,       Status::changed,     Status::held,        Status::closed,    Status::holds,
                                   Status::width,       Status::in_use,      Status::no_memory,   Status::bad_words, Status::bad_mix,
                                   Status::bad_buckets, Status::bad_items,   Status::bad_stripes, Status::bad_depth, Status::bad_tries,
-                                  Status::bad_limit,   Status::bad_readers, Status::bad_count,   Status::no_item,   Status::bad_shards,
-                                  Status::present,     Status::not_last,    Status::processor};
+                                  Status::bad_limit,   Status::bad_handles, Status::bad_count,   Status::no_item,   Status::bad_shards,
+                                  Status::present,     Status::holds_not,    Status::processor};
 
 int main() {
     size_t next = 0;

@@ -14,9 +14,9 @@ static bool is_disturbed() {
     made++;
     return disturbed != 0 && disturbed-- != 0;
 }
-static cefrodil_status some_get_or_desk(cefrodil_handle *pass, uint64_t key, uint64_t *value, size_t words, cefrodil_reply *reply) {
+static cefrodil_status some_get_or_turn(cefrodil_handle *pass, uint64_t key, uint64_t *value, size_t words, cefrodil_reply *reply) {
     *reply = cefrodil_reply{};
-    return is_disturbed() ? cefrodil_status(CEFRODIL_BUSY) : cefrodil_get_or_desk_of_width(pass, key, value, words, reply);
+    return is_disturbed() ? cefrodil_status(CEFRODIL_BUSY) : cefrodil_get_or_turn_of_width(pass, key, value, words, reply);
 }
 static cefrodil_status some_put(cefrodil_handle *pass, uint64_t key, const uint64_t *value, size_t words, cefrodil_reply *reply) {
     *reply = cefrodil_reply{};
@@ -38,7 +38,7 @@ static void remove_before_condition(cefrodil_handle *pass, uint64_t key, cefrodi
 static cefrodil_status some_take_if(cefrodil_handle *pass, uint64_t key, uint64_t since, uint64_t *old, size_t words, cefrodil_reply *reply) {
     if (overtaken != 0) {
         overtaken--;
-        MUST(cefrodil_get_or_desk_of_width(pass, key, old, words, reply) == CEFRODIL_OK);
+        MUST(cefrodil_get_or_turn_of_width(pass, key, old, words, reply) == CEFRODIL_OK);
         MUST(cefrodil_put_of_width(pass, key, old, words, reply) == CEFRODIL_OK);
     }
     remove_before_condition(pass, key, reply);
@@ -48,7 +48,7 @@ static cefrodil_status some_put_if(cefrodil_handle *pass, uint64_t key, uint64_t
     if (overtaken_puts != 0) {
         overtaken_puts--;
         uint64_t same[2];
-        MUST(words == 2 && cefrodil_get_or_desk_of_width(pass, key, same, 2, reply) == CEFRODIL_OK);
+        MUST(words == 2 && cefrodil_get_or_turn_of_width(pass, key, same, 2, reply) == CEFRODIL_OK);
         MUST(cefrodil_put_of_width(pass, key, same, 2, reply) == CEFRODIL_OK);
     }
     remove_before_condition(pass, key, reply);
@@ -89,7 +89,7 @@ static cefrodil_status some_get_many(cefrodil_handle *pass, const uint64_t *keys
     }
     return status;
 }
-#define cefrodil_get_or_desk_of_width some_get_or_desk
+#define cefrodil_get_or_turn_of_width some_get_or_turn
 #define cefrodil_put_of_width some_put
 #define cefrodil_get_many_or_none some_get_many
 #define cefrodil_entries_or_none some_entries

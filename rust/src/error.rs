@@ -138,7 +138,7 @@ impl OpenError {
             raw::BAD_DEPTH => OpenError::Depth,
             raw::BAD_TRIES => OpenError::Tries,
             raw::BAD_LIMIT => OpenError::Limit,
-            raw::BAD_READERS => OpenError::Handles,
+            raw::BAD_HANDLES => OpenError::Handles,
             raw::NO_MEMORY => OpenError::NoMemory,
             // The width is from 1 to 8 by the type, the mix by its own, and the handles were empty.
             other => unreachable!("an opening gives no status {other}"),

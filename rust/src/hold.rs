@@ -65,7 +65,7 @@ impl<const WORDS: usize> Handle<WORDS> {
         match self.0.hold() {
             raw::HELD => Err(Held),
             // It holds already if an earlier `Writing` was forgotten.
-            raw::OK | raw::KIND => Ok(()),
+            raw::OK | raw::HOLDS => Ok(()),
             other => reply::not_told(other),
         }
     }

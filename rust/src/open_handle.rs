@@ -130,9 +130,9 @@ impl OpenHandle {
         let (handle, words, told) = (&mut self.raw, value.as_mut_ptr(), &mut reply);
         // SAFETY: as in `get`.
         let status = unsafe {
-            of_width!(WORDS, (handle, key, words, told), raw::cefrodil_get_or_desk, {
-                1 cefrodil_get_or_desk_1, 2 cefrodil_get_or_desk_2, 3 cefrodil_get_or_desk_3, 4 cefrodil_get_or_desk_4,
-                5 cefrodil_get_or_desk_5, 6 cefrodil_get_or_desk_6, 7 cefrodil_get_or_desk_7, 8 cefrodil_get_or_desk_8
+            of_width!(WORDS, (handle, key, words, told), raw::cefrodil_get_or_turn, {
+                1 cefrodil_get_or_turn_1, 2 cefrodil_get_or_turn_2, 3 cefrodil_get_or_turn_3, 4 cefrodil_get_or_turn_4,
+                5 cefrodil_get_or_turn_5, 6 cefrodil_get_or_turn_6, 7 cefrodil_get_or_turn_7, 8 cefrodil_get_or_turn_8
             })
         };
         self.counter.looked(status);

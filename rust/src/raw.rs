@@ -54,7 +54,7 @@ pub const ALL_RECENT: u32 = 4;
 pub const SPENT: u32 = 5;
 pub const CHANGED: u32 = 6;
 pub const HELD: u32 = 7;
-pub const KIND: u32 = 9;
+pub const HOLDS: u32 = 9;
 pub const NO_MEMORY: u32 = 12;
 pub const BAD_BUCKETS: u32 = 15;
 pub const BAD_ITEMS: u32 = 16;
@@ -62,7 +62,7 @@ pub const BAD_STRIPES: u32 = 17;
 pub const BAD_DEPTH: u32 = 18;
 pub const BAD_TRIES: u32 = 19;
 pub const BAD_LIMIT: u32 = 20;
-pub const BAD_READERS: u32 = 21;
+pub const BAD_HANDLES: u32 = 21;
 pub const NO_ITEM: u32 = 23;
 pub const BAD_SHARDS: u32 = 24;
 pub const PRESENT: u32 = 25;
@@ -78,68 +78,42 @@ macro_rules! of_series {
     };
 }
 
-// No call is made of some: `.ci/prototypes` compares the declarations with the header.
-#[allow(dead_code)]
 unsafe extern "C" {
     pub fn cefrodil_version() -> u32;
     #[link_name = of_series!("cefrodil_shape_for_items")]
-    pub fn cefrodil_shape_for_items(items: u32, shape: *mut RawShape) -> u32;
-    #[link_name = of_series!("cefrodil_shape_for_shards")]
-    pub fn cefrodil_shape_for_shards(items: u32, shards: u32, shape: *mut RawShape) -> u32;
+    pub fn cefrodil_shape_for_items(items: u32, shards: u32, shape: *mut RawShape) -> u32;
     #[link_name = of_series!("cefrodil_open")]
     pub fn cefrodil_open(
         shape: *const RawShape,
+        shards: u32,
         words: usize,
-        writer: *mut RawHandle,
-        readers: *mut RawHandle,
-        reader_count: usize,
+        handles: *mut RawHandle,
+        count: usize,
     ) -> u32;
     #[link_name = of_series!("cefrodil_open_with")]
     pub fn cefrodil_open_with(
         shape: *const RawShape,
-        words: usize,
-        entries: *const u64,
-        entry_words: usize,
-        statuses: *mut u32,
-        status_count: usize,
-        writer: *mut RawHandle,
-        readers: *mut RawHandle,
-        reader_count: usize,
-    ) -> u32;
-    #[link_name = of_series!("cefrodil_open_desk")]
-    pub fn cefrodil_open_desk(shape: *const RawShape, words: usize, passes: *mut RawHandle, pass_count: usize) -> u32;
-    pub fn cefrodil_make_desk(writer: *mut RawHandle, passes: *mut RawHandle, pass_count: usize) -> u32;
-    #[link_name = of_series!("cefrodil_open_shards")]
-    pub fn cefrodil_open_shards(
-        shape: *const RawShape,
-        shards: u32,
-        words: usize,
-        passes: *mut RawHandle,
-        pass_count: usize,
-    ) -> u32;
-    #[link_name = of_series!("cefrodil_open_shards_with")]
-    pub fn cefrodil_open_shards_with(
-        shape: *const RawShape,
         shards: u32,
         words: usize,
         entries: *const u64,
         entry_words: usize,
         statuses: *mut u32,
         status_count: usize,
-        passes: *mut RawHandle,
-        pass_count: usize,
+        handles: *mut RawHandle,
+        count: usize,
     ) -> u32;
-    pub fn cefrodil_get(reader: *mut RawHandle, key: u64, value: *mut u64, words: usize, reply: *mut RawReply) -> u32;
-    pub fn cefrodil_get_1(reader: *mut RawHandle, key: u64, value: *mut u64, reply: *mut RawReply) -> u32;
-    pub fn cefrodil_get_2(reader: *mut RawHandle, key: u64, value: *mut u64, reply: *mut RawReply) -> u32;
-    pub fn cefrodil_get_3(reader: *mut RawHandle, key: u64, value: *mut u64, reply: *mut RawReply) -> u32;
-    pub fn cefrodil_get_4(reader: *mut RawHandle, key: u64, value: *mut u64, reply: *mut RawReply) -> u32;
-    pub fn cefrodil_get_5(reader: *mut RawHandle, key: u64, value: *mut u64, reply: *mut RawReply) -> u32;
-    pub fn cefrodil_get_6(reader: *mut RawHandle, key: u64, value: *mut u64, reply: *mut RawReply) -> u32;
-    pub fn cefrodil_get_7(reader: *mut RawHandle, key: u64, value: *mut u64, reply: *mut RawReply) -> u32;
-    pub fn cefrodil_get_8(reader: *mut RawHandle, key: u64, value: *mut u64, reply: *mut RawReply) -> u32;
+    pub fn cefrodil_more(handle: *mut RawHandle, handles: *mut RawHandle, count: usize) -> u32;
+    pub fn cefrodil_get(handle: *mut RawHandle, key: u64, value: *mut u64, words: usize, reply: *mut RawReply) -> u32;
+    pub fn cefrodil_get_1(handle: *mut RawHandle, key: u64, value: *mut u64, reply: *mut RawReply) -> u32;
+    pub fn cefrodil_get_2(handle: *mut RawHandle, key: u64, value: *mut u64, reply: *mut RawReply) -> u32;
+    pub fn cefrodil_get_3(handle: *mut RawHandle, key: u64, value: *mut u64, reply: *mut RawReply) -> u32;
+    pub fn cefrodil_get_4(handle: *mut RawHandle, key: u64, value: *mut u64, reply: *mut RawReply) -> u32;
+    pub fn cefrodil_get_5(handle: *mut RawHandle, key: u64, value: *mut u64, reply: *mut RawReply) -> u32;
+    pub fn cefrodil_get_6(handle: *mut RawHandle, key: u64, value: *mut u64, reply: *mut RawReply) -> u32;
+    pub fn cefrodil_get_7(handle: *mut RawHandle, key: u64, value: *mut u64, reply: *mut RawReply) -> u32;
+    pub fn cefrodil_get_8(handle: *mut RawHandle, key: u64, value: *mut u64, reply: *mut RawReply) -> u32;
     pub fn cefrodil_get_many(
-        reader: *mut RawHandle,
+        handle: *mut RawHandle,
         keys: *const u64,
         key_count: usize,
         values: *mut u64,
@@ -147,15 +121,15 @@ unsafe extern "C" {
         answers: *mut RawAnswer,
         answer_count: usize,
     ) -> u32;
-    pub fn cefrodil_get_or_desk(pass: *mut RawHandle, key: u64, value: *mut u64, words: usize, reply: *mut RawReply) -> u32;
-    pub fn cefrodil_get_or_desk_1(pass: *mut RawHandle, key: u64, value: *mut u64, reply: *mut RawReply) -> u32;
-    pub fn cefrodil_get_or_desk_2(pass: *mut RawHandle, key: u64, value: *mut u64, reply: *mut RawReply) -> u32;
-    pub fn cefrodil_get_or_desk_3(pass: *mut RawHandle, key: u64, value: *mut u64, reply: *mut RawReply) -> u32;
-    pub fn cefrodil_get_or_desk_4(pass: *mut RawHandle, key: u64, value: *mut u64, reply: *mut RawReply) -> u32;
-    pub fn cefrodil_get_or_desk_5(pass: *mut RawHandle, key: u64, value: *mut u64, reply: *mut RawReply) -> u32;
-    pub fn cefrodil_get_or_desk_6(pass: *mut RawHandle, key: u64, value: *mut u64, reply: *mut RawReply) -> u32;
-    pub fn cefrodil_get_or_desk_7(pass: *mut RawHandle, key: u64, value: *mut u64, reply: *mut RawReply) -> u32;
-    pub fn cefrodil_get_or_desk_8(pass: *mut RawHandle, key: u64, value: *mut u64, reply: *mut RawReply) -> u32;
+    pub fn cefrodil_get_or_turn(handle: *mut RawHandle, key: u64, value: *mut u64, words: usize, reply: *mut RawReply) -> u32;
+    pub fn cefrodil_get_or_turn_1(handle: *mut RawHandle, key: u64, value: *mut u64, reply: *mut RawReply) -> u32;
+    pub fn cefrodil_get_or_turn_2(handle: *mut RawHandle, key: u64, value: *mut u64, reply: *mut RawReply) -> u32;
+    pub fn cefrodil_get_or_turn_3(handle: *mut RawHandle, key: u64, value: *mut u64, reply: *mut RawReply) -> u32;
+    pub fn cefrodil_get_or_turn_4(handle: *mut RawHandle, key: u64, value: *mut u64, reply: *mut RawReply) -> u32;
+    pub fn cefrodil_get_or_turn_5(handle: *mut RawHandle, key: u64, value: *mut u64, reply: *mut RawReply) -> u32;
+    pub fn cefrodil_get_or_turn_6(handle: *mut RawHandle, key: u64, value: *mut u64, reply: *mut RawReply) -> u32;
+    pub fn cefrodil_get_or_turn_7(handle: *mut RawHandle, key: u64, value: *mut u64, reply: *mut RawReply) -> u32;
+    pub fn cefrodil_get_or_turn_8(handle: *mut RawHandle, key: u64, value: *mut u64, reply: *mut RawReply) -> u32;
     pub fn cefrodil_peek(handle: *mut RawHandle, key: u64, value: *mut u64, words: usize, reply: *mut RawReply) -> u32;
     pub fn cefrodil_put(handle: *mut RawHandle, key: u64, value: *const u64, words: usize, reply: *mut RawReply) -> u32;
     pub fn cefrodil_put_1(handle: *mut RawHandle, key: u64, value: *const u64, reply: *mut RawReply) -> u32;
@@ -222,9 +196,8 @@ unsafe extern "C" {
         old_words: usize,
         reply: *mut RawReply,
     ) -> u32;
-    pub fn cefrodil_leave_desk(pass: *mut RawHandle, writer: *mut RawHandle) -> u32;
-    pub fn cefrodil_hold(pass: *mut RawHandle) -> u32;
-    pub fn cefrodil_release(holder: *mut RawHandle) -> u32;
+    pub fn cefrodil_hold(handle: *mut RawHandle) -> u32;
+    pub fn cefrodil_release(handle: *mut RawHandle) -> u32;
     pub fn cefrodil_moment(handle: *mut RawHandle, moment: *mut u64) -> u32;
     pub fn cefrodil_len(handle: *mut RawHandle, len: *mut u64) -> u32;
     pub fn cefrodil_capacity(handle: *mut RawHandle, capacity: *mut u64) -> u32;

@@ -55,7 +55,7 @@ impl Shape {
         same_version()?;
         let mut shape = RawShape { limit: 0, buckets: 0, items: 0, stripes: 0, depth: 0, tries: 0, mix: 0 };
         // SAFETY: `shape` is a borrow that lasts for the call.
-        let status = unsafe { raw::cefrodil_shape_for_shards(items, shards, &mut shape) };
+        let status = unsafe { raw::cefrodil_shape_for_items(items, shards, &mut shape) };
         if status != raw::OK {
             return Err(OpenError::of(status));
         }

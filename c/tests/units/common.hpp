@@ -22,8 +22,8 @@ using Addresses = std::array<Address, 13>;
 #define ADDRESSES_HERE \
     Addresses { \
         {reinterpret_cast<Address>(cefrodil_empty), reinterpret_cast<Address>(cefrodil_move), reinterpret_cast<Address>(cefrodil_get_of_width), \
-         reinterpret_cast<Address>(cefrodil_put_of_width), reinterpret_cast<Address>(cefrodil_get_or_desk_of_width), \
-         reinterpret_cast<Address>(cefrodil_close_unless_null), reinterpret_cast<Address>(cefrodil_open_shards_with_or_none), \
+         reinterpret_cast<Address>(cefrodil_put_of_width), reinterpret_cast<Address>(cefrodil_get_or_turn_of_width), \
+         reinterpret_cast<Address>(cefrodil_close_unless_null), reinterpret_cast<Address>(cefrodil_open_with_or_none), \
          reinterpret_cast<Address>(cefrodil_get_many_or_none), \
          reinterpret_cast<Address>(cefrodil_list_without_room), reinterpret_cast<Address>(cefrodil_entries_or_none), \
          reinterpret_cast<Address>(cefrodil_stamped_entries_or_none), reinterpret_cast<Address>(cefrodil_text), reinterpret_cast<Address>(serves)} \

@@ -33,7 +33,7 @@ pub struct Program<'a> {
     pub example: &'a str,
 }
 
-pub(crate) const VERSION: &str = "0.2.0";
+pub(crate) const VERSION: &str = "0.3.0";
 
 /// What the help says of scripts, after the options and before the example's command.
 const SCRIPTS: &str = "\

@@ -11,7 +11,7 @@ use std::alloc::Global;
 use std::process::ExitCode;
 use std::{env, fs, io};
 
-const VERSION: &str = "0.2.0";
+const VERSION: &str = "0.3.0";
 
 const USAGE: &str = "usage: mccheck LOG..";
 

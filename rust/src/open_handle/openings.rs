@@ -42,7 +42,7 @@ impl<const WORDS: usize> Opening<WORDS> {
 pub fn open<const WORDS: usize>(shape: &RawShape, shards: u32, handles: usize) -> Result<Vec<Handle<WORDS>>, OpenError> {
     let mut all = Opening::of(handles)?;
     // SAFETY: `all.raw` is an array of as many empty handles as are passed with it.
-    let status = unsafe { raw::cefrodil_open_shards(shape, shards, WORDS, all.raw.as_mut_ptr(), all.raw.len()) };
+    let status = unsafe { raw::cefrodil_open(shape, shards, WORDS, all.raw.as_mut_ptr(), all.raw.len()) };
     all.opened(status)
 }
 
@@ -57,7 +57,7 @@ pub fn open_with<const WORDS: usize>(
     let Loads { words, statuses } = loads;
     // SAFETY: as in `open`; the lengths of the two arrays are passed with them.
     let status = unsafe {
-        raw::cefrodil_open_shards_with(
+        raw::cefrodil_open_with(
             shape,
             shards,
             WORDS,
