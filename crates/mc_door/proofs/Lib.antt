@@ -3,3 +3,4 @@ pub mod MoreEntries
 pub mod ListedWords
 pub mod AnySideLists
 pub mod ManyPuts
+pub mod HeldPuts

@@ -20,8 +20,8 @@ impl<const V: usize> Side<V> {
         V
     }
 
-    /// What the cache holds of the key: `Pass::get` or `Holder::get`. The value is written only if the key was found. The lookup of a pass
-    /// shares no registers with that of a holder.
+    /// What the cache holds of the key: `Pass::get` or `Holder::get`. The value is written only if the key was found. The lookup of a
+    /// pass of a single shard is compiled into its caller, and shares no registers with the others.
     #[inline(always)]
     pub fn get(&mut self, key: u64, value: &mut [u64], reply: &mut RawReply) -> u32
         requires { IsWidth V }
@@ -30,6 +30,20 @@ impl<const V: usize> Side<V> {
         if value.len() != V {
             return refused(WIDTH, reply);
         }
+        match &mut self.hand {
+            Hand::Pass(side) if side.shared.shards.is_single() => {
+                side.get_in_single(key, value, reply)
+            }
+            _ => self.get_of_any(key, value, reply),
+        }
+    }
+
+    #[inline(never)]
+    fn get_of_any(&mut self, key: u64, value: &mut [u64], reply: &mut RawReply) -> u32
+        requires width { IsWidth V }
+        requires value { length value.old ≡ V }
+        ensures { GetTells V (role_of self.old) (role_of self.new) (self.new ≡ self.old) key value.old value.new (record { status = result; reply = reply.new }) }
+    {
         match &mut self.hand {
             Hand::Pass(side) => side.get(key, value, reply),
             Hand::Holder(side) => side.get(key, value, reply),
@@ -53,7 +67,7 @@ impl<const V: usize> Side<V> {
         }
     }
 
-    /// `write` of a put. That of a holder is compiled into its caller, and shares no registers with that of a pass.
+    /// `write` of a put. That of a holder of a single shard is compiled into its caller, and shares no registers with the others.
     #[inline(always)]
     pub fn put(&mut self, key: u64, value: &[u64], reply: &mut RawReply) -> u32
         ensures { WriteTells V (role_of self.old) (role_of self.new) (self.new ≡ self.old) key Write.Put value.now (record { status = result; reply = reply.new }) }
@@ -62,8 +76,21 @@ impl<const V: usize> Side<V> {
             return refused(WIDTH, reply);
         }
         match &mut self.hand {
+            Hand::Holder(side) if side.shared.shards.is_single() => {
+                side.put_in_single(key, value, reply)
+            }
+            _ => self.put_apart(key, value, reply),
+        }
+    }
+
+    #[inline(never)]
+    fn put_apart(&mut self, key: u64, value: &[u64], reply: &mut RawReply) -> u32
+        requires { length value.now ≡ V }
+        ensures { WriteTells V (role_of self.old) (role_of self.new) (self.new ≡ self.old) key Write.Put value.now (record { status = result; reply = reply.new }) }
+    {
+        match &mut self.hand {
+            Hand::Pass(side) => writes::put(side, key, value, reply),
             Hand::Holder(side) => writes::put(side, key, value, reply),
-            Hand::Pass(side) => writes::put_apart(side, key, value, reply),
             Hand::Nothing => unreachable!(),
         }
     }

@@ -29,9 +29,8 @@ pub(crate) fn put<const V: usize, S: Caller<V>>(
     in_turn!(tried, reply, made => tell::put(made, reply))
 }
 
-/// The same, out of line.
 #[inline(never)]
-pub(crate) fn put_apart<const V: usize, S: Caller<V>>(
+fn put_apart<const V: usize, S: Caller<V>>(
     side: &mut S,
     key: u64,
     value: &[u64],

@@ -1,5 +1,5 @@
 //! The caches of the shards, and where their writers are.
-ghost use Rattle.std.specs.Prelude.{◌≡◌, ◌<◌, ◌*◌, Some, length, map, slice_get};
+ghost use Rattle.std.specs.Prelude.{ℕ, ◌≡◌, ◌<◌, ◌*◌, ◌≤◌, Some, true, length, map, slice_get};
 ghost use Rattle.mc_shards.specs.Lending.{table_of};
 ghost use Rattle.mc_shards.specs.Sharded.{shard_in};
 
@@ -55,14 +55,23 @@ impl<const V: usize> Shards<V> {
         self.shape.items as usize * self.count() as usize
     }
 
+    /// Whether there is one shard alone, which has every key.
+    #[inline(always)]
+    pub fn is_single(&self) -> bool
+        ensures every { result ≡ true → (key : ℕ) → shard_in self.now key ≡ 0 }
+        ensures one { result ≡ true → 1 ≡ length self.now.tables }
+    {
+        self.count() == 1
+    }
+
     /// The number of the key's shard, from 0.
     #[inline(always)]
     pub fn shard_of(&self, key: u64) -> usize
         ensures shard { result ≡ shard_in self.now key }
         ensures range { result < length self.now.tables }
     {
-        // One shard has every key, so nothing is mixed for it.
-        if self.count() == 1 {
+        // Nothing is mixed for one shard.
+        if self.is_single() {
             return 0;
         }
         self.shape.mix.shard(key, self.count()) as usize
@@ -71,7 +80,7 @@ impl<const V: usize> Shards<V> {
     /// Loads ahead the words that lookups of the first of these keys will read, of `GROUP` keys at most: `Cache::touch_ahead`. Where there are
     /// several shards it does nothing: they are seldom large enough for it to pay.
     pub fn touch_ahead(&self, keys: &[u64]) {
-        if self.count() == 1 {
+        if self.is_single() {
             self.cache(0).touch_ahead(keys);
         }
     }
