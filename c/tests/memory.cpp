@@ -3,7 +3,6 @@
 #include "cefrodil_filler.hpp"
 #include "cefrodil_object_map.hpp"
 #include "must.h"
-#include "stamps.hpp"
 #include <chrono>
 #include <cstdlib>
 #include <new>
@@ -105,14 +104,10 @@ template <class List> static void lists(size_t words, List list) {
 static void lists_of(std::vector<Handle<1>> &handles) {
     Writing<1> writing;
     lists(2, [&](std::vector<uint64_t> &list) { return handles[1].try_entries(list); });
-    if (LISTS_STAMPS) {
-        lists(3, [&](std::vector<uint64_t> &list) { return handles[1].try_stamped_entries(list); });
-    }
+    lists(3, [&](std::vector<uint64_t> &list) { return handles[1].try_stamped_entries(list); });
     MUST(handles[0].hold(writing) == Status::ok);
     lists(2, [&](std::vector<uint64_t> &list) { return writing.entries(list); });
-    if (LISTS_STAMPS) {
-        lists(3, [&](std::vector<uint64_t> &list) { return writing.stamped_entries(list); });
-    }
+    lists(3, [&](std::vector<uint64_t> &list) { return writing.stamped_entries(list); });
 }
 
 static void openings(uint32_t shards) {
@@ -187,7 +182,7 @@ static void each_call_is_held() {
     MUST(is_held([&](auto &handle) { return handle.try_len(len); }) && len == 99);
     MUST(is_held([&](auto &handle) { return handle.try_moment(len); }) && len == 99);
     MUST(is_held([&](auto &handle) { return handle.try_entries(list); }) && list.empty());
-    MUST(!LISTS_STAMPS || (is_held([&](auto &handle) { return handle.try_stamped_entries(list); }) && list.empty()));
+    MUST(is_held([&](auto &handle) { return handle.try_stamped_entries(list); }) && list.empty());
     Writing<1> writing;
     MUST(is_held([&](auto &handle) { return handle.hold(writing); }) && !writing.holds());
     // Lookups need no turn.
