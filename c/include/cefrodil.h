@@ -182,8 +182,8 @@ CEFRODIL_SAME_SIZE(sizeof(cefrodil_status) == 4, "as the library returns it: com
 /* The version of the archive. Compare it with CEFRODIL_VERSION. */
 uint32_t cefrodil_version(void);
 
-/* Fills in the shape of each of `shards` shards that hold `items` items together. One shard gets just these. Of several, each gets its mean
- * share and five standard deviations more, because the hash gives some shards more keys than others.
+/* Fills in the shape of each of `shards` shards that hold `items` items together. One shard has room for just these. Each of several gets its
+ * mean share and five standard deviations more, because the hash gives some shards more keys than others.
  * OK, BAD_SHARDS, or BAD_ITEMS: no items, or more than 3,774,873 in a shard. Unless OK, the shape is unchanged. */
 CEFRODIL_CHECKED CEFRODIL_NO_NULL cefrodil_status cefrodil_shape_for_items(uint32_t items, uint32_t shards, cefrodil_shape *shape)
     CEFRODIL_OF_SERIES(cefrodil_shape_for_items);
