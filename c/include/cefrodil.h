@@ -154,7 +154,7 @@ typedef enum cefrodil_status {
                                * again. Put again, or leave the key uncached. Frequent only if the items are few; only recency bits changed */
     CEFRODIL_SPENT = 5,       /* the write could exceed the `limit` of the shape: open a new cache. 2^62 takes centuries */
     CEFRODIL_CHANGED = 6,     /* the key's last put was another one, at `since` */
-    CEFRODIL_HELD = 7,        /* the try for a turn did not win; nothing was done */
+    CEFRODIL_HELD = 7,        /* the try for a turn did not win, or that of cefrodil_more for spare handles; nothing was done */
     CEFRODIL_CLOSED = 8,      /* the handle is not open */
     CEFRODIL_HOLDS = 9,       /* the handle holds the turns already */
     CEFRODIL_WIDTH = 10,      /* values of this cache have another number of words */
