@@ -154,7 +154,7 @@ typedef enum cefrodil_status {
                                * again. Put again, or leave the key uncached. Frequent only if the items are few; only recency bits changed */
     CEFRODIL_SPENT = 5,       /* the write could exceed the `limit` of the shape: open a new cache. 2^62 takes centuries */
     CEFRODIL_CHANGED = 6,     /* the key's last put was another one, at `since` */
-    CEFRODIL_HELD = 7,        /* the try for a turn did not win; nothing was done */
+    CEFRODIL_HELD = 7,        /* the try for a turn did not win, or that of cefrodil_more for spare handles; nothing was done */
     CEFRODIL_CLOSED = 8,      /* the handle is not open */
     CEFRODIL_HOLDS = 9,       /* the handle holds the turns already */
     CEFRODIL_WIDTH = 10,      /* values of this cache have another number of words */
@@ -182,8 +182,8 @@ CEFRODIL_SAME_SIZE(sizeof(cefrodil_status) == 4, "as the library returns it: com
 /* The version of the archive. Compare it with CEFRODIL_VERSION. */
 uint32_t cefrodil_version(void);
 
-/* Fills in the shape of each of `shards` shards that hold `items` items together. A shard gets its mean share and five standard
- * deviations more, because the hash gives some shards more keys than others.
+/* Fills in the shape of each of `shards` shards that hold `items` items together. One shard has room for just these. Each of several gets its
+ * mean share and five standard deviations more, because the hash gives some shards more keys than others.
  * OK, BAD_SHARDS, or BAD_ITEMS: no items, or more than 3,774,873 in a shard. Unless OK, the shape is unchanged. */
 CEFRODIL_CHECKED CEFRODIL_NO_NULL cefrodil_status cefrodil_shape_for_items(uint32_t items, uint32_t shards, cefrodil_shape *shape)
     CEFRODIL_OF_SERIES(cefrodil_shape_for_items);
@@ -208,10 +208,11 @@ CEFRODIL_CHECKED CEFRODIL_NO_NULL cefrodil_status cefrodil_open_with(const cefro
                                                                      size_t status_count, cefrodil_handle *handles, size_t count)
     CEFRODIL_OF_SERIES(cefrodil_open_with);
 
-/* Opens `count` more handles of the cache that `handle` is of. A cache is opened with 64 spare handles, or as many as 1,024 in all allow. A
- * spare handle that was given out is used up, also after it is closed.
+/* Opens `count` more handles of the cache that `handle` is of. It needs no turn, so `handle` or another handle may hold them. A cache is
+ * opened with 64 spare handles, or as many as 1,024 in all allow. A spare handle that was given out is used up, also after it is closed.
  * OK: they are open. IN_USE: one of `handles` was open before. CLOSED: `handle` is not open. BAD_HANDLES: `count` is 0, or more than there
- * are to spare. HELD: another thread takes spare handles just now, or holds the turns. NO_MEMORY. Unless OK, nothing was done. */
+ * are to spare. HELD: another call takes spare handles at the same moment. NO_MEMORY: some spare handles may be used up. Unless OK, none of
+ * `handles` was opened. */
 CEFRODIL_CHECKED CEFRODIL_NO_NULL cefrodil_status cefrodil_more(cefrodil_handle *handle, cefrodil_handle *handles, size_t count);
 
 /* Looks a key up. By a handle that holds the turns it is never busy.

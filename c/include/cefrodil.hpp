@@ -162,7 +162,7 @@ template <size_t Words> class Writing : private inside::Calls<Words> {
     [[nodiscard]] Status stamped_entries(std::vector<uint64_t> &words) noexcept {
         return this->list(2 + Words, words, cefrodil_len, cefrodil_stamped_entries_or_none);
     }
-    using Calls::meter;
+    using Calls::meter, Calls::more;
     // The handle for calls of cefrodil.h other than cefrodil_release. These calls are not counted.
     using Calls::raw;
 
@@ -202,8 +202,7 @@ template <size_t Words> class Writing : private inside::Calls<Words> {
 // Opens a cache of `shards` shards with `count` handles, which replace those in `handles`. Unless ok, `handles` is unchanged.
 template <size_t Words>
 [[nodiscard]] Status open(const cefrodil_shape &shape, uint32_t shards, size_t count, std::vector<Handle<Words>> &handles) noexcept {
-    const auto grow = [] {};
-    return inside::open_all(handles, inside::allowed(count), grow, [&](cefrodil_handle *raw, size_t many) {
+    return inside::open_all(handles, inside::allowed(count), inside::new_lines, [&](cefrodil_handle *raw, size_t many) {
         return cefrodil_open(&shape, shards, Words, raw, many);
     });
 }
@@ -217,7 +216,11 @@ template <size_t Words>
     const auto open = [&](cefrodil_handle *raw, size_t many) {
         return cefrodil_open_with_or_none(&shape, shards, Words, entries.data(), entries.size(), told.raw(), told.count(), raw, many);
     };
-    const Status status = inside::open_all(handles, inside::allowed(count), [&] { told.allocate(); }, open);
+    const auto grow = [&] {
+        told.allocate();
+        return inside::new_lines();
+    };
+    const Status status = inside::open_all(handles, inside::allowed(count), grow, open);
     if (status == Status::ok) {
         told.move_to(statuses);
     }

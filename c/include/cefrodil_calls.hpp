@@ -12,6 +12,8 @@
 
 namespace cefrodil {
 
+template <size_t Words> class Handle;
+
 namespace inside {
 
 inline Written written(cefrodil_status status, const cefrodil_reply &reply) noexcept {
@@ -47,6 +49,14 @@ template <size_t Words> class Calls : public OpenHandle {
     }
     // The number of keys that all shards hold together at most.
     [[nodiscard]] Status capacity(uint64_t &number) noexcept { return static_cast<Status>(cefrodil_capacity(raw(), &number)); }
+    // Opens `count` more handles of the same cache, also while others work or hold. They replace those in `handles`, so take another vector than
+    // that of this handle. Each meter of the cache counts their calls, too. bad_handles: the cache has fewer to spare (cefrodil_more). held:
+    // another call takes spare handles at the same moment. no_memory: some may be used up. Unless ok, `handles` is unchanged.
+    [[nodiscard]] Status more(size_t count, std::vector<Handle<Words>> &handles) noexcept {
+        return open_all(handles, allowed(count), [&] { return Counting::lines(*this); }, [&](cefrodil_handle *opened, size_t many) {
+            return cefrodil_more(raw(), opened, many);
+        });
+    }
 
   protected:
     Calls() noexcept {}

@@ -77,29 +77,58 @@ class Stalls {
     std::atomic<uint64_t> number_{0};
 };
 
-// The lines of a cache's handles. The line of a handle that is closed keeps its numbers.
+// The lines of handles that were opened together.
+struct LineGroup {
+    explicit LineGroup(size_t handles) : lines(handles) {}
+
+    std::vector<Line> lines;
+    LineGroup *before = nullptr; // the group that was added before this one
+
+    void add_to(std::array<uint64_t, all_counted> &all) const noexcept {
+        for (const Line &line : lines) {
+            for (size_t which = 0; which < all_counted; which++) {
+                all[which] += line.numbers[which].load(std::memory_order_relaxed);
+            }
+        }
+    }
+};
+
+// The lines of a cache's handles, a group for each opening. The line of a handle that is closed keeps its numbers.
 class Lines {
   public:
-    explicit Lines(size_t handles) : lines_(handles) {}
+    Lines() noexcept = default;
+    Lines(const Lines &) = delete;
+    Lines &operator=(const Lines &) = delete;
+    ~Lines() {
+        LineGroup *group = last_.load(std::memory_order_relaxed);
+        while (group != nullptr) {
+            const std::unique_ptr<LineGroup> gone(group);
+            group = gone->before;
+        }
+    }
 
-    Line *line(size_t handle) noexcept { return &lines_[handle]; }
+    // Release: who sees the group sees its lines, and the groups before it.
+    void add(std::unique_ptr<LineGroup> group) noexcept {
+        LineGroup *const added = group.release();
+        added->before = last_.load(std::memory_order_relaxed);
+        while (!last_.compare_exchange_weak(added->before, added, std::memory_order_release, std::memory_order_relaxed)) {
+        }
+    }
     // In a forked child nothing is known of the parent's handles.
     Counts sum() const noexcept {
         if (!maker_.is_this_process()) {
             return {};
         }
         std::array<uint64_t, all_counted> all{};
-        for (const Line &line : lines_) {
-            for (size_t which = 0; which < all_counted; which++) {
-                all[which] += line.numbers[which].load(std::memory_order_relaxed);
-            }
+        for (const LineGroup *group = last_.load(std::memory_order_acquire); group != nullptr; group = group->before) {
+            group->add_to(all);
         }
         return {all[hits], all[misses], all[busy], all[held], all[evictions], all[refusals], stalls_.number(), stalls_.length()};
     }
     Stalls &stalls() noexcept { return stalls_; }
 
   private:
-    std::vector<Line> lines_;
+    std::atomic<LineGroup *> last_{nullptr};
     const Maker maker_{};
     Stalls stalls_{};
 };
@@ -108,7 +137,7 @@ class Lines {
 class Counter {
   public:
     Counter() noexcept = default;
-    Counter(std::shared_ptr<Lines> lines, size_t handle) noexcept : lines_(std::move(lines)), line_(lines_ ? lines_->line(handle) : nullptr) {}
+    Counter(std::shared_ptr<Lines> lines, Line *line) noexcept : lines_(std::move(lines)), line_(line) {}
     Counter(Counter &&other) noexcept : lines_(std::move(other.lines_)), line_(std::exchange(other.line_, nullptr)) {}
     Counter &operator=(Counter &&other) noexcept {
         lines_ = std::move(other.lines_);
@@ -159,10 +188,10 @@ class Counter {
     Line *line_ = nullptr;
 };
 
-// The lines of a cache that is to be opened with so many handles.
-inline std::shared_ptr<Lines> lines_for(size_t handles) {
+// The lines of a cache that is to be opened.
+inline std::shared_ptr<Lines> new_lines() {
     if constexpr (CEFRODIL_COUNTS != 0) {
-        return std::make_shared<Lines>(handles);
+        return std::make_shared<Lines>();
     } else {
         return nullptr;
     }

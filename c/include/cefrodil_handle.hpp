@@ -197,7 +197,7 @@ struct Counting {
 inline size_t allowed(size_t count) noexcept { return count <= 1024 ? count : 0; }
 
 // Opens `count` handles by a call of C, which takes an array of them. If it succeeds, they take the place of `handles`. All memory is taken
-// before the call: what `grow` takes, too. An archive of another version is not called.
+// before the call: what `grow` takes, too. It returns the lines of the cache. An archive of another version is not called.
 template <class Each, class Grow, class Open>
 [[nodiscard]] Status open_all(std::vector<Each> &handles, size_t count, Grow grow, Open open) noexcept {
     if (!same_version()) {
@@ -206,11 +206,12 @@ template <class Each, class Grow, class Open>
     std::vector<cefrodil_handle> raw;
     std::vector<Each> opened;
     std::shared_ptr<Lines> lines;
+    std::unique_ptr<LineGroup> group;
     const auto take_all = [&] {
         raw.resize(count != 0 ? count : 1);
         opened.resize(count);
-        lines = lines_for(count);
-        grow();
+        lines = grow();
+        group = lines ? std::make_unique<LineGroup>(count) : nullptr;
     };
     if (!has_memory(take_all)) {
         return Status::no_memory;
@@ -218,7 +219,10 @@ template <class Each, class Grow, class Open>
     const auto status = static_cast<Status>(open(raw.data(), count));
     if (status == Status::ok) {
         for (size_t i = 0; i < count; i++) {
-            Counting::open(opened[i], raw[i], Counter(lines, i));
+            Counting::open(opened[i], raw[i], Counter(lines, group ? &group->lines[i] : nullptr));
+        }
+        if (group) {
+            lines->add(std::move(group));
         }
         handles = std::move(opened);
     }

@@ -2,7 +2,6 @@
 // count is lost.
 #include "cefrodil.hpp"
 #include "must.h"
-#include "stamps.hpp"
 #include <chrono>
 #include <string>
 #include <thread>
@@ -221,9 +220,7 @@ static void work(Handle<1> &handle, Told &told, std::atomic<bool> &is_held) {
         told.listed(handle.try_len(number));
         told.listed(handle.try_moment(number));
         told.listed(handle.try_entries(list));
-        if (LISTS_STAMPS) {
-            told.listed(handle.try_stamped_entries(list));
-        }
+        told.listed(handle.try_stamped_entries(list));
         if (told.counts.held != 0) {
             is_held = true;
         }

@@ -53,6 +53,7 @@ static_assert(noexcept(any<Writing<1>>().put_if_absent(1, {1})) && noexcept(any<
 static_assert(noexcept(any<Writing<1>>().swap(1, {1})) && noexcept(any<Writing<1>>().swap_if(1, 1, {1})));
 static_assert(noexcept(any<Writing<1>>().take(1)) && noexcept(any<Writing<1>>().take_if(1, 1)) && noexcept(any<Writing<1>>().len(any<uint64_t>())));
 static_assert(noexcept(any<Writing<1>>().moment(any<uint64_t>())) && noexcept(any<Writing<1>>().capacity(any<uint64_t>())));
+static_assert(noexcept(any<Handle<1>>().more(1, any<std::vector<Handle<1>>>())) && noexcept(any<Writing<1>>().more(1, any<std::vector<Handle<1>>>())));
 static_assert(noexcept(any<Writing<1>>().meter()) && noexcept(any<Writing<1>>().raw()) && noexcept(any<const cefrodil::Meter>().counts()));
 static_assert(std::is_nothrow_default_constructible_v<Handle<1>> && std::is_nothrow_default_constructible_v<Writing<1>>);
 static_assert(noexcept(cefrodil::shape_for_items(1)) && noexcept(cefrodil::text(Status::ok)));

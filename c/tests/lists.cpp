@@ -21,7 +21,6 @@ static cefrodil_status counted_stamped_entries(cefrodil_handle *handle, uint64_t
 #define cefrodil_stamped_entries_or_none counted_stamped_entries
 #include "cefrodil.hpp"
 #include "must.h"
-#include "stamps.hpp"
 
 using namespace cefrodil;
 
@@ -68,9 +67,7 @@ int main() {
     const cefrodil_shape shape{uint64_t(1) << 62, 64, 100, 64, 5, 8, CEFRODIL_MIX_FULL};
     of_one_shard(shape);
     of_four_shards(shape);
-    if (LISTS_STAMPS) {
-        with_stamps(shape, 1);
-        with_stamps(shape, 4);
-    }
+    with_stamps(shape, 1);
+    with_stamps(shape, 4);
     return outcome("lists");
 }

@@ -159,30 +159,38 @@ static int holds(const cefrodil_shape *shape, size_t words, struct how how) {
     return held && kept == 0;
 }
 
-/* Each allocation for more handles is refused in turn: then none is open, and nothing is kept or used up. */
-static int gives_more(const cefrodil_shape *shape, size_t words, struct how how) {
-    enum { SPARE = 64 };
-    static cefrodil_handle more[SPARE];
+enum { SPARE = 64 };
+static cefrodil_handle more[SPARE];
+
+/* Whether the handles that were asked for work, or none of them is open. */
+static int all_work(uint32_t status, size_t words) {
     cefrodil_reply reply;
-    int given = open_one(shape, words, how) == CEFRODIL_OK;
-    long allowed = 0, before = kept;
+    int work = status == CEFRODIL_OK || status == CEFRODIL_NO_MEMORY;
+    for (uint64_t i = 0; i < SPARE; i++) {
+        work = work && cefrodil_put(&more[i], i, entries, words, &reply) == (status == CEFRODIL_OK ? CEFRODIL_OK : CEFRODIL_CLOSED);
+        cefrodil_close(&more[i]);
+    }
+    return work;
+}
+
+/* Each allocation for more handles is refused in turn: then none of them is open, nothing leaks, and the cache goes on. Spare handles may be used
+ * up, so each time a new cache gives them. */
+static int gives_more(const cefrodil_shape *shape, size_t words, struct how how) {
+    cefrodil_reply reply;
     uint32_t status = CEFRODIL_NO_MEMORY;
-    for (; given && allowed < 1000 && status != CEFRODIL_OK; allowed++) {
+    long allowed = 0;
+    for (; allowed < 1000 && status != CEFRODIL_OK; allowed++) {
+        int given = open_one(shape, words, how) == CEFRODIL_OK;
         left = allowed;
         status = cefrodil_more(&handles[0], more, SPARE);
         left = -1;
-        given = status == CEFRODIL_OK || (status == CEFRODIL_NO_MEMORY && kept == before);
-        for (int i = 0; i < SPARE; i++) {
-            given = given && more[i].live_ == (status == CEFRODIL_OK);
+        given = given && all_work(status, words) && cefrodil_put(&handles[0], 0, entries, words, &reply) == CEFRODIL_OK;
+        close_all();
+        if (!given || kept != 0) {
+            return 0;
         }
-        given = given && cefrodil_put(&handles[0], 0, entries, words, &reply) == CEFRODIL_OK;
     }
-    given = given && cefrodil_put(&more[SPARE - 1], 1, entries, words, &reply) == CEFRODIL_OK && cefrodil_hold(&more[0]) == CEFRODIL_OK;
-    for (int i = 0; i < SPARE; i++) {
-        cefrodil_close(&more[i]);
-    }
-    close_all();
-    return given && status == CEFRODIL_OK && allowed > 1 && kept == 0;
+    return status == CEFRODIL_OK && allowed > 1;
 }
 
 /* So many keys are put at once. */

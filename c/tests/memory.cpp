@@ -1,72 +1,13 @@
-// Each allocation of an opening and of a list is refused in turn, the library's and those of C++: then the call returns no_memory, does nothing
-// and keeps nothing. A list allocates in its turn, so other threads are held meanwhile. Linked with --wrap.
+// Each allocation of an opening, for more handles and of a list is refused in turn, the library's and those of C++: then the call returns
+// no_memory, opens or lists nothing and keeps nothing. A list allocates in its turn, so other threads are held meanwhile. Linked with --wrap.
 #include "cefrodil_filler.hpp"
 #include "cefrodil_object_map.hpp"
 #include "must.h"
-#include "stamps.hpp"
+#include "refused_memory.hpp"
 #include <chrono>
-#include <cstdlib>
-#include <new>
 #include <unistd.h>
 
 using namespace cefrodil;
-
-static std::atomic<long> left{-1}, kept{0}, of_library{0};
-static void (*in_turn)() = nullptr; // what the library's next allocation calls first
-
-static bool refused() {
-    const bool none = left == 0;
-    left -= left > 0;
-    return none;
-}
-
-static void *taken(void *block) {
-    kept += block != nullptr;
-    return block;
-}
-
-extern "C" {
-void *__real_malloc(size_t size);
-void *__real_realloc(void *block, size_t size);
-void __real_free(void *block);
-void *__wrap_malloc(size_t size);
-void *__wrap_realloc(void *block, size_t size);
-void __wrap_free(void *block);
-
-void *__wrap_malloc(size_t size) {
-    of_library++;
-    if (in_turn != nullptr) {
-        std::exchange(in_turn, nullptr)();
-    }
-    return refused() ? nullptr : taken(__real_malloc(size));
-}
-void *__wrap_realloc(void *block, size_t size) {
-    if (refused()) {
-        return nullptr;
-    }
-    kept -= block != nullptr;
-    return taken(__real_realloc(block, size));
-}
-void __wrap_free(void *block) {
-    kept -= block != nullptr;
-    __real_free(block);
-}
-}
-
-static void *taken_or_thrown(size_t size, size_t align) {
-    void *block = refused() ? nullptr : taken(std::aligned_alloc(align, (size + align - 1) / align * align));
-    if (block == nullptr) {
-        throw std::bad_alloc();
-    }
-    return block;
-}
-
-void *operator new(size_t size) { return taken_or_thrown(size, 16); }
-void *operator new(size_t size, std::align_val_t align) { return taken_or_thrown(size, static_cast<size_t>(align)); }
-void operator delete(void *block) noexcept { __wrap_free(block); }
-void operator delete(void *block, size_t) noexcept { __wrap_free(block); }
-void operator delete(void *block, std::align_val_t) noexcept { __wrap_free(block); }
-void operator delete(void *block, size_t, std::align_val_t) noexcept { __wrap_free(block); }
 
 // Refuses each allocation of the call in turn. `as_before`: whether all is as it was. Returns whether the call succeeds at last, after some of the
 // library's allocations and at least `own` of C++.
@@ -105,14 +46,10 @@ template <class List> static void lists(size_t words, List list) {
 static void lists_of(std::vector<Handle<1>> &handles) {
     Writing<1> writing;
     lists(2, [&](std::vector<uint64_t> &list) { return handles[1].try_entries(list); });
-    if (LISTS_STAMPS) {
-        lists(3, [&](std::vector<uint64_t> &list) { return handles[1].try_stamped_entries(list); });
-    }
+    lists(3, [&](std::vector<uint64_t> &list) { return handles[1].try_stamped_entries(list); });
     MUST(handles[0].hold(writing) == Status::ok);
     lists(2, [&](std::vector<uint64_t> &list) { return writing.entries(list); });
-    if (LISTS_STAMPS) {
-        lists(3, [&](std::vector<uint64_t> &list) { return writing.stamped_entries(list); });
-    }
+    lists(3, [&](std::vector<uint64_t> &list) { return writing.stamped_entries(list); });
 }
 
 static void openings(uint32_t shards) {
@@ -130,6 +67,21 @@ static void openings(uint32_t shards) {
     const auto is_as_before = [&] { return handles.size() == 2 && handles[1].get(7).value.has_value(); };
     MUST(at_last(4, [&] { return open(shape, shards, 3, handles); }, is_as_before));
     MUST(handles.size() == 3 && !handles[1].get(7).value);
+}
+
+// Spare handles may be used up by a call that finds no memory, so a new cache gives them each time.
+static void more_handles(uint32_t shards) {
+    std::vector<Handle<1>> later;
+    const auto call = [&] {
+        std::vector<Handle<1>> handles;
+        const long allowed = left.exchange(-1);
+        MUST(open(shape, shards, 1, handles) == Status::ok && handles[0].try_put(7, {70}).status == Status::ok);
+        left = allowed, of_library = 0;
+        const Status status = handles[0].more(2, later);
+        MUST(handles[0].get(7).value);
+        return status;
+    };
+    MUST(at_last(4, call, [&] { return later.empty(); }) && later.size() == 2 && later[1].get(7).value);
 }
 
 // To hold and to release take no memory, nor does what a guard does with its handle.
@@ -187,7 +139,7 @@ static void each_call_is_held() {
     MUST(is_held([&](auto &handle) { return handle.try_len(len); }) && len == 99);
     MUST(is_held([&](auto &handle) { return handle.try_moment(len); }) && len == 99);
     MUST(is_held([&](auto &handle) { return handle.try_entries(list); }) && list.empty());
-    MUST(!LISTS_STAMPS || (is_held([&](auto &handle) { return handle.try_stamped_entries(list); }) && list.empty()));
+    MUST(is_held([&](auto &handle) { return handle.try_stamped_entries(list); }) && list.empty());
     Writing<1> writing;
     MUST(is_held([&](auto &handle) { return handle.hold(writing); }) && !writing.holds());
     // Lookups need no turn.
@@ -390,6 +342,8 @@ int main() {
     const long before = kept;
     openings(1);
     openings(4);
+    more_handles(1);
+    more_handles(4);
     guards();
     fillers();
     batch_beside_a_list();

@@ -6,7 +6,7 @@
 
 enum { MOST = 1024, SPARE = 64, THREADS = 4, MOST_TRIES = 20000000 };
 
-static cefrodil_handle handles[2], more[2], none, crowd[MOST];
+static cefrodil_handle handles[2], more[2], none, crowd[MOST + 1];
 static cefrodil_shape shape;
 static cefrodil_reply reply;
 
@@ -28,6 +28,7 @@ static void statuses(void) {
     opened_with_one_entry(1, 2);
     MUST(cefrodil_more(&none, more, 1) == CEFRODIL_CLOSED && cefrodil_more(&none, &handles[1], 1) == CEFRODIL_IN_USE);
     MUST(cefrodil_more(&handles[0], more, 0) == CEFRODIL_BAD_HANDLES && cefrodil_more(&handles[0], crowd, SPARE + 1) == CEFRODIL_BAD_HANDLES);
+    MUST(cefrodil_more(&handles[0], crowd, MOST) == CEFRODIL_BAD_HANDLES && cefrodil_more(&handles[0], crowd, MOST + 1) == CEFRODIL_BAD_HANDLES);
     crowd[1] = cefrodil_move(&handles[1]);
     MUST(cefrodil_more(&handles[0], crowd, 2) == CEFRODIL_IN_USE && !crowd[0].live_ && crowd[1].live_);
     handles[1] = cefrodil_move(&crowd[1]);
@@ -43,15 +44,19 @@ static void statuses(void) {
     MUST(cefrodil_more(&handles[0], more, 1) == CEFRODIL_CLOSED);
 }
 
-/* While another handle holds the turns, there are none. */
-static void held(void) {
+/* A handle that holds the turns may ask, and so may others meanwhile. A new handle does not hold them, but may. */
+static void beside_a_holder(void) {
     uint64_t value = 7;
     MUST(cefrodil_open(&shape, 4, 1, handles, 2) == CEFRODIL_OK && cefrodil_hold(&handles[1]) == CEFRODIL_OK);
-    MUST(cefrodil_more(&handles[0], more, 1) == CEFRODIL_HELD && !more[0].live_);
-    MUST(cefrodil_release(&handles[1]) == CEFRODIL_OK && cefrodil_more(&handles[0], more, 1) == CEFRODIL_OK);
+    MUST(cefrodil_more(&handles[1], more, 1) == CEFRODIL_OK && cefrodil_more(&handles[0], &more[1], 1) == CEFRODIL_OK);
+    for (int i = 0; i < 2; i++) {
+        MUST(cefrodil_put(&more[i], 1, &value, 1, &reply) == CEFRODIL_HELD && cefrodil_release(&more[i]) == CEFRODIL_HOLDS_NOT);
+    }
+    MUST(cefrodil_put(&handles[1], 1, &value, 1, &reply) == CEFRODIL_OK && cefrodil_get(&more[0], 1, &value, 1, &reply) == CEFRODIL_OK);
+    MUST(cefrodil_hold(&more[0]) == CEFRODIL_HELD && cefrodil_release(&handles[1]) == CEFRODIL_OK);
     MUST(cefrodil_hold(&more[0]) == CEFRODIL_OK && cefrodil_put(&handles[0], 1, &value, 1, &reply) == CEFRODIL_HELD);
     MUST(cefrodil_put(&more[0], 1, &value, 1, &reply) == CEFRODIL_OK);
-    close_all(more, 1);
+    close_all(more, 2);
     MUST(cefrodil_get(&handles[1], 1, &value, 1, &reply) == CEFRODIL_OK && cefrodil_put(&handles[0], 1, &value, 1, &reply) == CEFRODIL_OK);
     close_all(handles, 2);
 }
@@ -150,7 +155,7 @@ static void by_threads(void) {
 int main(void) {
     MUST(cefrodil_shape_for_items(100, 1, &shape) == CEFRODIL_OK);
     statuses();
-    held();
+    beside_a_holder();
     for (size_t words = 1; words <= 8; words++) {
         again(1, words);
         again(4, words);

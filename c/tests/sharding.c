@@ -16,13 +16,15 @@ static void shapes(void) {
     MUST(cefrodil_shape_for_items(KEYS, 512, &shape) == CEFRODIL_BAD_SHARDS);
     MUST(cefrodil_shape_for_items(0, 1, &shape) == CEFRODIL_BAD_ITEMS && cefrodil_shape_for_items(0, SHARDS, &shape) == CEFRODIL_BAD_ITEMS);
     MUST(cefrodil_shape_for_items(UINT32_MAX, 1, &shape) == CEFRODIL_BAD_ITEMS && shape.buckets == 0);
-    /* 63 and five times 8 items more; 20 and five times 5. */
+    /* One shard has just these. Of several, each has its share and five deviations more: 63 and five times 8, 2 and five times 2. */
+    MUST(cefrodil_shape_for_items(20, 1, &shape) == CEFRODIL_OK && shape.items == 20 && shape.buckets == 8);
     MUST(cefrodil_shape_for_items(KEYS, SHARDS, &shape) == CEFRODIL_OK && shape.items == 103 && shape.buckets == 32);
-    MUST(cefrodil_shape_for_items(20, 1, &shape) == CEFRODIL_OK && shape.items == 45 && shape.buckets == 16);
     MUST(cefrodil_shape_for_items(KEYS, 256, &shape) == CEFRODIL_OK && shape.items == 12);
     /* The most items of a shard, and one more. */
-    MUST(cefrodil_shape_for_items(3774873 - 5 * 1941, 1, &shape) == CEFRODIL_OK && shape.items == 3774873 && shape.buckets == 1048576);
-    MUST(cefrodil_shape_for_items(3774874 - 5 * 1941, 1, &shape) == CEFRODIL_BAD_ITEMS && shape.items == 3774873);
+    MUST(cefrodil_shape_for_items(3774873, 1, &shape) == CEFRODIL_OK && shape.items == 3774873 && shape.buckets == 1048576);
+    MUST(cefrodil_shape_for_items(3774874, 1, &shape) == CEFRODIL_BAD_ITEMS && shape.items == 3774873);
+    MUST(cefrodil_shape_for_items(2 * (3774873 - 5 * 1941), 2, &shape) == CEFRODIL_OK && shape.items == 3774873);
+    MUST(cefrodil_shape_for_items(2 * (3774873 - 5 * 1941) + 1, 2, &shape) == CEFRODIL_BAD_ITEMS && shape.items == 3774873);
 }
 
 /* A new cache has no key, and no change was made to any shard: every key's shard is at moment 0. */
