@@ -1,6 +1,6 @@
 #!/usr/bin/env bash
 # Threads that share one map. Each puts once in ten calls, or once in two, and looks keys up else. The cache's threads take turns at one desk,
-# or at the desks of 16 or 64 shards. Each put tries once for its turn; a put that doesn't win it is no write. Beside it are maps that
+# or at 16 or 64 shards. Each put tries once for its turn; a put that doesn't win it is no write. Beside it are maps that
 # several threads may write at once.
 # bench/contests.py says how the contestants run and what a cell is.
 #

@@ -1,6 +1,6 @@
 """What the cache costs at worst and once: the first put after every item was used, a refused put in a table with as many items as slots,
 and opening, all from C; then, from Rattle, listing the entries of a cache and opening one of twice the size with them; and the heap
-of one more reader from C. A cell is the median of the rounds, marked as bench/contests.py does.
+of one more handle from C. A cell is the median of the rounds, marked as bench/contests.py does.
 
 usage: [ROUNDS=N] python3 bench/worst.py BUILT FILE     BUILT: a folder of bench/build; FILE: gets a line of JSON for each run; ROUNDS: none: 7
 """
@@ -14,7 +14,7 @@ from contests import LARGEST, marked
 SIZES = (100_000, 1_000_000, LARGEST // 2, LARGEST)
 ROWS = (('put when every item was used', 'all_used_ms', 'ms'), ('refused put, as many items as slots', 'refused_us', 'µs'), ('opening', 'opening_ms', 'ms'),
         ('listing all entries (`close`)', 'listed_ms', 'ms'), ('opening a table of twice the size with them', 'grown_ms', 'ms'),
-        ('heap of one more reader, any table', 'reader_bytes', 'bytes'))
+        ('heap of one more handle, any table', 'handle_bytes', 'bytes'))
 
 
 def told_by(*words):
@@ -25,7 +25,7 @@ def told_by(*words):
 def measure(built, size, number):
     told = {'size': size, **told_by(f'{built}/worst_puts', str(size), str(number))}
     if size != SIZES[0]:
-        del told['reader_bytes']
+        del told['handle_bytes']
     if 2 * size <= LARGEST:
         grown = told_by(f'{built}/mcbench', '--workload', 'grow', '--capacity', str(size), '--seed', str(number))
         told.update(listed_ms=grown['listed_ns'] / 1e6, grown_ms=grown['written_ns'] / 1e6)

@@ -1,5 +1,5 @@
 #!/usr/bin/env bash
-# What the cache costs at worst, and once: a put when every item was used, a refused put, opening and growing, and the heap of a reader.
+# What the cache costs at worst, and once: a put when every item was used, a refused put, opening and growing, and the heap of a handle.
 # bench/worst.py says what each row is.
 #
 # usage: [ROUNDS=N] bench/worst_puts.sh [PROGRAM [ARCHIVE]]     the same as for bench/build, which is left out if BUILT names its folder

@@ -82,7 +82,7 @@ static double heap_of(const cefrodil_shape &shape, size_t many) {
 }
 
 // The heap that one more handle takes.
-static double reader_bytes(const cefrodil_shape &shape) { return (heap_of(shape, 1001) - heap_of(shape, 1)) / 1000; }
+static double handle_bytes(const cefrodil_shape &shape) { return (heap_of(shape, 1001) - heap_of(shape, 1)) / 1000; }
 
 int main(int count, char **words) {
     if (count != 3) return 2;
@@ -93,6 +93,6 @@ int main(int count, char **words) {
     double opening, used = put_when_all_are_used(shape, first, opening);
     cefrodil_shape small;
     if (cefrodil_shape_for_items(1000, 1, &small) != CEFRODIL_OK) return 2;
-    printf("{\"opening_ms\":%.4f,\"all_used_ms\":%.4f,\"refused_us\":%.4f,\"reader_bytes\":%.1f}\n", opening * 1e3, used * 1e3,
-        refused_put(shape, first) * 1e6, reader_bytes(small));
+    printf("{\"opening_ms\":%.4f,\"all_used_ms\":%.4f,\"refused_us\":%.4f,\"handle_bytes\":%.1f}\n", opening * 1e3, used * 1e3,
+        refused_put(shape, first) * 1e6, handle_bytes(small));
 }
