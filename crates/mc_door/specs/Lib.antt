@@ -10,7 +10,6 @@ pub mod Batches
 pub mod Writes
 pub mod Swaps
 pub mod AnySides
-pub mod Spares
 pub mod NewPasses
 pub mod Counting
 pub mod Loading

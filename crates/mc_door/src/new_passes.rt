@@ -1,11 +1,12 @@
 //! A cache is opened, and its passes are given out; later, more of them.
-ghost use Rattle.std.specs.Prelude.{◌≡◌, ◌+◌, ◌*◌, ◌≤◌, [], All, IfErr, IfOk, MatchOption, MatchResult, length, take};
+ghost use Rattle.std.specs.Prelude.{◌≡◌, ◌+◌, ◌*◌, [], All, IfOk, MatchOption, MatchResult, length};
 ghost use Rattle.mc_words.specs.Places.{IsWidth};
 ghost use Rattle.mc_words.specs.Readers.{HasReaders};
 ghost use Rattle.mc_words.specs.Shapes.{HasShards, IsShape};
 ghost use Rattle.mc_cache.specs.declared.opening.OpenError.TheVariants as error;
 ghost use Rattle.mc_shards.specs.Openings.{RefusesShards};
 ghost use Rattle.mc_shards.specs.Sharded.{ArePassOf};
+ghost use Rattle.mc_shards.specs.Spares.{AreSparesOf};
 ghost use Rattle.mc_shards.specs.declared.opening.OpenShardsError.TheVariants.{Open};
 ghost use Rattle.mc_door.specs.Loading.{HaveSeenLoads, entries_in};
 ghost use Rattle.mc_door.specs.Roles.{role_of};
@@ -14,9 +15,11 @@ use crate::entries::entries_of;
 use crate::pass_side::PassSide;
 use crate::shared::{MoreError, Shared};
 use crate::side::{Hand, Side};
-use crate::spares::{move_passes, passes_for};
+use crate::spares::readers_for;
 use mc_cache::{OpenError, Shape, Why};
-use mc_shards::{OpenShardsError, OpenedShards, Pass, Shards, open_shards, open_shards_with};
+use mc_shards::{
+    OpenShardsError, OpenedShards, Pass, Shards, Spares, open_spared, open_spared_with,
+};
 use mc_words::{MOST_READERS, NoMemory, can_shard};
 use std::alloc::Global;
 use std::sync::Arc;
@@ -64,22 +67,17 @@ impl<const V: usize> NewPasses<V> {
         Ok(Some(Side { hand }))
     }
 
-    // The first `asked` passes of these shards, in hand. The others stay with the shards.
+    // The passes of these shards, in hand, and the spares beside the shards.
     fn of(
         alloc: Global,
         shards: Shards<V>,
-        mut passes: Vec<Pass<V>>,
-        asked: usize,
+        passes: Vec<Pass<V>>,
+        spares: Spares<V>,
     ) -> Result<NewPasses<V>, OpenShardsError>
         requires of { All (ArePassOf shards) passes.items }
-        requires many { asked ≤ length passes.items }
-        ensures given { IfOk result (λ r. (r.shared.value.shards ≡ shards.entry) × (r.passes.items ≡ take asked passes.entry.items) × (length r.passes.items ≡ asked)) }
-        ensures refused { IfErr result (λ e. e ≡ Open error.NoMemory) }
+        requires spares { AreSparesOf shards spares }
+        ensures { MatchResult result (λ r. (r.shared.value.shards ≡ shards.entry) × (r.passes.items ≡ passes.entry.items)) (λ e. e ≡ Open error.NoMemory) }
     {
-        let Ok(mut spares) = Vec::with_capacity(alloc, passes.len() - asked) else {
-            return Err(OpenShardsError::Open(OpenError::NoMemory));
-        };
-        move_passes(&shards, &mut passes, &mut spares, asked);
         match Arc::new(alloc, Shared::new(shards, spares)) {
             Ok(shared) => Ok(NewPasses { shared, passes }),
             Err(_) => Err(OpenShardsError::Open(OpenError::NoMemory)),
@@ -87,7 +85,7 @@ impl<const V: usize> NewPasses<V> {
     }
 
     /// Opens `shards` shards, with the requested number of passes.
-    #[tactic(auto, using(crate::proofs::NewShards::refused_as_asked, crate::proofs::NewShards::have_seen_nothing))]
+    #[tactic(auto, using(crate::proofs::NewShards::have_seen_nothing))]
     pub(crate) fn open(
         alloc: Global,
         shape: Shape,
@@ -100,13 +98,13 @@ impl<const V: usize> NewPasses<V> {
         ensures fresh { IfOk result (λ r. HaveSeenNothing V r.passes.items) }
     {
         check(shape, shards, passes)?;
-        let (opened, all) = open_shards::<V>(alloc, shape, shards, passes_for(passes))?;
-        NewPasses::of(alloc, opened, all, passes as usize)
+        let (opened, given, spares) =
+            open_spared::<V>(alloc, shape, shards, passes, readers_for(passes))?;
+        NewPasses::of(alloc, opened, given, spares)
     }
 
     /// Opens `shards` shards with `count` entries, given one after the other as words. Returns the requested number of passes, and the index
     /// of each entry that was left, with the reason.
-    #[tactic(auto, using(crate::proofs::NewShards::refused_as_asked))]
     pub(crate) fn open_with(
         alloc: Global,
         shape: Shape,
@@ -125,19 +123,15 @@ impl<const V: usize> NewPasses<V> {
         let Ok(entries) = entries_of::<V>(alloc, count, entries) else {
             return Err(OpenShardsError::Open(OpenError::NoMemory));
         };
-        let opened = open_shards_with::<V>(
-            alloc,
-            shape,
-            shards,
-            passes_for(passes),
-            entries.as_slice(),
-        )?;
+        let all = readers_for(passes);
+        let (opened, spares) =
+            open_spared_with::<V>(alloc, shape, shards, passes, all, entries.as_slice())?;
         let OpenedShards {
             shards,
-            passes: all,
+            passes,
             left,
         } = opened;
-        let rest = NewPasses::of(alloc, shards, all, passes as usize)?;
+        let rest = NewPasses::of(alloc, shards, passes, spares)?;
         Ok((rest, left))
     }
 

@@ -1,39 +1,39 @@
-//! What all handles of a cache share: its shards, and the passes that no handle has had.
+//! What all handles of a cache share: its shards, and what is there for more handles.
 ghost use Rattle.std.specs.Prelude.{◌≡◌, All, IfOk, IfSome, length};
 ghost use Rattle.mc_shards.specs.Sharded.{ArePassOf};
+ghost use Rattle.mc_shards.specs.Spares.{AreSparesOf};
 
-use crate::spares::move_passes;
 use counted_slot::{Counted, Fits, TAKEN};
-use mc_shards::{Pass, Shards};
+use mc_shards::{Pass, Shards, Spares};
 use mc_words::MOST_READERS;
 use std::alloc::Global;
 
-// The words of the slot. The high half says whether the spare passes are there.
+// The words of the slot. The high half says whether the spares are there.
 const HOME: u64 = 0;
 
 const AWAY: u64 = 0x1_0000_0000;
 
-/// Passes that no handle has had, of the shards that are the tag.
+/// Spares of the shards that are the tag.
 #[derive(Drop)]
-pub struct Spares<const V: usize> {
-    pub passes: Vec<Pass<V>>,
+pub struct Kept<const V: usize> {
+    pub spares: Spares<V>,
 }
 
-impl<const V: usize> Fits for Spares<V> {
+impl<const V: usize> Fits for Kept<V> {
     type Tag = Shards<V>;
 
-    ghost fits = { λ shards spares. All (ArePassOf shards) spares.passes.items };
+    ghost fits = { λ shards kept. AreSparesOf shards kept.spares };
 }
 
-/// Shards, with their spare passes. Those are not there while a handle takes some of them.
+/// Shards, with their spares. Those are not there while a handle takes some of them.
 #[derive(Drop)]
 pub struct Shared<const V: usize> {
     pub shards: Shards<V>,
-    pub spares: Counted<Option<Spares<V>>>,
-    ghost belongs: { spares ≡ shards },
+    pub kept: Counted<Option<Kept<V>>>,
+    ghost belongs: { kept ≡ shards },
 }
 
-/// Why no spare passes are given.
+/// Why no spares are given.
 #[derive(Clone, Copy, Debug, PartialEq, Eq)]
 pub enum MoreError {
     /// None are asked for, or more than there are.
@@ -44,21 +44,45 @@ pub enum MoreError {
     NoMemory,
 }
 
+// Makes this many passes, and stops where there is no memory.
+fn make<const V: usize>(
+    alloc: Global,
+    shards: &Shards<V>,
+    kept: &mut Kept<V>,
+    many: usize,
+    given: &mut Vec<Pass<V>>,
+)
+    requires spares { AreSparesOf shards.now kept.old.spares }
+    requires none { All (ArePassOf shards.now) given.old.items }
+    ensures spares { AreSparesOf shards.now kept.new.spares }
+    ensures given { All (ArePassOf shards.now) given.new.items }
+{
+    for n in 0..many {
+        let _n = n;
+        let Ok(Some(pass)) = kept.spares.next(alloc, shards) else {
+            return;
+        };
+        let Ok(()) = given.push(pass) else {
+            return;
+        };
+    }
+}
+
 impl<const V: usize> Shared<V> {
-    /// The shards with these spare passes.
-    pub(crate) fn new(shards: Shards<V>, passes: Vec<Pass<V>>) -> Shared<V>
-        requires { All (ArePassOf shards) passes.items }
+    /// The shards with these spares.
+    pub(crate) fn new(shards: Shards<V>, spares: Spares<V>) -> Shared<V>
+        requires { AreSparesOf shards spares }
         ensures { result.shards ≡ shards.entry }
     {
-        let spares = Counted::new(Some(Spares { passes }), &shards);
-        Shared { shards, spares }
+        let kept = Counted::new(Some(Kept { spares }), &shards);
+        Shared { shards, kept }
     }
 
-    // Takes the spare passes, if they are there and the try wins.
-    fn take(&self) -> Option<Spares<V>>
-        ensures { IfSome result (λ spares. All (ArePassOf self.now.shards) spares.passes.items) }
+    // Takes the spares, if they are there and the try wins.
+    fn take(&self) -> Option<Kept<V>>
+        ensures { IfSome result (λ kept. AreSparesOf self.now.shards kept.spares) }
     {
-        let (found, claim) = self.spares.turn(HOME, TAKEN);
+        let (found, claim) = self.kept.turn(HOME, TAKEN);
         if found != HOME {
             claim.done();
             return None;
@@ -67,18 +91,18 @@ impl<const V: usize> Shared<V> {
     }
 
     // Gives them back.
-    fn give(&self, spares: Spares<V>)
-        requires { All (ArePassOf self.now.shards) spares.passes.items }
+    fn give(&self, kept: Kept<V>)
+        requires { AreSparesOf self.now.shards kept.spares }
     {
-        let (found, claim) = self.spares.turn(AWAY, AWAY + TAKEN);
+        let (found, claim) = self.kept.turn(AWAY, AWAY + TAKEN);
         if found == AWAY {
-            let _ = claim.put(Some(spares), HOME);
+            let _ = claim.put(Some(kept), HOME);
         } else {
             claim.done();
         }
     }
 
-    /// Takes `many` of the spare passes. It tries once.
+    /// Makes `many` passes of the spares. It tries once for them.
     pub(crate) fn more(&self, alloc: Global, many: usize) -> Result<Vec<Pass<V>>, MoreError>
         ensures of { IfOk result (λ given. All (ArePassOf self.now.shards) given.items) }
         ensures many { IfOk result (λ given. length given.items ≡ many) }
@@ -86,20 +110,22 @@ impl<const V: usize> Shared<V> {
         if many == 0 || many > MOST_READERS as usize {
             return Err(MoreError::Count);
         }
-        let Ok(mut given) = Vec::with_capacity(alloc, many) else {
-            return Err(MoreError::NoMemory);
-        };
-        let Some(mut spares) = self.take() else {
+        let Some(mut kept) = self.take() else {
             return Err(MoreError::Held);
         };
-        let there = spares.passes.len();
-        if many <= there {
-            move_passes(&self.shards, &mut spares.passes, &mut given, there - many);
+        let mut given = Vec::new(alloc);
+        let enough = many <= kept.spares.count();
+        if enough {
+            make(alloc, &self.shards, &mut kept, many, &mut given);
         }
-        self.give(spares);
-        if given.len() < many {
-            return Err(MoreError::Count);
+        self.give(kept);
+        if given.len() == many {
+            return Ok(given);
         }
-        Ok(given)
+        Err(if enough {
+            MoreError::NoMemory
+        } else {
+            MoreError::Count
+        })
     }
 }

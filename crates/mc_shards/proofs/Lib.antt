@@ -8,6 +8,7 @@ pub mod CountedShards
 pub mod LoadedShards
 pub mod Spread
 pub mod Sent
+pub mod Spared
 pub mod LentWriters
 pub mod HeldTurns
 pub mod HeldCalls

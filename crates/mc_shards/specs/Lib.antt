@@ -10,5 +10,6 @@ pub mod Counted
 pub mod Stamped
 pub mod Unlisted
 pub mod Lending
+pub mod Spares
 pub mod Inside
 pub mod Holding

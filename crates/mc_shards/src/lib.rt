@@ -32,16 +32,18 @@ mod opening;
 mod pass;
 mod shards;
 mod sizing;
+mod spares;
 mod taking;
 
 pub use closing::StillOpen;
 pub use holding::Holder;
-pub use loading::{OpenedShards, open_shards_with};
+pub use loading::{OpenedShards, open_shards_with, open_spared_with};
 pub use mc_cache::{
     AbsentError, DeskError, Entry, IfError, Mix, NoMemory, OpenError, Put, PutError, Remove,
     Replaced, Reply, Shape, Spent, Swapped, Take, Why,
 };
-pub use opening::{OpenShardsError, open_shards};
+pub use opening::{OpenShardsError, open_shards, open_spared};
 pub use pass::Pass;
 pub use shards::Shards;
 pub use sizing::shard_shape;
+pub use spares::Spares;

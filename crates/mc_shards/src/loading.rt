@@ -1,5 +1,5 @@
 //! Opening shards with entries.
-ghost use Rattle.std.specs.Prelude.{ℕ, ◌≡◌, All, IfErr, IfOk, List, MatchResult, OnOk, [], length, map};
+ghost use Rattle.std.specs.Prelude.{ℕ, ◌≡◌, ◌≤◌, All, IfErr, IfOk, List, MatchResult, OnOk, [], length, map};
 ghost use Rattle.mc_words.specs.declared.history.Change.{Change};
 ghost use Rattle.mc_words.specs.Keys.{shard_of};
 ghost use Rattle.mc_words.specs.Places.{IsWidth};
@@ -14,10 +14,12 @@ ghost use Rattle.mc_shards.specs.Loadings.{HaveLoaded, HaveMet, HoldEntries, Sha
 ghost use Rattle.mc_shards.specs.Openings.{RefusesShards};
 ghost use Rattle.mc_shards.specs.Plain.{seens};
 ghost use Rattle.mc_shards.specs.Sharded.{ArePassOf, ChangesAt};
+ghost use Rattle.mc_shards.specs.Spares.{AreSparesOf};
 
 use crate::opening::{OpenShardsError, check_opening, lenders_of, open_all, push_to};
 use crate::pass::Pass;
 use crate::shards::Shards;
+use crate::spares::Spares;
 use mc_cache::{Cache, OpenError, Put, Shape, Why, Writer};
 use std::alloc::Global;
 
@@ -111,11 +113,51 @@ fn meet_all<const V: usize>(
     }
 }
 
-/// Opens shards like `open_shards`, and puts these entries, in order, each in its key's shard. They are put as by `put`, but none evicts
+/// Opens shards like `open_spared`, and puts these entries, in order, each in its key's shard. They are put as by `put`, but none evicts
 /// another. An entry that can't be put is left out, and reported with the reason. A key listed twice is put twice.
-/// Every pass has seen these puts, so its first lookup finds them.
+/// Every pass has seen these puts, so its first lookup finds them. The spares have seen nothing.
 /// Returns the first error that applies, as `open_shards` does; `NoMemory` also if the list of entries left out finds none. After an error
-/// nothing leaks.
+/// nothing leaks. Conditions: those of `open_spared`.
+#[tactic(auto, using(crate::proofs::Spared::refused_as_asked))]
+pub fn open_spared_with<const V: usize>(
+    alloc: Global,
+    shape: Shape,
+    shards: u32,
+    passes: u32,
+    all: u32,
+    entries: &[(u64, [u64; V])],
+) -> Result<(OpenedShards<V>, Spares<V>), OpenShardsError>
+    requires width { IsWidth V }
+    requires all { HasReaders passes → (passes ≤ all) × HasReaders all }
+    ensures shards { MatchResult result (λ o. (o.0.shards.shape ≡ shape) × (length o.0.shards.tables ≡ shards)) (λ e. RefusesShards shape shards passes e) }
+    ensures asked { IfOk result (λ o. HasShards shards × IsShape shape × HasReaders passes) }
+    ensures many { IfOk result (λ o. length o.0.passes.items ≡ passes) }
+    ensures of { IfOk result (λ o. All (ArePassOf o.0.shards) o.0.passes.items) }
+    ensures loaded { IfOk result (λ o. HaveLoaded V shape entries.now o.0.shards.tables o.0.passes.items o.0.left.items) }
+    ensures plain { IfOk result (λ o. (hs : List (List (Change V))) × HoldEntries V shape entries.now hs o.0.left.items × All (λ pass. seens V pass ≡ hs) o.0.passes.items) }
+    ensures spares { IfOk result (λ o. AreSparesOf o.0.shards o.1) }
+{
+    check_opening(shape, shards, passes)?;
+    let (caches, mut writers, mut passes, spares) =
+        open_all::<V>(alloc, shape, shards, passes, all)?;
+    let mut left = Vec::new(alloc);
+    load(shape, &caches, &mut writers, entries, &mut left)?;
+    meet_all(&caches, &mut writers, &mut passes);
+    let lenders = lenders_of::<V>(alloc, writers)?;
+    let shards = Shards {
+        shape,
+        caches,
+        lenders,
+    };
+    let opened = OpenedShards {
+        shards,
+        passes,
+        left,
+    };
+    Ok((opened, spares))
+}
+
+/// Opens shards with these entries, as `open_spared_with` does, without spares.
 /// Condition: a value has from 1 to 8 words.
 pub fn open_shards_with<const V: usize>(
     alloc: Global,
@@ -132,20 +174,6 @@ pub fn open_shards_with<const V: usize>(
     ensures loaded { IfOk result (λ o. HaveLoaded V shape entries.now o.shards.tables o.passes.items o.left.items) }
     ensures plain { IfOk result (λ o. (hs : List (List (Change V))) × HoldEntries V shape entries.now hs o.left.items × All (λ pass. seens V pass ≡ hs) o.passes.items) }
 {
-    check_opening(shape, shards, passes)?;
-    let (caches, mut writers, mut passes) = open_all::<V>(alloc, shape, shards, passes)?;
-    let mut left = Vec::new(alloc);
-    load(shape, &caches, &mut writers, entries, &mut left)?;
-    meet_all(&caches, &mut writers, &mut passes);
-    let lenders = lenders_of::<V>(alloc, writers)?;
-    let shards = Shards {
-        shape,
-        caches,
-        lenders,
-    };
-    Ok(OpenedShards {
-        shards,
-        passes,
-        left,
-    })
+    let (opened, _) = open_spared_with::<V>(alloc, shape, shards, passes, passes, entries)?;
+    Ok(opened)
 }

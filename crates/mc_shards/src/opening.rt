@@ -1,5 +1,5 @@
 //! Opening shards.
-ghost use Rattle.std.specs.Prelude.{◌≡◌, [], ◌∷◌, ◌++◌, All, IfErr, IfOk, MatchResult, OnOk, length, map};
+ghost use Rattle.std.specs.Prelude.{◌≡◌, ◌≤◌, [], ◌∷◌, ◌++◌, All, IfErr, IfOk, MatchResult, OnOk, length, map};
 ghost use Rattle.mc_words.specs.Places.{IsWidth};
 ghost use Rattle.mc_words.specs.Readers.{HasReaders};
 ghost use Rattle.mc_words.specs.Shapes.{HasShards, IsShape};
@@ -13,11 +13,13 @@ ghost use Rattle.mc_shards.specs.Openings.{HasSeenNothing, RefusesShards};
 ghost use Rattle.mc_shards.specs.Lending.{table_of};
 ghost use Rattle.mc_shards.specs.Loadings.{new_writers};
 ghost use Rattle.mc_shards.specs.Inside.Dealt.{AreDealt};
+ghost use Rattle.mc_shards.specs.Spares.{AreListsOf, AreSparesOf};
 ghost use Rattle.mc_shards.specs.Sharded.{ArePassOf};
 
 use crate::lender::Lender;
 use crate::pass::Pass;
 use crate::shards::Shards;
+use crate::spares::Spares;
 use mc_cache::{Cache, OpenError, Reader, Shape, Writer, open};
 use mc_words::{MOST_READERS, can_shard};
 use std::alloc::{AllocError, Global};
@@ -77,19 +79,20 @@ fn with_reader<const V: usize>(mut pass: Pass<V>, reader: Reader<V>) -> Result<P
     Ok(pass)
 }
 
-// Gives each pass one of the readers of a new cache, the next one.
+// Gives each pass one of the readers of a new cache. Returns those that are left, too.
 fn deal<const V: usize>(
     alloc: Global,
     caches: &Vec<Cache<V>>,
     cache: &Cache<V>,
     mut given: Vec<Pass<V>>,
     mut readers: Vec<Reader<V>>,
-) -> Result<Vec<Pass<V>>, AllocError>
-    requires many { length readers.items ≡ length given.items }
+) -> Result<(Vec<Pass<V>>, Vec<Reader<V>>), AllocError>
+    requires many { length given.items ≤ length readers.items }
     requires fresh { All (λ r. (r.of ≡ cache.now) × (r.front ≡ [])) readers.items }
     requires given { All (AreDealt caches.now.items) given.items }
-    ensures many { IfOk result (λ dealt. length dealt.items ≡ length given.entry.items) }
-    ensures dealt { IfOk result (λ dealt. All (AreDealt (caches.now.items ++ cache.now ∷ [])) dealt.items) }
+    ensures many { IfOk result (λ r. length r.0.items ≡ length given.entry.items) }
+    ensures dealt { IfOk result (λ r. All (AreDealt (caches.now.items ++ cache.now ∷ [])) r.0.items) }
+    ensures left { IfOk result (λ r. All (λ x. (x.of ≡ cache.now) × (x.front ≡ [])) r.1.items) }
 {
     let (_caches, _cache) = (caches, cache);
     let mut dealt = Vec::with_capacity(alloc, given.len())?;
@@ -99,29 +102,30 @@ fn deal<const V: usize>(
         };
         dealt.push(with_reader(pass, reader)?)?;
     }
-    Ok(dealt)
+    Ok((dealt, readers))
 }
 
-// One cache more, its writer, and the passes with a reader of it.
+// One cache more with this many readers, its writer, the passes with a reader of it, and the readers that are left.
 fn open_one<const V: usize>(
     alloc: Global,
     shape: Shape,
-    passes: u32,
+    all: u32,
     caches: &Vec<Cache<V>>,
     given: Vec<Pass<V>>,
-) -> Result<(Cache<V>, Writer<V>, Vec<Pass<V>>), OpenError>
+) -> Result<(Cache<V>, Writer<V>, Vec<Pass<V>>, Vec<Reader<V>>), OpenError>
     requires width { IsWidth V }
-    requires asked { IsShape shape × HasReaders passes }
-    requires many { length given.items ≡ passes }
+    requires asked { IsShape shape × HasReaders all }
+    requires many { length given.items ≤ all }
     requires given { All (AreDealt caches.now.items) given.items }
-    ensures refused { MatchResult result (λ r. r.0.layout ≡ layout_of V shape) (λ e. RefusesOpening shape passes e) }
+    ensures refused { MatchResult result (λ r. r.0.layout ≡ layout_of V shape) (λ e. RefusesOpening shape all e) }
     ensures writer { IfOk result (λ r. r.1 ≡ writer_record r.0 [] []) }
-    ensures many { IfOk result (λ r. length r.2.items ≡ passes) }
+    ensures many { IfOk result (λ r. length r.2.items ≡ length given.entry.items) }
     ensures dealt { IfOk result (λ r. All (AreDealt (caches.now.items ++ r.0 ∷ [])) r.2.items) }
+    ensures left { IfOk result (λ r. All (λ x. (x.of ≡ r.0) × (x.front ≡ [])) r.3.items) }
 {
-    let (cache, writer, readers) = open::<V>(alloc, shape, passes)?;
+    let (cache, writer, readers) = open::<V>(alloc, shape, all)?;
     match deal::<V>(alloc, caches, &cache, given, readers) {
-        Ok(dealt) => Ok((cache, writer, dealt)),
+        Ok((dealt, left)) => Ok((cache, writer, dealt, left)),
         Err(_) => Err(OpenError::NoMemory),
     }
 }
@@ -137,34 +141,39 @@ pub(crate) fn push_to<T: Drop>(list: &mut Vec<T>, value: T) -> Result<(), OpenEr
     }
 }
 
-// All caches, their writers and the passes.
+// All caches with this many readers each, their writers, and the requested number of passes.
 pub(crate) fn open_all<const V: usize>(
     alloc: Global,
     shape: Shape,
     shards: u32,
     passes: u32,
-) -> Result<(Vec<Cache<V>>, Vec<Writer<V>>, Vec<Pass<V>>), OpenError>
+    all: u32,
+) -> Result<(Vec<Cache<V>>, Vec<Writer<V>>, Vec<Pass<V>>, Spares<V>), OpenError>
     requires width { IsWidth V }
-    requires asked { IsShape shape × HasReaders passes }
-    ensures refused { MatchResult result (λ r. length r.0.items ≡ shards) (λ e. RefusesOpening shape passes e) }
+    requires asked { IsShape shape × HasReaders all }
+    requires many { passes ≤ all }
+    ensures refused { MatchResult result (λ r. length r.0.items ≡ shards) (λ e. RefusesOpening shape all e) }
     ensures shapes { IfOk result (λ r. All (λ o. o.layout ≡ layout_of V shape) r.0.items) }
     ensures writers { IfOk result (λ r. r.1.items ≡ new_writers r.0.items) }
     ensures many { IfOk result (λ r. length r.2.items ≡ passes) }
     ensures dealt { IfOk result (λ r. All (AreDealt r.0.items) r.2.items) }
+    ensures spares { IfOk result (λ r. AreListsOf r.0.items r.3) }
 {
     let mut caches = Vec::new(alloc);
     let mut writers = Vec::new(alloc);
+    let mut lists = Vec::new(alloc);
     let Ok(mut given) = blank_passes::<V>(alloc, passes) else {
         return Err(OpenError::NoMemory);
     };
     for shard in 0..shards {
         let _shard = shard;
-        let (cache, writer, dealt) = open_one::<V>(alloc, shape, passes, &caches, given)?;
+        let (cache, writer, dealt, left) = open_one::<V>(alloc, shape, all, &caches, given)?;
         given = dealt;
         push_to(&mut caches, cache)?;
         push_to(&mut writers, writer)?;
+        push_to(&mut lists, left)?;
     }
-    Ok((caches, writers, given))
+    Ok((caches, writers, given, Spares { lists }))
 }
 
 // A place for each writer.
@@ -186,8 +195,38 @@ pub(crate) fn lenders_of<const V: usize>(
     Ok(lenders)
 }
 
-/// Opens `shards` shards, each an empty cache of this shape, and `passes` passes. Returns the first error
-/// that applies: `Shards` if their number is no power of two from 1 to 256, then those of `mc_cache::open`. After an error nothing leaks.
+/// Opens `shards` shards, each an empty cache of this shape with `all` readers, and `passes` passes. The other readers are spares. Returns the
+/// first error that applies: `Shards` if their number is no power of two from 1 to 256, then those of `mc_cache::open`. After an error nothing
+/// leaks. Conditions: a value has from 1 to 8 words, and there may be as many readers as `all` if there may be as many passes.
+#[tactic(auto, using(crate::proofs::Spared::refused_as_asked))]
+pub fn open_spared<const V: usize>(
+    alloc: Global,
+    shape: Shape,
+    shards: u32,
+    passes: u32,
+    all: u32,
+) -> Result<(Shards<V>, Vec<Pass<V>>, Spares<V>), OpenShardsError>
+    requires width { IsWidth V }
+    requires all { HasReaders passes → (passes ≤ all) × HasReaders all }
+    ensures shards { MatchResult result (λ r. (r.0.shape ≡ shape) × (length r.0.tables ≡ shards)) (λ e. RefusesShards shape shards passes e) }
+    ensures asked { IfOk result (λ r. HasShards shards × IsShape shape × HasReaders passes) }
+    ensures many { IfOk result (λ r. length r.1.items ≡ passes) }
+    ensures of { IfOk result (λ r. All (ArePassOf r.0) r.1.items) }
+    ensures plain { IfOk result (λ r. All (HasSeenNothing V) r.1.items) }
+    ensures spares { IfOk result (λ r. AreSparesOf r.0 r.2) }
+{
+    check_opening(shape, shards, passes)?;
+    let (caches, writers, passes, spares) = open_all::<V>(alloc, shape, shards, passes, all)?;
+    let lenders = lenders_of::<V>(alloc, writers)?;
+    let shards = Shards {
+        shape,
+        caches,
+        lenders,
+    };
+    Ok((shards, passes, spares))
+}
+
+/// Opens `shards` shards, each an empty cache of this shape, and `passes` passes: `open_spared` without spares.
 /// Condition: a value has from 1 to 8 words.
 pub fn open_shards<const V: usize>(
     alloc: Global,
@@ -202,13 +241,6 @@ pub fn open_shards<const V: usize>(
     ensures of { IfOk result (λ r. All (ArePassOf r.0) r.1.items) }
     ensures plain { IfOk result (λ r. All (HasSeenNothing V) r.1.items) }
 {
-    check_opening(shape, shards, passes)?;
-    let (caches, writers, passes) = open_all::<V>(alloc, shape, shards, passes)?;
-    let lenders = lenders_of::<V>(alloc, writers)?;
-    let shards = Shards {
-        shape,
-        caches,
-        lenders,
-    };
+    let (shards, passes, _) = open_spared::<V>(alloc, shape, shards, passes, passes)?;
     Ok((shards, passes))
 }

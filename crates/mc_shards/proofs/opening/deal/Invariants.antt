@@ -1,11 +1,11 @@
-use Rattle.std.proofs.Common.{◌≡◌, ◌+◌, [], ◌∷◌, ◌++◌, length}
+use Rattle.std.proofs.Common.{◌≡◌, ◌+◌, ◌≤◌, [], ◌∷◌, ◌++◌, length}
 use Rattle.std.specs.List.{All}
 use Rattle.mc_shards.specs.Inside.Dealt.{AreDealt}
 use Rattle.mc_shards.proofs.opening.deal.Given as goal
 
 abbrev pub invariant-loop-pass : goal.invariant-loop-pass
 invariant-loop-pass g l = record {
-  many : length l.readers.items ≡ length l.given.items;
+  many : length l.given.items ≤ length l.readers.items;
   count : length l.dealt.items + length l.given.items ≡ length l.fn.given.items;
   fresh : All (λ r. (r.of ≡ l.cache) × (r.front ≡ [])) l.readers.items;
   given : All (AreDealt l.caches.items) l.given.items;

@@ -1,5 +1,5 @@
 use Rattle.std.proofs.Common.{◌≡◌, length}
-use Rattle.std.specs.List.{All}
+use Rattle.std.specs.List.{All, AllZip}
 use Rattle.mc_shared.specs.Views.{layout_of}
 use Rattle.mc_shards.specs.Inside.Dealt.{AreDealt}
 use Rattle.mc_shards.specs.Loadings.{new_writers}
@@ -12,4 +12,5 @@ invariant-loop-shard g l = record {
   writers : l.writers.items ≡ new_writers l.caches.items;
   many : length l.given.items ≡ l.passes;
   dealt : All (AreDealt l.caches.items) l.given.items;
+  lists : AllZip (λ o list. All (λ r. r.of ≡ o) list.items) l.caches.items l.lists.items;
 }

@@ -1,4 +1,4 @@
-use Rattle.std.proofs.Common.{arith, sym, ◌∙◌}
+use Rattle.std.proofs.Common.{arith}
 use Rattle.mc_shards.proofs.Dealt.{as_many_new, fresh_new}
 use Rattle.mc_shards.proofs.opening.open_one.Goals as goal
 
@@ -12,7 +12,7 @@ deal-requires g c =
         (
           omega arith,
           (
-            as_many_new cache c.args.passes readers c.in_ok-cache.ensures.readers ∙ sym c.requires.many,
+            omega (arith, as_many_new cache c.args.all readers c.in_ok-cache.ensures.readers, c.requires.many),
             (fresh_new cache readers c.in_ok-cache.ensures.fresh, c.requires.given),
           ),
         ),

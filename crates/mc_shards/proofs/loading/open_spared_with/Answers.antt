@@ -5,7 +5,7 @@ use Rattle.mc_shared.specs.Views.{layout_of}
 use Rattle.mc_cache.specs.Plain.{IsLegal, history}
 use Rattle.mc_shards.specs.Loadings.{ShardsLoad}
 use Rattle.mc_shards.proofs.LoadedShards.{all_seen, held_all, shaped_tables, shaped_writers, tables_of_new}
-use Rattle.mc_shards.proofs.loading.open_shards_with.Goals as goal
+use Rattle.mc_shards.proofs.loading.open_spared_with.Goals as goal
 
 pub load-requires : goal.load-requires
 load-requires g c = (

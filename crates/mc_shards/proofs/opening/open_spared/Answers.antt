@@ -3,7 +3,7 @@ use Rattle.mc_words.specs.Shapes.{HasShards}
 use Rattle.mc_shared.specs.Records.{WriterRecord}
 use Rattle.mc_shards.proofs.Dealt.{passes_new}
 use Rattle.mc_shards.proofs.LoadedShards.{tables_of_new}
-use Rattle.mc_shards.proofs.opening.open_shards.Goals as goal
+use Rattle.mc_shards.proofs.opening.open_spared.Goals as goal
 
 pub invariant_of-shards : goal.invariant_of-shards
 invariant_of-shards g c = record {
