@@ -273,7 +273,7 @@ impl<const WORDS: usize> Writing<'_, WORDS> {
     ///
     /// Removes each key of a cache of one shard that has had no put since a moment:
     ///
-    /// ```no_run
+    /// ```
     /// use cefrodil::{Cache, Entry, Shape};
     ///
     /// let mut handles = Cache::<1>::open(&Shape::for_items(100, 1)?, 1, 1)?;

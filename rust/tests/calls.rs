@@ -60,7 +60,6 @@ fn a_holder_looks_up_counts_and_lists() -> Tested {
 }
 
 #[test]
-#[ignore = "the library lists stamps of shards from the next version on"]
 fn a_list_has_stamps() -> Tested {
     let (mut one, mut readers) = opened::<2>(100, 1)?;
     let mut writing = one.hold()?;
@@ -78,7 +77,6 @@ fn a_list_has_stamps() -> Tested {
 }
 
 #[test]
-#[ignore = "the library lists stamps of shards from the next version on"]
 fn a_handle_lists_stamps() -> Tested {
     for shards in [1, 8] {
         let mut handles = Cache::<1>::open(&Shape::for_items(500, shards)?, shards, 1)?;

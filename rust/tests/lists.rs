@@ -29,7 +29,6 @@ fn a_list_of_a_full_cache_has_each_entry() -> Tested {
 }
 
 #[test]
-#[ignore = "the library lists stamps of shards from the next version on"]
 fn a_list_with_stamps_of_a_full_cache_has_each_entry() -> Tested {
     for items in [1, 64, 1_000] {
         let expected: Vec<u64> = (0..u64::from(items)).collect();

@@ -151,7 +151,6 @@ fn a_list_without_memory_is_an_error() -> Tested {
 }
 
 #[test]
-#[ignore = "the library lists stamps of shards from the next version on"]
 fn a_list_with_stamps_without_memory_is_an_error() -> Tested {
     let expected = [Entry { key: 7, value: [70, 71], since: 1 }];
     for shards in [1, 4] {

@@ -48,7 +48,7 @@ fn errors_that_say_more_have_texts_of_their_own() {
     for (status, text, error) in [
         (1, "absent", PutIfError::NotThere { at: 7 }.to_string()),
         (6, "changed", PutIfError::Changed { since: 7 }.to_string()),
-        (21, "readers or passes must be from 1 to 1024, and no more than there are to spare", OpenError::Handles.to_string()),
+        (21, "handles must be from 1 to 1024, and no more than there are to spare", OpenError::Handles.to_string()),
         (25, "present", PutIfAbsentError::Present { since: 7 }.to_string()),
     ] {
         assert_eq!(text_of_archive(status), text);
