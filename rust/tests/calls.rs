@@ -11,7 +11,7 @@ fn opened<const WORDS: usize>(items: u32, readers: usize) -> Result<(Handle<WORD
 where
     [u64; WORDS]: Value,
 {
-    let mut handles = Cache::<WORDS>::open(&Shape { items, ..Shape::for_items(items, 1)? }, 1, 1 + readers)?;
+    let mut handles = Cache::<WORDS>::open(&Shape::for_items(items, 1)?, 1, 1 + readers)?;
     Ok((handles.remove(0), handles))
 }
 

@@ -170,10 +170,6 @@ thread_local! {
     static TOLD: Cell<Option<[PutInTurn; 40]>> = const { Cell::new(None) };
 }
 
-fn shape() -> Result<Shape, OpenError> {
-    Ok(Shape { items: 100, ..Shape::for_items(100, 1)? })
-}
-
 type PutInTurn = Result<Put, TurnError<PutError>>;
 
 // More keys than one call of the archive takes.
@@ -199,7 +195,7 @@ fn put_beside() -> bool {
 // While a list has the turn, each put of a batch is held, and nothing is changed.
 #[test]
 fn a_batch_beside_a_list_is_held() -> Tested {
-    let mut handles = Cache::<1>::open(&shape()?, 1, 2)?;
+    let mut handles = Cache::<1>::open(&Shape::for_items(100, 1)?, 1, 2)?;
     BESIDE.set(handles.pop());
     handles[0].try_put(7, &[70])?;
     IN_TURN.set(Some(put_beside));
@@ -262,7 +258,7 @@ fn each_call_is_held(handle: &mut Handle<1>) {
 
 #[test]
 fn each_call_beside_a_list_is_held() -> Tested {
-    let mut handles = Cache::<1>::open(&shape()?, 1, 2)?;
+    let mut handles = Cache::<1>::open(&Shape::for_items(100, 1)?, 1, 2)?;
     BESIDE.set(handles.pop());
     handles[0].try_put(7, &[70])?;
     IN_TURN.set(Some(call_beside));
@@ -279,7 +275,7 @@ fn a_list_has_room_for_what_is_put_before_its_turn() -> Tested {
     fn put_before() -> bool {
         BESIDE.with_borrow_mut(|handle| handle.as_mut().is_some_and(|handle| handle.try_put(8, &[80]).is_ok()))
     }
-    let mut handles = Cache::<1>::open(&shape()?, 1, 2)?;
+    let mut handles = Cache::<1>::open(&Shape::for_items(100, 1)?, 1, 2)?;
     BESIDE.set(handles.pop());
     handles[0].try_put(7, &[70])?;
     IN_TURN.set(Some(put_before));
@@ -292,7 +288,7 @@ fn a_list_has_room_for_what_is_put_before_its_turn() -> Tested {
 fn to_hold_and_to_close_takes_no_memory() -> Tested {
     let before = KEPT.get();
     for shards in [1, 4] {
-        let mut handles = Cache::<1>::open(&shape()?, shards, 64)?;
+        let mut handles = Cache::<1>::open(&Shape::for_items(100, 1)?, shards, 64)?;
         let told = with_allocations(0, || {
             let meter = handles[0].meter();
             let moment = handles[0].hold().map(|mut writing| writing.moment());
