@@ -1,6 +1,6 @@
-//! Without memory an opening and a list are errors, which keep nothing. Each allocation is refused in turn: the archive and the crate allocate
+//! Without memory an opening, a list and a call for more handles are errors, which keep nothing. Each allocation is refused in turn: the archive and the crate allocate
 //! by this program's own functions. A list allocates in its turn, so a batch of another handle is held meanwhile.
-use cefrodil::{Cache, Entry, Handle, ListError, OpenError, Put, PutError, Reply, Shape, TurnError, Why};
+use cefrodil::{Cache, Entry, Handle, ListError, MoreError, OpenError, Put, PutError, Reply, Shape, TurnError, Why};
 use std::cell::{Cell, RefCell};
 use std::error::Error;
 use std::ffi::{c_int, c_void};
@@ -135,6 +135,34 @@ fn an_opening_with_entries_without_memory_is_an_error() -> Tested {
     let mut opened = opens(OF_CRATE + 3, || Cache::<1>::open_with(&small, 1, 2, &[(7, [70]), (8, [80]), (9, [90])]));
     assert_eq!(opened.left, [(2, Why::NoItem)]);
     assert_eq!((opened.handles[0].try_len()?, opened.handles[1].get(8).value()), (2, Some([80])));
+    Ok(())
+}
+
+// Two more handles, after more refusals than the crate alone allocates. A refusal may use spare handles up, whose memory is freed then.
+fn more(handle: &mut Handle<1>) -> Vec<Handle<1>> {
+    for allowed in 0..30 {
+        let kept = KEPT.get();
+        match with_allocations(allowed, || handle.more(2)) {
+            Err(why) => assert_eq!((why, KEPT.get() <= kept), (MoreError::NoMemory, true)),
+            Ok(more) => {
+                assert!(allowed > OF_CRATE, "more handles after {allowed} allocations");
+                return more;
+            }
+        }
+    }
+    panic!("no more handles after 30 allocations");
+}
+
+#[test]
+fn more_handles_without_memory_are_an_error() -> Tested {
+    let before = KEPT.get();
+    for shards in [1, 4] {
+        let mut handles = Cache::<1>::open(&Shape::for_items(100, shards)?, shards, 1)?;
+        let mut more = more(&mut handles[0]);
+        more[0].try_put(7, &[70])?;
+        assert_eq!((more[1].get(7).value(), handles[0].get(7).value()), (Some([70]), Some([70])));
+    }
+    assert_eq!(KEPT.get(), before);
     Ok(())
 }
 
