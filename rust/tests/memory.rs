@@ -1,5 +1,6 @@
-//! Without memory an opening, a list and a call for more handles are errors, which keep nothing. Each allocation is refused in turn: the archive and the crate allocate
-//! by this program's own functions. A list allocates in its turn, so a batch of another handle is held meanwhile.
+//! Without memory an opening, a list and a call for more handles are errors, which keep nothing. Each allocation is refused in turn: the
+//! archive and the crate allocate by this program's own functions. A list allocates in its turn, so a batch of another handle is held
+//! meanwhile.
 use cefrodil::{Cache, Entry, Handle, ListError, MoreError, OpenError, Put, PutError, Reply, Shape, TurnError, Why};
 use std::cell::{Cell, RefCell};
 use std::error::Error;
