@@ -74,10 +74,6 @@ impl<S> Settings<S> {
     fn shape_for(&self, capacity: usize, shards: u32) -> Result<(Shape, u32), OpenError> {
         let capacity = u32::try_from(capacity).unwrap_or(u32::MAX);
         let mut shape = Shape::for_items(capacity, shards).map_err(OpenError::of)?;
-        if shards == 1 {
-            // It has all keys, so it needs no room for more than its mean share.
-            shape.items = capacity;
-        }
         if shape.items < SMALL {
             shape.buckets *= 4;
         }

@@ -323,10 +323,14 @@ fn before_call() {
     }
 }
 
+/// After how many calls a test does something, and what it does.
+#[cfg(test)]
+type Later = Option<(u32, Box<dyn FnOnce()>)>;
+
 #[cfg(test)]
 thread_local! {
     /// How many calls of an index this thread has made, if it has a handle.
     pub(crate) static CALLS: Cell<u32> = const { Cell::new(0) };
-    /// What a test does before a call of this thread: after so many others.
-    pub(crate) static BEFORE_CALL: Cell<Option<(u32, Box<dyn FnOnce()>)>> = const { Cell::new(None) };
+    /// What a test does before a call of this thread.
+    pub(crate) static BEFORE_CALL: Cell<Later> = const { Cell::new(None) };
 }

@@ -2,7 +2,10 @@
 use crate::memory::{room, NoMemory, Shared};
 use crate::raw::{self, RawAnswer, RawReply};
 use std::fmt::{self, Debug, Formatter, Write};
+use std::iter::successors;
+use std::mem;
 use std::sync::atomic::{AtomicU64, Ordering};
+use std::sync::OnceLock;
 
 /// Whether anything is counted.
 const COUNTED: bool = cfg!(feature = "counts");
@@ -58,7 +61,7 @@ impl Meter {
     #[must_use]
     pub fn counts(&self) -> Counts {
         let mut sums = [0; NUMBERS];
-        for line in self.0.iter().flat_map(|lines| lines.iter()) {
+        for line in self.0.iter().flat_map(|lines| lines.all()).flat_map(|lines| &lines.lines) {
             sums.iter_mut().zip(&line.0).for_each(|(sum, number)| *sum += number.load(Ordering::Relaxed));
         }
         let [hits, misses, busy, held, evictions, refusals] = sums;
@@ -109,8 +112,28 @@ impl Line {
     }
 }
 
-/// The lines of a cache's handles. They stay as long as one of the handles, or a meter.
-type Lines = Vec<Shared<Line>>;
+/// The lines of handles that were opened at once, and those of handles that the cache got later. They stay as long as one of the handles, or a
+/// meter.
+struct Lines {
+    lines: Vec<Shared<Line>>,
+    later: OnceLock<Shared<Lines>>,
+}
+
+impl Lines {
+    /// These, and the later ones.
+    fn all(&self) -> impl Iterator<Item = &Lines> {
+        successors(Some(self), |lines| lines.later.get().map(|later| &**later))
+    }
+
+    /// Puts these behind the last ones. Another thread may do so at the same time.
+    fn append(&self, mut more: Shared<Lines>) {
+        let mut last = self;
+        while let Err(refused) = last.later.set(more) {
+            more = refused;
+            last = last.later.get().expect("only what is set refuses");
+        }
+    }
+}
 
 /// A handle's line, and those of all handles.
 pub(crate) struct Counter(Option<(Shared<Line>, Shared<Lines>)>);
@@ -127,9 +150,21 @@ impl Counter {
         for _ in 0..count {
             lines.push(Shared::new(Line::default())?);
         }
-        let lines = Shared::new(lines)?;
-        counters.extend(lines.iter().map(|line| Counter(Some((line.clone(), lines.clone())))));
+        let all = Shared::new(Lines { lines, later: OnceLock::new() })?;
+        counters.extend(all.lines.iter().map(|line| Counter(Some((line.clone(), all.clone())))));
         Ok(counters)
+    }
+
+    /// Makes these counters, which `many` made, count for the cache of this one.
+    pub fn take_in(&self, more: &mut [Counter]) {
+        let Some((_, all)) = &self.0 else { return };
+        let mut own = None;
+        for (_, lines) in more.iter_mut().flat_map(|counter| &mut counter.0) {
+            own = Some(mem::replace(lines, all.clone()));
+        }
+        if let Some(own) = own {
+            all.append(own);
+        }
     }
 
     /// One that counts nothing.

@@ -39,6 +39,18 @@ pub enum OpenError {
     NoMemory,
 }
 
+/// Why a cache got no more handles.
+#[derive(Clone, Copy, Debug, PartialEq, Eq, Hash)]
+#[non_exhaustive]
+pub enum MoreError {
+    /// Another thread takes spare handles of the cache at the same moment. Try again.
+    Held,
+    /// There must be one at least, and no more than the cache has to spare.
+    Handles,
+    /// Out of memory. Some spare handles may be used up.
+    NoMemory,
+}
+
 /// Why a put failed.
 #[derive(Clone, Copy, Debug, PartialEq, Eq, Hash)]
 #[non_exhaustive]
@@ -146,6 +158,24 @@ impl OpenError {
     }
 }
 
+impl MoreError {
+    pub(crate) fn of(status: u32) -> MoreError {
+        match status {
+            raw::HELD => MoreError::Held,
+            raw::BAD_HANDLES => MoreError::Handles,
+            raw::NO_MEMORY => MoreError::NoMemory,
+            // The handle is open, and the others are empty.
+            other => unreachable!("a call for more handles gives no status {other}"),
+        }
+    }
+}
+
+impl From<NoMemory> for MoreError {
+    fn from(_: NoMemory) -> MoreError {
+        MoreError::NoMemory
+    }
+}
+
 impl From<NoMemory> for OpenError {
     fn from(_: NoMemory) -> OpenError {
         OpenError::NoMemory
@@ -197,6 +227,16 @@ impl Display for OpenError {
             OpenError::Limit => "limit must be from 0 to 4611686018427387904",
             OpenError::Handles => "handles must be from 1 to 1024",
             OpenError::NoMemory => "no memory",
+        })
+    }
+}
+
+impl Display for MoreError {
+    fn fmt(&self, text: &mut Formatter) -> fmt::Result {
+        text.write_str(match self {
+            MoreError::Held => "held",
+            MoreError::Handles => "handles must be from 1 to 1024, and no more than there are to spare",
+            MoreError::NoMemory => "no memory",
         })
     }
 }
@@ -276,6 +316,7 @@ impl<E: Display> Display for TurnError<E> {
 }
 
 impl Error for OpenError {}
+impl Error for MoreError {}
 impl Error for PutError {}
 impl Error for Why {}
 impl Error for PutIfError {}

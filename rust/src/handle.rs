@@ -1,7 +1,7 @@
 //! A thread's handle of a cache.
 use crate::counts::Meter;
-use crate::error::{Held, ListError, PutError, PutIfAbsentError, PutIfError, Spent, TurnError};
-use crate::open_handle::OpenHandle;
+use crate::error::{Held, ListError, MoreError, PutError, PutIfAbsentError, PutIfError, Spent, TurnError};
+use crate::open_handle::{openings, OpenHandle};
 use crate::raw;
 use crate::reply::{self, Entry, Put, Removal, Replaced, Reply, Swapped, Take};
 use std::fmt::{self, Debug, Formatter};
@@ -34,6 +34,29 @@ impl<const WORDS: usize> Handle<WORDS> {
     #[must_use]
     pub fn meter(&self) -> Meter {
         self.0.meter()
+    }
+
+    /// Opens `count` more handles of the cache. It has 64 to spare, or as many as make 1024 in all. One that was opened is used up, also after it
+    /// is dropped. The [`Meter`] counts their calls, too.
+    ///
+    /// # Errors
+    ///
+    /// [`MoreError`]: no handle was opened.
+    ///
+    /// # Examples
+    ///
+    /// ```
+    /// use cefrodil::{Cache, Shape};
+    ///
+    /// let mut handles = Cache::<1>::open(&Shape::for_items(100, 1)?, 1, 1)?;
+    /// handles[0].try_put(7, &[70])?;
+    /// let more = handles[0].more(2)?;
+    /// handles.extend(more);
+    /// assert_eq!(handles[2].get(7).value(), Some([70]));
+    /// # Ok::<(), Box<dyn std::error::Error>>(())
+    /// ```
+    pub fn more(&mut self, count: usize) -> Result<Vec<Handle<WORDS>>, MoreError> {
+        openings::more(&mut self.0, count)
     }
 
     /// Looks the key up. A hit marks the key as recently used.

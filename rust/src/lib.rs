@@ -4,7 +4,8 @@
 //! turns, so it writes without trying. Several writers that try want several shards, so that they rarely want the same turn.
 //! A [`Filler`] is for a cache beside a store that changes, a [`Meter`] for metrics, an [`AuditLog`] for a check of what was answered.
 //! A forked child may drop its parent's handles, which frees nothing, and open caches of its own. It makes no other call by the parent's.
-//! Without memory an opening and a list are errors. [`Filler::new`], [`Pool::new`] and [`prometheus`] end the process, as std's own types do.
+//! Without memory an opening, a list and [`Handle::more`] are errors. [`Filler::new`], [`Pool::new`] and [`prometheus`] end the process, as
+//! std's own types do.
 //! `docs/USING.md` has sizing, patterns and what to do about each answer.
 #![deny(missing_docs, missing_debug_implementations, unsafe_op_in_unsafe_fn)]
 
@@ -32,7 +33,7 @@ mod writing;
 pub use audit::AuditLog;
 pub use cache::{Cache, Opened};
 pub use counts::{prometheus, Counts, Meter};
-pub use error::{Held, ListError, NotHeld, OpenError, PutError, PutIfAbsentError, PutIfError, Spent, TurnError, Why};
+pub use error::{Held, ListError, MoreError, NotHeld, OpenError, PutError, PutIfAbsentError, PutIfError, Spent, TurnError, Why};
 pub use filler::{FillError, Filler, Ticket, Tickets};
 pub use handle::Handle;
 pub use open_handle::version;

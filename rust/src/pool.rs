@@ -3,8 +3,8 @@ use std::fmt::{self, Debug, Formatter};
 use std::ops::{Deref, DerefMut};
 use std::sync::{Arc, Mutex, PoisonError};
 
-/// A pool of [`Handle`](crate::Handle)s, for threads that come and go. A cache has as many handles as it was opened with, so a thread takes
-/// one and gives it back. A clone is the same pool.
+/// A pool of [`Handle`](crate::Handle)s, for threads that come and go. A cache has at most 1024 handles, so a thread takes one and gives it
+/// back. A clone is the same pool.
 ///
 /// ```
 /// use cefrodil::{Cache, Pool, Shape};

@@ -83,13 +83,7 @@ unsafe extern "C" {
     #[link_name = of_series!("cefrodil_shape_for_items")]
     pub fn cefrodil_shape_for_items(items: u32, shards: u32, shape: *mut RawShape) -> u32;
     #[link_name = of_series!("cefrodil_open")]
-    pub fn cefrodil_open(
-        shape: *const RawShape,
-        shards: u32,
-        words: usize,
-        handles: *mut RawHandle,
-        count: usize,
-    ) -> u32;
+    pub fn cefrodil_open(shape: *const RawShape, shards: u32, words: usize, handles: *mut RawHandle, count: usize) -> u32;
     #[link_name = of_series!("cefrodil_open_with")]
     pub fn cefrodil_open_with(
         shape: *const RawShape,

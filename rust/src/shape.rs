@@ -34,19 +34,20 @@ pub struct Shape {
 }
 
 impl Shape {
-    /// Chooses the shape of each of `shards` shards that hold `items` items together. A shard gets its mean share and five standard
-    /// deviations more, because the hash gives some shards more keys than others.
+    /// Chooses the shape of each of `shards` shards that hold `items` items together. One shard has room for just these. Each of several gets its
+    /// mean share and five standard deviations more, because the hash gives some shards more keys than others.
     ///
     /// # Errors
     ///
-    /// [`OpenError::Shards`] if the number of shards is no power of two from 1 to 256. [`OpenError::Items`] if there are no items, or too many
-    /// for a shard. [`OpenError::Version`] or [`OpenError::Processor`] if no cache can be opened.
+    /// [`OpenError::Shards`] if the number of shards is no power of two from 1 to 256. [`OpenError::Items`] if there are no items, or more than
+    /// 3,774,873 in a shard. [`OpenError::Version`] or [`OpenError::Processor`] if no cache can be opened.
     ///
     /// # Examples
     ///
     /// ```
     /// use cefrodil::{OpenError, Shape};
     ///
+    /// assert_eq!(Shape::for_items(1000, 1)?.items, 1000);
     /// assert_eq!(Shape::for_items(16_000, 16)?.items, 1160);
     /// assert_eq!(Shape::for_items(16_000, 10), Err(OpenError::Shards));
     /// # Ok::<(), OpenError>(())

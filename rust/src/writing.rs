@@ -1,7 +1,8 @@
 //! A handle that holds the turns of all shards.
 use crate::counts::Meter;
-use crate::error::{ListError, PutError, PutIfAbsentError, PutIfError, Spent};
-use crate::open_handle::OpenHandle;
+use crate::error::{ListError, MoreError, PutError, PutIfAbsentError, PutIfError, Spent};
+use crate::handle::Handle;
+use crate::open_handle::{openings, OpenHandle};
 use crate::reply::{self, Entry, Put, Removal, Replaced, Reply, Swapped, Take};
 use std::fmt::{self, Debug, Formatter};
 
@@ -273,7 +274,7 @@ impl<const WORDS: usize> Writing<'_, WORDS> {
     ///
     /// Removes each key of a cache of one shard that has had no put since a moment:
     ///
-    /// ```no_run
+    /// ```
     /// use cefrodil::{Cache, Entry, Shape};
     ///
     /// let mut handles = Cache::<1>::open(&Shape::for_items(100, 1)?, 1, 1)?;
@@ -292,6 +293,15 @@ impl<const WORDS: usize> Writing<'_, WORDS> {
     pub fn stamped_entries(&mut self) -> Result<Vec<Entry<WORDS>>, ListError> {
         let most = self.len();
         reply::without_turn(reply::stamped_entries(self.handle(), most))
+    }
+
+    /// Opens more handles of the cache, as [`Handle::more`] does.
+    ///
+    /// # Errors
+    ///
+    /// [`MoreError`]: no handle was opened.
+    pub fn more(&mut self, count: usize) -> Result<Vec<Handle<WORDS>>, MoreError> {
+        openings::more(self.handle(), count)
     }
 
     /// Reads what the calls by all handles of this cache came to.

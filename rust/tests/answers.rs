@@ -55,6 +55,11 @@ fn a_shape_for_items_has_every_field() -> Result<(), OpenError> {
     // Each of the shards has 1,000 items on average, and five times the root of that more.
     let expected = Shape { limit: 1 << 62, buckets: 512, items: 1160, stripes: 512, depth: 5, tries: 8, mix: Mix::Full };
     assert_eq!(Shape::for_items(16_000, 16)?, expected);
+    // One shard has all of them, and each slot but a tenth may be filled.
+    assert_eq!(Shape::for_items(1000, 1)?, Shape { items: 1000, ..expected });
+    let most = 3_774_873;
+    assert_eq!(Shape::for_items(most, 1)?, Shape { buckets: 1 << 20, items: most, stripes: 8192, ..expected });
+    assert_eq!(Shape::for_items(most + 1, 1), Err(OpenError::Items));
     Ok(())
 }
 

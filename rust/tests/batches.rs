@@ -114,7 +114,7 @@ fn a_held_put_of_many_stops_no_other() -> Result<(), Box<dyn Error>> {
 fn a_peek_is_no_use() -> Result<(), Box<dyn Error>> {
     // Fills a cache of three items, looks its next victim up by this call, and returns the key that another put evicts.
     let evicted_after = |look: fn(&mut Writing<1>, u64) -> Reply<1>| -> Result<(u64, u64), Box<dyn Error>> {
-        let mut handles = Cache::<1>::open(&Shape { items: 3, ..Shape::for_items(3, 1)? }, 1, 1)?;
+        let mut handles = Cache::<1>::open(&Shape::for_items(3, 1)?, 1, 1)?;
         let mut writing = handles[0].hold()?;
         for key in 0..3 {
             writing.put(key, &[key])?;

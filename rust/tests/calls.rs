@@ -11,7 +11,7 @@ fn opened<const WORDS: usize>(items: u32, readers: usize) -> Result<(Handle<WORD
 where
     [u64; WORDS]: Value,
 {
-    let mut handles = Cache::<WORDS>::open(&Shape { items, ..Shape::for_items(items, 1)? }, 1, 1 + readers)?;
+    let mut handles = Cache::<WORDS>::open(&Shape::for_items(items, 1)?, 1, 1 + readers)?;
     Ok((handles.remove(0), handles))
 }
 
@@ -60,7 +60,6 @@ fn a_holder_looks_up_counts_and_lists() -> Tested {
 }
 
 #[test]
-#[ignore = "the library lists stamps of shards from the next version on"]
 fn a_list_has_stamps() -> Tested {
     let (mut one, mut readers) = opened::<2>(100, 1)?;
     let mut writing = one.hold()?;
@@ -78,7 +77,6 @@ fn a_list_has_stamps() -> Tested {
 }
 
 #[test]
-#[ignore = "the library lists stamps of shards from the next version on"]
 fn a_handle_lists_stamps() -> Tested {
     for shards in [1, 8] {
         let mut handles = Cache::<1>::open(&Shape::for_items(500, shards)?, shards, 1)?;

@@ -1,6 +1,8 @@
 //! What the calls of a cache's handles came to is counted: by a handle that holds, too, and also once it is dropped. In threads no count is
 //! lost. Without the feature `counts` each count is 0.
-use cefrodil::{prometheus, Cache, Counts, Handle, Meter, Mix, Put, PutError, PutIfError, Reply, Shape, Spent, TurnError};
+use cefrodil::{
+    prometheus, Cache, Counts, Handle, Meter, Mix, Put, PutError, PutIfAbsentError, PutIfError, Reply, Shape, Spent, TurnError,
+};
 use std::error::Error;
 use std::sync::atomic::{AtomicBool, Ordering};
 use std::thread;
@@ -141,9 +143,20 @@ impl Told {
         }
     }
 
-    fn put<E>(&mut self, put: Result<Put, TurnError<E>>) {
+    fn put(&mut self, put: Result<Put, TurnError<PutError>>) {
         self.0[4] += u64::from(matches!(put, Ok(Put::Stored { evicted: Some(_), .. })));
+        self.0[5] += u64::from(matches!(put, Err(TurnError::Call(_))));
         self.tried(put);
+    }
+
+    fn put_if_absent(&mut self, put: Result<Put, TurnError<PutIfAbsentError>>) {
+        match put {
+            Ok(put) => self.put(Ok(put)),
+            Err(TurnError::Held) => self.put(Err(TurnError::Held)),
+            Err(TurnError::Call(PutIfAbsentError::Put(why))) => self.put(Err(TurnError::Call(why))),
+            // A key that is there is no refusal.
+            Err(TurnError::Call(_)) => {}
+        }
     }
 
     fn tried<T, E>(&mut self, tried: Result<T, TurnError<E>>) {
@@ -168,7 +181,7 @@ fn work(handle: &mut Handle<1>, is_held: &AtomicBool) -> Told {
         told.put(handle.try_put(key, &[n]));
         told.put(handle.put_within(2, key + 2, &[n]));
         told.tried(handle.try_put_if(key, n, &[n]));
-        told.put(handle.try_put_if_absent(key + 4, &[n]));
+        told.put_if_absent(handle.try_put_if_absent(key + 4, &[n]));
         told.put(handle.try_swap(key + 3, &[n]).map(|swapped| swapped.put));
         told.tried(handle.try_swap_if(key, n, &[n]));
         told.tried(handle.try_take(key));

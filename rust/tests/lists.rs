@@ -15,7 +15,7 @@ fn keys<T>(list: Vec<T>, key: impl Fn(&T) -> u64) -> Vec<u64> {
 fn a_list_of_a_full_cache_has_each_entry() -> Tested {
     for items in [1, 64, 1_000] {
         let expected: Vec<u64> = (0..u64::from(items)).collect();
-        let mut handles = Cache::<2>::open(&Shape { items, ..Shape::for_items(items, 1)? }, 1, 1)?;
+        let mut handles = Cache::<2>::open(&Shape::for_items(items, 1)?, 1, 1)?;
         let mut writing = handles[0].hold()?;
         for key in &expected {
             writing.put(*key, &[0; 2])?;
@@ -29,11 +29,10 @@ fn a_list_of_a_full_cache_has_each_entry() -> Tested {
 }
 
 #[test]
-#[ignore = "the library lists stamps of shards from the next version on"]
 fn a_list_with_stamps_of_a_full_cache_has_each_entry() -> Tested {
     for items in [1, 64, 1_000] {
         let expected: Vec<u64> = (0..u64::from(items)).collect();
-        let mut handles = Cache::<2>::open(&Shape { items, ..Shape::for_items(items, 1)? }, 1, 1)?;
+        let mut handles = Cache::<2>::open(&Shape::for_items(items, 1)?, 1, 1)?;
         for key in &expected {
             handles[0].try_put(*key, &[0; 2])?;
         }

@@ -1,6 +1,7 @@
-//! Without memory an opening and a list are errors, which keep nothing. Each allocation is refused in turn: the archive and the crate allocate
-//! by this program's own functions. A list allocates in its turn, so a batch of another handle is held meanwhile.
-use cefrodil::{Cache, Entry, Handle, ListError, OpenError, Put, PutError, Reply, Shape, TurnError, Why};
+//! Without memory an opening, a list and a call for more handles are errors, which keep nothing. Each allocation is refused in turn: the
+//! archive and the crate allocate by this program's own functions. A list allocates in its turn, so a batch of another handle is held
+//! meanwhile.
+use cefrodil::{Cache, Entry, Handle, ListError, MoreError, OpenError, Put, PutError, Reply, Shape, TurnError, Why};
 use std::cell::{Cell, RefCell};
 use std::error::Error;
 use std::ffi::{c_int, c_void};
@@ -138,6 +139,34 @@ fn an_opening_with_entries_without_memory_is_an_error() -> Tested {
     Ok(())
 }
 
+// Two more handles, after more refusals than the crate alone allocates. A refusal may use spare handles up, whose memory is freed then.
+fn more(handle: &mut Handle<1>) -> Vec<Handle<1>> {
+    for allowed in 0..30 {
+        let kept = KEPT.get();
+        match with_allocations(allowed, || handle.more(2)) {
+            Err(why) => assert_eq!((why, KEPT.get() <= kept), (MoreError::NoMemory, true)),
+            Ok(more) => {
+                assert!(allowed > OF_CRATE, "more handles after {allowed} allocations");
+                return more;
+            }
+        }
+    }
+    panic!("no more handles after 30 allocations");
+}
+
+#[test]
+fn more_handles_without_memory_are_an_error() -> Tested {
+    let before = KEPT.get();
+    for shards in [1, 4] {
+        let mut handles = Cache::<1>::open(&Shape::for_items(100, shards)?, shards, 1)?;
+        let mut more = more(&mut handles[0]);
+        more[0].try_put(7, &[70])?;
+        assert_eq!((more[1].get(7).value(), handles[0].get(7).value()), (Some([70]), Some([70])));
+    }
+    assert_eq!(KEPT.get(), before);
+    Ok(())
+}
+
 #[test]
 fn a_list_without_memory_is_an_error() -> Tested {
     for shards in [1, 4] {
@@ -151,7 +180,6 @@ fn a_list_without_memory_is_an_error() -> Tested {
 }
 
 #[test]
-#[ignore = "the library lists stamps of shards from the next version on"]
 fn a_list_with_stamps_without_memory_is_an_error() -> Tested {
     let expected = [Entry { key: 7, value: [70, 71], since: 1 }];
     for shards in [1, 4] {
@@ -169,10 +197,6 @@ fn a_list_with_stamps_without_memory_is_an_error() -> Tested {
 thread_local! {
     static BESIDE: RefCell<Option<Handle<1>>> = const { RefCell::new(None) };
     static TOLD: Cell<Option<[PutInTurn; 40]>> = const { Cell::new(None) };
-}
-
-fn shape() -> Result<Shape, OpenError> {
-    Ok(Shape { items: 100, ..Shape::for_items(100, 1)? })
 }
 
 type PutInTurn = Result<Put, TurnError<PutError>>;
@@ -200,7 +224,7 @@ fn put_beside() -> bool {
 // While a list has the turn, each put of a batch is held, and nothing is changed.
 #[test]
 fn a_batch_beside_a_list_is_held() -> Tested {
-    let mut handles = Cache::<1>::open(&shape()?, 1, 2)?;
+    let mut handles = Cache::<1>::open(&Shape::for_items(100, 1)?, 1, 2)?;
     BESIDE.set(handles.pop());
     handles[0].try_put(7, &[70])?;
     IN_TURN.set(Some(put_beside));
@@ -263,7 +287,7 @@ fn each_call_is_held(handle: &mut Handle<1>) {
 
 #[test]
 fn each_call_beside_a_list_is_held() -> Tested {
-    let mut handles = Cache::<1>::open(&shape()?, 1, 2)?;
+    let mut handles = Cache::<1>::open(&Shape::for_items(100, 1)?, 1, 2)?;
     BESIDE.set(handles.pop());
     handles[0].try_put(7, &[70])?;
     IN_TURN.set(Some(call_beside));
@@ -280,7 +304,7 @@ fn a_list_has_room_for_what_is_put_before_its_turn() -> Tested {
     fn put_before() -> bool {
         BESIDE.with_borrow_mut(|handle| handle.as_mut().is_some_and(|handle| handle.try_put(8, &[80]).is_ok()))
     }
-    let mut handles = Cache::<1>::open(&shape()?, 1, 2)?;
+    let mut handles = Cache::<1>::open(&Shape::for_items(100, 1)?, 1, 2)?;
     BESIDE.set(handles.pop());
     handles[0].try_put(7, &[70])?;
     IN_TURN.set(Some(put_before));
@@ -293,7 +317,7 @@ fn a_list_has_room_for_what_is_put_before_its_turn() -> Tested {
 fn to_hold_and_to_close_takes_no_memory() -> Tested {
     let before = KEPT.get();
     for shards in [1, 4] {
-        let mut handles = Cache::<1>::open(&shape()?, shards, 64)?;
+        let mut handles = Cache::<1>::open(&Shape::for_items(100, 1)?, shards, 64)?;
         let told = with_allocations(0, || {
             let meter = handles[0].meter();
             let moment = handles[0].hold().map(|mut writing| writing.moment());

@@ -102,7 +102,7 @@ fn clients_that_are_handed_together_are_all_answered() {
     let (working, worker) = Working::waiting();
     let clients: Vec<_> = (0..5).map(|_| working.connect()).collect();
     spawn(|| worker.run(0));
-    assert!(clients.iter().all(|client| is_answered(client)));
+    assert!(clients.iter().all(is_answered));
     working.wait(5);
 }
 
@@ -133,7 +133,7 @@ fn idle_clients_are_left_when_the_inbox_is_dropped() {
     let (working, worker) = Working::waiting();
     let ended = spawn(|| worker.run(0));
     let mut clients = [working.connect(), working.connect()];
-    assert!(clients.iter().all(|client| is_answered(client)));
+    assert!(clients.iter().all(is_answered));
     let store = Arc::clone(&working.store);
     drop(working);
     for client in &mut clients {

@@ -34,7 +34,7 @@ use cefrodil::Shape;
 
 // The shape of a map of one shard with places for so many entries.
 fn one_shard(items: u32) -> Shape {
-    Shape { items, ..Shape::for_items(items, 1).unwrap() }
+    Shape::for_items(items, 1).unwrap()
 }
 
 // Takes what a call returned that a test has no use for.

@@ -181,7 +181,7 @@ fn a_touch_renews_the_object_that_is_there() {
     let (map, since) = open();
     let other = map.clone();
     before_calls(1, 1, move || assert!(other.replace_if(1, since, 20, Some(Duration::from_secs(100))).is_ok()));
-    assert_eq!(calls(|| map.touch(&1, Duration::from_secs(1_000))).1, true);
+    assert!(calls(|| map.touch(&1, Duration::from_secs(1_000))).1);
     map.inner.clock.turn(Duration::from_secs(500));
     assert_eq!(map.get(&1), Some(20));
     let touched = beside_a_removal_in_turn(&map);

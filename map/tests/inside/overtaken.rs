@@ -46,7 +46,8 @@ fn a_removal_takes_the_last_value_or_says_that_it_was_overtaken() {
 
 #[test]
 fn a_value_is_returned_by_one_removal_alone() {
-    let removals: [fn(&Numbers) -> Result<Option<u64>, RemoveError>; 2] = [|map| map.remove(&1), |map| map.try_remove(&1)];
+    type Removal = fn(&Numbers) -> Result<Option<u64>, RemoveError>;
+    let removals: [Removal; 2] = [|map| map.remove(&1), |map| map.try_remove(&1)];
     for remove in removals {
         let map = open();
         assert_eq!(beside_a_removal(&map, || remove(&map)), Ok(None));
