@@ -11,8 +11,8 @@ use Rattle.mc_words.specs.declared.mix.Mix.{Mix}
 use Rattle.mc_writer.specs.GivenWay.{Holds}
 use Rattle.mc_writer.specs.declared.entry.Entry.{Entry}
 use Rattle.mc_shards.proofs.ListedShards.{held_all, held_more, held_none}
-use Rattle.mc_shards.specs.Inside.Listed.{AddsStamped, AreListed}
-use Rattle.mc_shards.specs.Own.{own_of, own_stamped_of}
+use Rattle.mc_shards.specs.Inside.Listed.{AddsStamped, AreListed, own_stamped_of}
+use Rattle.mc_shards.specs.Own.{own_of}
 use Rattle.mc_shards.specs.Plain.{history_of}
 use Rattle.mc_shards.specs.Stamped.{AreStampedEntriesOfAll}
 

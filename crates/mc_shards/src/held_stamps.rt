@@ -3,8 +3,7 @@ ghost use Rattle.std.specs.Prelude.{◌≡◌, ◌<◌, ◌++◌, [], IfOk, OnOk
 ghost use Rattle.mc_words.specs.Shapes.{HasShards};
 ghost use Rattle.mc_cache.specs.Stamped.{AreStampedEntriesOf};
 ghost use Rattle.mc_shards.specs.Holding.{IsHolderOf, histories};
-ghost use Rattle.mc_shards.specs.Inside.Listed.{AddsStamped};
-ghost use Rattle.mc_shards.specs.Own.{own_stamped_of};
+ghost use Rattle.mc_shards.specs.Inside.Listed.{AddsStamped, own_stamped_of};
 ghost use Rattle.mc_shards.specs.Stamped.{AreStampedEntriesOfAll};
 
 use crate::holding::Holder;

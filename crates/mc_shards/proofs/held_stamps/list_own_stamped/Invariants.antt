@@ -1,5 +1,5 @@
 use Rattle.std.proofs.Common.{◌≡◌, ◌++◌}
-use Rattle.mc_shards.specs.Own.{own_stamped_of}
+use Rattle.mc_shards.specs.Inside.Listed.{own_stamped_of}
 use Rattle.mc_shards.proofs.held_stamps.list_own_stamped.Given as goal
 
 abbrev pub invariant-loop-entry : goal.invariant-loop-entry

@@ -1,5 +1,5 @@
 use Rattle.std.proofs.Common.{ℕ, ◌∙◌, ◌++◌, ap}
-use Rattle.mc_shards.specs.Own.{own_stamped_of}
+use Rattle.mc_shards.specs.Inside.Listed.{own_stamped_of}
 use Rattle.mc_shards.specs.Sharded.{Sharded}
 use Rattle.mc_shards.proofs.holding.Holder.list_stamped_shard.Goals as goal
 
