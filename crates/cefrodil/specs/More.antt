@@ -1,5 +1,5 @@
 -- More handles of a cache that is open.
-use Rattle.std.specs.Prelude.{ℕ, ◌≡◌, ◌⊎◌, All, List}
+use Rattle.std.specs.Prelude.{ℕ, ◌≡◌, All, List}
 use mathlib.Core.Option.{Option, none, some}
 use Rattle.mc_shared.specs.Records.{ReaderRecord}
 use Rattle.mc_shards.specs.Sharded.{Sharded}

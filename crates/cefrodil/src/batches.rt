@@ -21,12 +21,7 @@ fn put<const V: usize>(side: &mut Side<V>, key: u64, value: &[u64]) -> RawPut
 
 // Puts the keys one after the other. Before each group its words are loaded ahead.
 #[inline(never)]
-fn put_all<const V: usize>(
-    side: &mut Side<V>,
-    keys: &[u64],
-    values: &[u64],
-    answers: &mut [RawPut],
-)
+fn put_all<const V: usize>(side: &mut Side<V>, keys: &[u64], values: &[u64], answers: &mut [RawPut])
     requires answers { length answers.old ≡ length keys.now }
     requires values { length values.now ≡ length keys.now * V }
     ensures { HavePut V (role_of side.old) (role_of side.new) keys.now values.now answers.new }

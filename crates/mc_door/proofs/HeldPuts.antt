@@ -1,5 +1,5 @@
 -- A put by a holder, told as a put by any side: it is never held.
-use Rattle.std.proofs.Common.{ℕ, ◌≡◌, List, refl}
+use Rattle.std.proofs.Common.{ℕ, ◌≡◌, refl}
 use Rattle.std.specs.Prelude.{Result, Ok, Err}
 use Rattle.mc_cache.specs.TurnCalls.{Contract}
 use Rattle.mc_cache.specs.declared.desk.DeskError.TheVariants as desk

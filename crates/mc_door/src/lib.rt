@@ -5,8 +5,8 @@
 #![tactic(auto)]
 
 mod any_side;
-mod calls;
 mod caller;
+mod calls;
 mod counting;
 mod entries;
 mod holder_side;

@@ -98,8 +98,13 @@ impl<const V: usize> NewPasses<V> {
         ensures fresh { IfOk result (λ r. HaveSeenNothing V r.passes.items) }
     {
         check(shape, shards, passes)?;
-        let (opened, given, spares) =
-            open_spared::<V>(alloc, shape, shards, passes, readers_for(passes))?;
+        let (opened, given, spares) = open_spared::<V>(
+            alloc,
+            shape,
+            shards,
+            passes,
+            readers_for(passes),
+        )?;
         NewPasses::of(alloc, opened, given, spares)
     }
 
@@ -124,8 +129,14 @@ impl<const V: usize> NewPasses<V> {
             return Err(OpenShardsError::Open(OpenError::NoMemory));
         };
         let all = readers_for(passes);
-        let (opened, spares) =
-            open_spared_with::<V>(alloc, shape, shards, passes, all, entries.as_slice())?;
+        let (opened, spares) = open_spared_with::<V>(
+            alloc,
+            shape,
+            shards,
+            passes,
+            all,
+            entries.as_slice(),
+        )?;
         let OpenedShards {
             shards,
             passes,
@@ -136,7 +147,11 @@ impl<const V: usize> NewPasses<V> {
     }
 
     // More passes of the same shards.
-    fn more(shared: &Arc<Shared<V>, Global>, alloc: Global, many: usize) -> Result<NewPasses<V>, MoreError>
+    fn more(
+        shared: &Arc<Shared<V>, Global>,
+        alloc: Global,
+        many: usize,
+    ) -> Result<NewPasses<V>, MoreError>
         ensures { IfOk result (λ r. (r.shared.value.shards ≡ shared.now.value.shards) × (length r.passes.items ≡ many)) }
     {
         let Ok(shared) = Arc::try_clone(shared) else {

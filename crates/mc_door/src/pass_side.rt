@@ -41,12 +41,7 @@ impl<const V: usize> PassSide<V> {
 
     // The same where there is a single shard.
     #[inline(always)]
-    pub(crate) fn get_in_single(
-        &mut self,
-        key: u64,
-        value: &mut [u64],
-        reply: &mut RawReply,
-    ) -> u32
+    pub(crate) fn get_in_single(&mut self, key: u64, value: &mut [u64], reply: &mut RawReply) -> u32
         requires width { IsWidth V }
         requires single { shard_in self.old.shared.value.shards key ≡ 0 }
         requires value { length value.old ≡ V }

@@ -3,7 +3,7 @@ use Rattle.std.proofs.Common.{ℕ, ◌≡◌, ◌+◌, ◌<◌, ◌∙◌, Bool,
 use Rattle.std.proofs.lemmas.Bool.{cases_eq}
 use Rattle.std.proofs.lemmas.List.{map-append}
 use Rattle.std.proofs.lemmas.List.Elements.{All-append, All-cons, All-head, All-nil, All-tail}
-use Rattle.mc_cache.specs.Stamped.{AreStampedEntriesOf, pair_of}
+use Rattle.mc_cache.specs.Stamped.{pair_of}
 use Rattle.mc_words.specs.Keys.{shard_of}
 use Rattle.mc_words.specs.Shapes.{HasShards}
 use Rattle.mc_words.specs.declared.history.Change.{Change}

@@ -138,8 +138,9 @@ pub fn open_spared_with<const V: usize>(
     ensures spares { IfOk result (λ o. AreSparesOf o.0.shards o.1) }
 {
     check_opening(shape, shards, passes)?;
-    let (caches, mut writers, mut passes, spares) =
-        open_all::<V>(alloc, shape, shards, passes, all)?;
+    let (caches, mut writers, mut passes, spares) = open_all::<V>(
+        alloc, shape, shards, passes, all,
+    )?;
     let mut left = Vec::new(alloc);
     load(shape, &caches, &mut writers, entries, &mut left)?;
     meet_all(&caches, &mut writers, &mut passes);

@@ -1,4 +1,4 @@
-use Rattle.std.proofs.Common.{◌≡◌, ◌∙◌, ◌-◌, get_or, [], length, arith, subst}
+use Rattle.std.proofs.Common.{◌∙◌, ◌-◌, get_or, [], length, arith, subst}
 use Rattle.mc_shards.proofs.HeldCalls.{as_many_histories}
 use Rattle.mc_shards.proofs.StampedShards.{pairs_more, stamped_all, stamped_more}
 use Rattle.mc_shards.specs.Holding.{Holding, histories}

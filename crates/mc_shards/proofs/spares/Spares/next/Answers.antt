@@ -1,4 +1,4 @@
-use Rattle.std.proofs.Common.{◌≡◌, ◌∙◌, ◌+◌, ◌++◌, ◌∷◌, [], ap, arith, length, List, map, Some, sym}
+use Rattle.std.proofs.Common.{◌∙◌, ◌+◌, ◌++◌, ◌∷◌, [], ap, arith, List, map, Some, sym}
 use Rattle.std.proofs.lemmas.List.{map-append}
 use Rattle.mc_shared.specs.Records.{Opening, ReaderRecord}
 use Rattle.mc_shards.proofs.Spared.{popped, zip_long}
