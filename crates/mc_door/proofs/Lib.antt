@@ -3,4 +3,3 @@ pub mod MoreEntries
 pub mod ListedWords
 pub mod AnySideLists
 pub mod ManyPuts
-pub mod HeldPuts

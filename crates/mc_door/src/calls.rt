@@ -31,9 +31,7 @@ impl<const V: usize> Side<V> {
             return refused(WIDTH, reply);
         }
         match &mut self.hand {
-            Hand::Pass(side) if side.shared.shards.is_single() => {
-                side.get_in_single(key, value, reply)
-            }
+            Hand::Pass(side) if side.shared.shards.is_single() => { side.get(key, value, reply) }
             _ => self.get_of_any(key, value, reply),
         }
     }
@@ -45,7 +43,7 @@ impl<const V: usize> Side<V> {
         ensures { GetTells V (role_of self.old) (role_of self.new) (self.new ≡ self.old) key value.old value.new (record { status = result; reply = reply.new }) }
     {
         match &mut self.hand {
-            Hand::Pass(side) => side.get(key, value, reply),
+            Hand::Pass(side) => side.get_apart(key, value, reply),
             Hand::Holder(side) => side.get(key, value, reply),
             Hand::Nothing => unreachable!(),
         }
@@ -77,7 +75,7 @@ impl<const V: usize> Side<V> {
         }
         match &mut self.hand {
             Hand::Holder(side) if side.shared.shards.is_single() => {
-                side.put_in_single(key, value, reply)
+                writes::put(side, key, value, reply)
             }
             _ => self.put_apart(key, value, reply),
         }

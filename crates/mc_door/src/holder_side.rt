@@ -4,17 +4,13 @@ ghost use Rattle.mc_cache.specs.declared.desk.DeskError.TheVariants.{Held};
 ghost use Rattle.mc_shards.specs.Holding.{IsHolderOf, histories};
 ghost use Rattle.mc_shards.specs.Loadings.{HaveMet};
 ghost use Rattle.mc_shards.specs.Plain.{AllBegin, seens};
-ghost use Rattle.mc_shards.specs.Sharded.{ArePassOf, shard_in};
+ghost use Rattle.mc_shards.specs.Sharded.{ArePassOf};
 
 use crate::caller::Caller;
 use crate::looked::Looked;
 use crate::outcome::{Outcome, RawReply};
 use crate::shared::Shared;
-use crate::tell;
-use crate::words::array_of;
-use crate::write::Write;
 use mc_cache::DeskError;
-use mc_cache::calls::Putting;
 use mc_cache::turn::TurnCall;
 use mc_shards::{Holder, Pass};
 use std::alloc::Global;
@@ -41,7 +37,6 @@ impl<const V: usize> HolderSide<V> {
     ghost use Rattle.mc_door.specs.Roles.{Holds};
     ghost use Rattle.mc_door.specs.Tellings.{lookup_told};
     ghost use Rattle.mc_door.specs.Tells.{HasTold};
-    ghost use Rattle.mc_door.specs.Writes.{WriteMeans};
 
     // Gives the turns back.
     pub(crate) fn release(self) -> (Arc<Shared<V>, Global>, Pass<V>)
@@ -65,20 +60,6 @@ impl<const V: usize> HolderSide<V> {
         let answer = self.holder.get(&self.shared.shards, key);
         let looked = Looked::of(answer, value);
         Outcome::looked(looked).tell(reply)
-    }
-
-    // A put where there is a single shard, compiled into its caller.
-    #[inline(always)]
-    pub(crate) fn put_in_single(&mut self, key: u64, value: &[u64], reply: &mut RawReply) -> u32
-        requires single { shard_in self.old.shared.value.shards key ≡ 0 }
-        requires value { length value.now ≡ V }
-        ensures { WriteMeans V (Holds self.old.shared.value.shards self.old.holder) (Holds self.new.shared.value.shards self.new.holder) key Write.Put value.now (record { status = result; reply = reply.new }) }
-    {
-        let value = array_of::<V>(value);
-        let made = self
-            .holder
-            .call_in_single(&self.shared.shards, key, Putting(key, &value));
-        tell::put(made, reply)
     }
 }
 

@@ -1,7 +1,7 @@
 //! A handle that tries for turns: a pass, with what handles share.
 ghost use Rattle.std.specs.Prelude.{◌≡◌, Err, length};
 ghost use Rattle.mc_cache.specs.declared.desk.DeskError.TheVariants.{Held};
-ghost use Rattle.mc_shards.specs.Sharded.{ArePassOf, shard_in};
+ghost use Rattle.mc_shards.specs.Sharded.{ArePassOf};
 
 use crate::caller::Caller;
 use crate::looked::Looked;
@@ -28,7 +28,7 @@ impl<const V: usize> PassSide<V> {
     ghost use Rattle.mc_door.specs.Tellings.{lookup_told};
     ghost use Rattle.mc_door.specs.Tells.{HasTold};
 
-    #[inline(never)]
+    #[inline(always)]
     pub(crate) fn get(&mut self, key: u64, value: &mut [u64], reply: &mut RawReply) -> u32
         requires width { IsWidth V }
         requires value { length value.old ≡ V }
@@ -39,17 +39,14 @@ impl<const V: usize> PassSide<V> {
         Outcome::looked(looked).tell(reply)
     }
 
-    // The same where there is a single shard.
-    #[inline(always)]
-    pub(crate) fn get_in_single(&mut self, key: u64, value: &mut [u64], reply: &mut RawReply) -> u32
+    // The same, out of line.
+    #[inline(never)]
+    pub(crate) fn get_apart(&mut self, key: u64, value: &mut [u64], reply: &mut RawReply) -> u32
         requires width { IsWidth V }
-        requires single { shard_in self.old.shared.value.shards key ≡ 0 }
         requires value { length value.old ≡ V }
         ensures { HasTold lookup_told (GetMeans V (Tries self.old.shared.value.shards self.old.pass) (Tries self.new.shared.value.shards self.new.pass) key value.old value.new) (record { status = result; reply = reply.new }) }
     {
-        let answer = self.pass.get_in_single(&self.shared.shards, key);
-        let looked = Looked::of(answer, value);
-        Outcome::looked(looked).tell(reply)
+        self.get(key, value, reply)
     }
 
     #[inline(always)]

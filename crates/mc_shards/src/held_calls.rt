@@ -1,5 +1,5 @@
 //! The calls of a holder: those of the writer of the key's shard.
-ghost use Rattle.std.specs.Prelude.{◌≡◌, ◌<◌, length};
+ghost use Rattle.std.specs.Prelude.{◌≡◌};
 ghost use Rattle.mc_cache.specs.Plain.{TellsNow, history};
 ghost use Rattle.mc_cache.specs.Resting.{IsAtRest};
 ghost use Rattle.mc_cache.specs.TurnCalls.{HasMade};
@@ -32,27 +32,6 @@ fn make<const V: usize, T, E, C: TurnCall<V, T, E>>(
 }
 
 impl<const V: usize> Holder<V> {
-    // Makes the call with the writer of this shard, which is the key's.
-    #[inline(always)]
-    fn call_at<T, E, C: TurnCall<V, T, E>>(
-        &mut self,
-        shards: &Shards<V>,
-        n: usize,
-        key: u64,
-        call: C,
-    ) -> Result<T, E>
-        requires of { IsHolderOf shards.now self.old }
-        requires shard { (n ≡ shard_in shards.now key) × (n < length shards.now.tables) }
-        ensures of { IsHolderOf shards.now self.new }
-        ensures readers { self.new.readers ≡ self.old.readers }
-        ensures made { ChangesAt (shard_in shards.now key) self.old.writers self.new.writers (λ w w'. HasMade (C.contract call) w.of result w w') }
-        ensures plain { ChangesAt (shard_in shards.now key) (histories V self.old) (histories V self.new) (λ h h'. (C.contract call).means h h' result) }
-    {
-        let _key = key;
-        let writer = self.turns[n].writer(&shards.lender(n).table.shared);
-        make(shards.cache(n), writer, call)
-    }
-
     /// Makes the call with the writer of the key's shard. It needs no try. The key must be the one that the call uses. Nothing checks that, and no
     /// lookup finds what is put in another shard. Condition: the holder belongs to these shards.
     #[inline(always)]
@@ -69,26 +48,8 @@ impl<const V: usize> Holder<V> {
         ensures plain { ChangesAt (shard_in shards.now key) (histories V self.old) (histories V self.new) (λ h h'. (C.contract call).means h h' result) }
     {
         let n = shards.shard_of(key);
-        self.call_at(shards, n, key, call)
-    }
-
-    /// The same, in fewer steps, where there is a single shard. Conditions: there is, and the holder belongs to it.
-    #[inline(always)]
-    pub fn call_in_single<T, E, C: TurnCall<V, T, E>>(
-        &mut self,
-        shards: &Shards<V>,
-        key: u64,
-        call: C,
-    ) -> Result<T, E>
-        requires of { IsHolderOf shards.now self.old }
-        requires single { shard_in shards.now key ≡ 0 }
-        ensures of { IsHolderOf shards.now self.new }
-        ensures readers { self.new.readers ≡ self.old.readers }
-        ensures made { ChangesAt (shard_in shards.now key) self.old.writers self.new.writers (λ w w'. HasMade (C.contract call) w.of result w w') }
-        ensures plain { ChangesAt (shard_in shards.now key) (histories V self.old) (histories V self.new) (λ h h'. (C.contract call).means h h' result) }
-    {
-        let _count = shards.count();
-        self.call_at(shards, 0, key, call)
+        let writer = self.turns[n].writer(&shards.lender(n).table.shared);
+        make(shards.cache(n), writer, call)
     }
 
     /// Looks the key up: what the map holds now. Never `Busy`. A hit marks the key's item. Condition: the holder belongs to these shards.

@@ -1,5 +1,5 @@
 //! A pass: a reader of each shard, for one thread at a time.
-ghost use Rattle.std.specs.Prelude.{◌≡◌, ◌<◌, ◌≤◌, [], IfOk, length, vec_capacity};
+ghost use Rattle.std.specs.Prelude.{◌≡◌, ◌≤◌, [], IfOk, length, vec_capacity};
 ghost use Rattle.mc_reader.specs.Records.{HasLooked};
 ghost use Rattle.mc_cache.specs.CallContracts.{put_contract, put_if_absent_contract, put_if_contract, remove_contract};
 ghost use Rattle.mc_cache.specs.Turns.{HasLookedOrMet, HasTriedTo, HasTriedToPeek};
@@ -66,20 +66,6 @@ impl<const V: usize> Pass<V> {
 }
 
 impl<const V: usize> Pass<V> {
-    // Looks the key up in this shard, which is the key's.
-    #[inline(always)]
-    fn get_at(&mut self, shards: &Shards<V>, n: usize, key: u64) -> Reply<V>
-        requires of { ArePassOf shards.now self.old }
-        requires shard { (n ≡ shard_in shards.now key) × (n < length shards.now.tables) }
-        ensures of { ArePassOf shards.now self.new }
-        ensures looked { ChangesAt (shard_in shards.now key) self.old self.new (λ r r'. HasLooked V shards.now.shape key r r' result) }
-        ensures plain { ChangesAt (shard_in shards.now key) (seens V self.old) (seens V self.new) (λ h h'. HasAnswered V h h' key result) }
-    {
-        let cache = shards.cache(n);
-        let reader = &mut self.readers[n];
-        reader.get(cache, key)
-    }
-
     /// Looks the key up in its shard, as `Reader::get` does. Condition: the pass belongs to these shards.
     #[inline(always)]
     pub fn get(&mut self, shards: &Shards<V>, key: u64) -> Reply<V>
@@ -89,20 +75,9 @@ impl<const V: usize> Pass<V> {
         ensures plain { ChangesAt (shard_in shards.now key) (seens V self.old) (seens V self.new) (λ h h'. HasAnswered V h h' key result) }
     {
         let n = shards.shard_of(key);
-        self.get_at(shards, n, key)
-    }
-
-    /// The same, in fewer steps, where there is a single shard. Conditions: there is, and the pass belongs to it.
-    #[inline(always)]
-    pub fn get_in_single(&mut self, shards: &Shards<V>, key: u64) -> Reply<V>
-        requires of { ArePassOf shards.now self.old }
-        requires single { shard_in shards.now key ≡ 0 }
-        ensures of { ArePassOf shards.now self.new }
-        ensures looked { ChangesAt (shard_in shards.now key) self.old self.new (λ r r'. HasLooked V shards.now.shape key r r' result) }
-        ensures plain { ChangesAt (shard_in shards.now key) (seens V self.old) (seens V self.new) (λ h h'. HasAnswered V h h' key result) }
-    {
-        let _count = shards.count();
-        self.get_at(shards, 0, key)
+        let cache = shards.cache(n);
+        let reader = &mut self.readers[n];
+        reader.get(cache, key)
     }
 
     /// Looks the key up in its shard, as `Reader::get_or_desk` does. Condition: the pass belongs to these shards.
