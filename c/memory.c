@@ -74,6 +74,9 @@ __attribute__((constructor)) static void handle_forks(void) {
 
 static char nothing;
 
+/* The address of each block of no bytes, in every copy of these functions. Nothing is read or written there. */
+static void *const no_bytes = (void *)16;
+
 static struct block told(void *at) { return (struct block){at != NULL, at != NULL ? at : &nothing}; }
 
 /* Each block of malloc is aligned to 16, since no smaller one is requested. A placed one never is. The word before a placed block is
@@ -206,6 +209,9 @@ static void *at_line(size_t size) {
 }
 
 struct block rattle_alloc(size_t size, size_t align) {
+    if (size == 0) {
+        return told(no_bytes);
+    }
     if (align > sizeof(void *)) {
         return told(malloc(whole(size)));
     }
@@ -213,6 +219,9 @@ struct block rattle_alloc(size_t size, size_t align) {
 }
 
 void rattle_dealloc(void *at) {
+    if (at == no_bytes) {
+        return;
+    }
     if (!is_placed(at)) {
         free(at);
         return;
@@ -226,6 +235,9 @@ void rattle_dealloc(void *at) {
 }
 
 struct block rattle_realloc(void *at, size_t kept, size_t size, size_t align) {
+    if (at == no_bytes) {
+        return rattle_alloc(size, align);
+    }
     if (!is_placed(at) && align > sizeof(void *)) {
         return told(realloc(at, whole(size)));
     }

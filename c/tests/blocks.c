@@ -41,6 +41,9 @@ static int lies_right(const struct full *full) {
     if (full->align > 8) {
         return at % 16 == 0;
     }
+    if (full->size == 0) {
+        return full->at == no_bytes;
+    }
     if (full->size < 4096) {
         return at % 16 == 8;
     }
@@ -74,6 +77,22 @@ static void every_size(void) {
             rattle_dealloc(full.at);
         }
     }
+}
+
+/* A block of no bytes takes nothing, also where nothing is to be had. It grows, and shrinks back. */
+static void blocks_of_no_bytes(void) {
+    const long before = in_use;
+    struct full full;
+    mallocs_left = 0;
+    make(&full, 0, 8);
+    MUST(in_use == before && !rattle_realloc(full.at, 0, 8, 8).there);
+    mallocs_left = -1;
+    resize(&full, 100);
+    MUST(in_use == before + 1);
+    resize(&full, 0);
+    MUST(in_use == before);
+    rattle_dealloc(full.at);
+    MUST(in_use == before);
 }
 
 /* No two blocks of up to 4,095 bytes share a pair of cache lines, and none shares one with a block of malloc. */
@@ -316,7 +335,7 @@ static void blocks_of_another_copy(void) {
 }
 
 static void refused(void) {
-    const size_t sizes[] = {0, 8, 5000, 1 << 20, 3 << 20};
+    const size_t sizes[] = {1, 8, 5000, 1 << 20, 3 << 20};
     for (size_t from = 0; from < 5; from++) {
         struct full full;
         make(&full, sizes[from], 8);
@@ -340,6 +359,7 @@ static void refused(void) {
 
 int main(void) {
     every_size();
+    blocks_of_no_bytes();
     small_blocks_are_alone();
     large_sizes();
     many_at_once();
