@@ -15,7 +15,7 @@
  *      Or one thread stores an atomic with release order, and the other loads it with acquire order. Each of these puts
  *      the earlier calls before the later ones. Calls with different handles of one cache need no synchronization.
  *   3. Pointers are to memory of yours, aligned for their types and valid for the whole call. None of it overlaps. They
- *      are never null, but for a handle of cefrodil_close, a reply of cefrodil_get, and an array of cefrodil_open_with,
+ *      are never null, except a handle of cefrodil_close, a reply of cefrodil_get, and an array of cefrodil_open_with,
  *      cefrodil_get_many, cefrodil_put_many, cefrodil_entries or cefrodil_stamped_entries whose count is 0.
  *      `value` has `words` words; an array has as many elements as its count says.
  *   4. No call comes from a signal handler. A handle is used in the process that opened it. A forked child may close it,
@@ -154,7 +154,7 @@ typedef enum cefrodil_status {
                                * again. Put again, or leave the key uncached. Frequent only if the items are few; only recency bits changed */
     CEFRODIL_SPENT = 5,       /* the write could exceed the `limit` of the shape: open a new cache. 2^62 takes centuries */
     CEFRODIL_CHANGED = 6,     /* the key's last put was another one, at `since` */
-    CEFRODIL_HELD = 7,        /* the try for a turn did not win, or that of cefrodil_more for spare handles; nothing was done */
+    CEFRODIL_HELD = 7,        /* a try for a turn did not win, or another call takes spare handles; nothing was done */
     CEFRODIL_CLOSED = 8,      /* the handle is not open */
     CEFRODIL_HOLDS = 9,       /* the handle holds the turns already */
     CEFRODIL_WIDTH = 10,      /* values of this cache have another number of words */

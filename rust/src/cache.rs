@@ -26,7 +26,8 @@ pub struct Opened<const WORDS: usize> {
 
 impl<const WORDS: usize> Cache<WORDS> {
     /// Opens an empty cache of `shards` shards, a power of two from 1 to 256, each of this shape, with this many handles, 1 to 1024.
-    /// [`Shape::for_items`] chooses the shape. This takes all memory; of later calls only lists of entries and [`Handle::more`] take any.
+    /// [`Shape::for_items`] chooses the shape: give it the same number of shards. This takes all memory; of later calls only lists of entries and
+    /// [`Handle::more`] take any.
     ///
     /// # Errors
     ///

@@ -72,7 +72,7 @@ pub enum PutIfError {
     Spent,
     /// The key is not there.
     NotThere {
-        /// The number of changes to the table when that was true.
+        /// The number of changes to the key's shard when that was true.
         at: u64,
     },
     /// The key's last put was another one.

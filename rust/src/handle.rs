@@ -212,7 +212,7 @@ impl<const WORDS: usize> Handle<WORDS> {
         }
     }
 
-    /// The number of changes made to all shards, at one moment. It [holds](Handle::hold) for that.
+    /// The number of changes made to all shards, at one moment. For that the call takes every turn, as by [`hold`](Handle::hold), and gives it back.
     ///
     /// # Errors
     ///

@@ -31,6 +31,22 @@ impl<const WORDS: usize> Handle<WORDS> {
     /// other.try_put(7, &[71])?;
     /// # Ok::<(), Box<dyn std::error::Error>>(())
     /// ```
+    ///
+    /// While other threads write, it may take many tries. The borrow checker allows such a loop only where the `Writing` is used:
+    ///
+    /// ```
+    /// use cefrodil::{Cache, Held, Shape};
+    ///
+    /// let mut handles = Cache::<1>::open(&Shape::for_items(1000, 1)?, 1, 2)?;
+    /// let mut writing = loop {
+    ///     match handles[0].hold() {
+    ///         Ok(writing) => break writing,
+    ///         Err(Held) => std::thread::yield_now(),
+    ///     }
+    /// };
+    /// writing.put(7, &[70])?;
+    /// # Ok::<(), Box<dyn std::error::Error>>(())
+    /// ```
     pub fn hold(&mut self) -> Result<Writing<'_, WORDS>, Held> {
         self.holds()?;
         Ok(Writing(Holder::Lent(&mut self.0)))

@@ -4,7 +4,7 @@ use crate::memory::room;
 use crate::open_handle::OpenHandle;
 use crate::raw::{self, RawAnswer, RawPut, RawReply};
 
-/// The answer of a lookup. `at` is its moment: the number of changes to the table when the answer was true. A count, not a time.
+/// The answer of a lookup. `at` is its moment: the number of changes to the key's shard when the answer was true. A count, not a time.
 #[derive(Clone, Copy, Debug, Default, PartialEq, Eq, Hash)]
 pub enum Reply<const WORDS: usize> {
     /// The key has this value.
@@ -26,7 +26,7 @@ pub enum Reply<const WORDS: usize> {
     Busy,
 }
 
-/// What a put did. `at` is its moment: the number of changes to the table, its own included.
+/// What a put did. `at` is its moment: the number of changes to the key's shard, its own included.
 ///
 /// A minor version may add a variant, so a `match` has an arm for the rest:
 ///
@@ -57,7 +57,7 @@ pub enum Put {
     },
 }
 
-/// What a removal did. `at` is its moment: the number of changes to the table after it.
+/// What a removal did. `at` is its moment: the number of changes to the key's shard after it.
 #[derive(Clone, Copy, Debug, PartialEq, Eq, Hash)]
 pub enum Removal {
     /// The key was removed.
@@ -72,14 +72,14 @@ pub enum Removal {
     },
 }
 
-/// An entry that a write took out of the cache, as it was just before, or one of a list.
+/// An entry: one of a list, or one that a write took out of the cache, as it was just before.
 #[derive(Clone, Copy, Debug, PartialEq, Eq, Hash)]
 pub struct Entry<const WORDS: usize> {
     /// The key.
     pub key: u64,
     /// The value.
     pub value: [u64; WORDS],
-    /// The moment of the key's last put.
+    /// The moment of the key's last put: a count of the changes to its shard.
     pub since: u64,
 }
 
@@ -101,7 +101,7 @@ pub struct Replaced<const WORDS: usize> {
     pub old: Entry<WORDS>,
 }
 
-/// What a removal did that returns the entry. `at` is its moment: the number of changes to the table after it.
+/// What a removal did that returns the entry. `at` is its moment: the number of changes to the key's shard after it.
 #[derive(Clone, Copy, Debug, PartialEq, Eq, Hash)]
 pub enum Take<const WORDS: usize> {
     /// The key was removed.

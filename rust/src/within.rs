@@ -3,8 +3,9 @@ use crate::error::TurnError;
 use crate::handle::Handle;
 
 impl<const WORDS: usize> Handle<WORDS> {
-    /// Makes a call again while it is held: at most `tries` times, at least once, without a pause. So do this with whatever must not be lost, as
-    /// a removal. [`put_within`](Handle::put_within) is the same for a put, and a little faster.
+    /// Makes a call again while it is held: at most `tries` times, at least once, without a pause. A thread that has the turn may be stopped for
+    /// longer. What must not be lost, such as a removal, is made again until it is not held, with a
+    /// [`yield_now`](std::thread::yield_now) in between. [`put_within`](Handle::put_within) is the same for a put, and a little faster.
     ///
     /// ```
     /// use cefrodil::{Cache, Shape, Take};
