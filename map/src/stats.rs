@@ -11,7 +11,7 @@ use std::time::Duration;
 pub struct Stats {
     /// Lookups that found a value.
     pub hits: u64,
-    /// Lookups that found no value.
+    /// Lookups that found no value. A call of `get_or_insert_with` is one, too, if it waits for the value that another thread makes.
     pub misses: u64,
     /// Lookups that writes disturbed at each try. They say nothing of the map.
     pub busy: u64,
