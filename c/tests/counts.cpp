@@ -181,6 +181,7 @@ static void add(Counts &to, const Counts &more) {
     to.busy += more.busy;
     to.held += more.held;
     to.evictions += more.evictions;
+    to.refusals += more.refusals;
 }
 
 // What a thread gets as answers.
@@ -194,6 +195,8 @@ struct Told {
     template <class Answer> void wrote(const Answer &answer) {
         counts.held += answer.status == Status::held;
         counts.evictions += answer.evicted.has_value();
+        // Lookups of the others may mark each key while the hand goes round.
+        counts.refusals += answer.status == Status::all_recent;
     }
     void listed(Status status) { counts.held += status == Status::held; }
 };
@@ -249,7 +252,7 @@ static void threads(const cefrodil_shape &shape, uint32_t shards) {
         running[i].join();
         add(all, told[i].counts);
     }
-    MUST(are(meter.counts(), {all.hits, all.misses, all.busy, all.held, all.evictions, 0}));
+    MUST(are(meter.counts(), {all.hits, all.misses, all.busy, all.held, all.evictions, all.refusals}));
     MUST(all.hits != 0 && all.misses != 0 && all.evictions != 0 && all.held != 0);
 }
 
