@@ -101,7 +101,7 @@ impl<const WORDS: usize> Writing<'static, WORDS> {
     /// ```
     #[must_use]
     pub fn into_handle(mut self) -> Handle<WORDS> {
-        // In the place of a handle that was borrowed for ever stays a closed one, which nobody can use.
+        // A handle that was borrowed for ever is replaced by a closed one, which nobody can use.
         let mut handle = mem::replace(self.handle(), OpenHandle::closed());
         handle.release();
         Handle(handle)
