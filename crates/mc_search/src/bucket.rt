@@ -49,6 +49,7 @@ pub(crate) fn slot_with<P: Peek>(
 }
 
 /// The least empty slot of the bucket.
+#[inline(always)]
 pub(crate) fn hole_in<P: Peek>(checked: &Checked, peek: &mut P, bucket: u32) -> Option<Place>
     requires words { HasSlots (shape_of checked.now) (P.words peek.old) }
     requires in_table { bucket < (shape_of checked.now).buckets }
