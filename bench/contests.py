@@ -25,10 +25,14 @@ ALL = tuple(SHOWN)
 MAPS = {'rust_cefrodil': '`cefrodil-map`', 'rust_dashmap': 'dashmap', 'rust_locked': SHOWN['locked'], 'rust_lru': SHOWN['lru'],
         'cpp_cefrodil': '`cefrodil::map`', 'cpp_libcuckoo': 'libcuckoo', 'cpp_tbb': 'TBB'}
 SHOWN.update(MAPS)
-WRITERS = ('cefrodil', 'libcuckoo', 'tbb', 'dashmap', 'locked', 'lru')
+WRITERS = ('door', 'cefrodil', 'libcuckoo', 'tbb', 'dashmap', 'locked', 'lru')
+# From C all threads write to 64 shards, each until it has the turn.
+IN_SHARDS = (('door', 'door_shards'),)
 EVICTORS = ('door', 'cefrodil', 'lru', 'twin')
 # Those that time each lookup.
 TIMED = ('door', 'libcuckoo', 'tbb', 'urcu', 'ck', 'dashmap', 'locked', 'lru')
+# Those that evict, of the same programs.
+TIMED_EVICTORS = ('door', 'lru')
 MANY = 32
 LARGEST = 3_774_873
 SIZES = (64, 1000, 10_000, 100_000, 1_000_000, LARGEST)
@@ -37,6 +41,8 @@ PERCENTILES = {'p50_ns': 0.5, 'p90_ns': 0.9, 'p99_ns': 0.99, 'p999_ns': 0.999, '
 # Where threads write by turns: how many keys there are, and how many calls of a thread have one write.
 TURNS_KEYS = (8, 64, 1000, 100_000)
 TURNS_EVERY = (1000, 300, 100, 30, 10, 3, 2)
+# Shares of slots in use, in percent.
+USED = (51, 60, 70, 80, 85, 90, 93, 95, 97)
 # Programs that have several contestants, or options of their own.
 PROGRAMS = {'cefrodil': ('mcbench',), 'many': ('mcbench', '--many', str(MANY)), 'shards16': ('mcbench', '--shards', '16'),
             'shards64': ('mcbench', '--shards', '64'), 'door_many': ('door', '--many', str(MANY)), 'twin': ('contest', 'twin'),
@@ -44,11 +50,11 @@ PROGRAMS = {'cefrodil': ('mcbench',), 'many': ('mcbench', '--many', str(MANY)), 
             **{name: ('maps_' + name.split('_')[0], name.split('_')[1]) for name in MAPS}}
 # The figures: their units, and how they are shown.
 UNITS = {'ns_lookup': ', ns', 'lookups_s': ', M/s', 'writes_s': ', M/s', 'load_factor': '', 'bytes_key': '', 'ns_call': ', ns',
-         'calls_s': ', M/s', 'hit_ratio': '', 'busy_percent': ', %', 'empty_ns': ', ns', **dict.fromkeys(PERCENTILES, ', ns')}
+         'calls_s': ', M/s', 'hit_ratio': '', 'busy_percent': ', %', 'ns_each': ', ns', 'empty_ns': ', ns', **dict.fromkeys(PERCENTILES, ', ns')}
 SHOW = {'ns_lookup': '{:.0f}'.format, 'load_factor': '{:.3f}'.format, 'bytes_key': '{:.0f}'.format,
         'lookups_s': lambda number: f'{number / 1e6:.1f}', 'writes_s': lambda number: f'{number / 1e6:.1f}',
         'ns_call': '{:.0f}'.format, 'calls_s': lambda number: f'{number / 1e6:.1f}', 'hit_ratio': '{:.3f}'.format,
-        'busy_percent': '{:.2g}'.format, 'empty_ns': '{:.0f}'.format, **dict.fromkeys(PERCENTILES, '{:,.0f}'.format)}
+        'busy_percent': '{:.2g}'.format, 'ns_each': '{:.0f}'.format, 'empty_ns': '{:.0f}'.format, **dict.fromkeys(PERCENTILES, '{:,.0f}'.format)}
 
 
 class Row(NamedTuple):
@@ -77,6 +83,12 @@ def lookups(workload, keys, huge=False, many=False):
     row = Row(f'{label}, {keys:,} keys', 'ns_lookup', options(workload, keys), huge=huge)
     batch = row._replace(label=f'{row.label}, {MANY} keys per call', names=('door', 'cefrodil'), by=(('door', 'door_many'), ('cefrodil', 'many')))
     return [row] + [batch] * many
+
+
+def lookups_by(threads, keys):
+    """The rows of readers alone: key by key, and by calls for many."""
+    row = Row(f'hit by {threads} threads, {keys:,} keys', 'lookups_s', options('hit', keys, f' --readers {threads}'))
+    return [row, row._replace(label=f'{row.label}, {MANY} keys per call', names=('door', 'cefrodil'), by=(('door', 'door_many'), ('cefrodil', 'many')))]
 
 
 def writes(label, workload, keys, names):
@@ -108,6 +120,7 @@ def large(huge):
     rows += lookups('hit', LARGEST, huge, True)
     if huge:
         return rows
+    rows += [row for keys in (1_000_000, LARGEST) for threads in (3, 4) for row in lookups_by(threads, keys)]
     return rows + writes_in_batches('overwrite', 'mixed', 1_000_000, ALL) + writes_in_batches('evict', 'evict', 1_000_000, EVICTORS)
 
 
@@ -117,8 +130,8 @@ def turns():
         for keys in 1000, 100_000:
             run = options('mixed', keys, f' --readers 0 --writers {threads} --write-every {every}')
             calls = f'{threads} threads, {keys:,} keys, one write in {every}'
-            rows.append(Row(f'{calls}: writes by turns', 'writes_s', run, WRITERS))
-            rows.append(Row('lookups', 'lookups_s', run, WRITERS))
+            rows.append(Row(f'{calls}: writes', 'writes_s', run, WRITERS, IN_SHARDS))
+            rows.append(Row('lookups', 'lookups_s', run, WRITERS, IN_SHARDS))
             for many in 16, 64:
                 by = (('cefrodil', f'shards{many}'),)
                 rows.append(Row(f'writes, {many} shards', 'writes_s', run, ('cefrodil',), by))
@@ -131,7 +144,7 @@ def threads():
     rows = [Row(f'hit by {n} threads', 'lookups_s', options('hit', 1000, f' --readers {n}')) for n in range(1, 5)]
     rows += [Row(f'{n} readers beside a writer', 'lookups_s', options('mixed', 100_000, f' --readers {n} --writers 1')) for n in range(1, 4)]
     run = options('mixed', 100_000, ' --readers 0 --write-every 10')
-    return rows + [Row(f'{n} writers', 'writes_s', f'{run} --writers {n}', WRITERS) for n in range(1, 5)]
+    return rows + [Row(f'{n} writers', 'writes_s', f'{run} --writers {n}', WRITERS, IN_SHARDS) for n in range(1, 5)]
 
 
 def maps():
@@ -163,6 +176,24 @@ def latencies():
     return rows + [Row('an empty measurement', 'empty_ns', run, TIMED)]
 
 
+def puts():
+    """How long the puts of new keys take in a full cache beside three readers, by percentiles."""
+    run = options('mixed', 100_000, ' --readers 3 --writers 1 --latencies 2')
+    rows = [Row(f'{100 * share:g} % of the puts take at most', figure, run, TIMED_EVICTORS) for figure, share in PERCENTILES.items()]
+    return rows + [Row('an empty measurement', 'empty_ns', run, TIMED_EVICTORS)]
+
+
+def used():
+    """What calls cost over the greatest share of slots in use, in a table of 65,536 slots."""
+    rows = []
+    for percent in USED:
+        keys = 65_536 * percent // 100
+        for workload, more in ('hit', ''), ('mixed', ' --readers 0 --writers 1'), ('evict', ' --readers 0 --writers 1'):
+            label = 'overwrite' if workload == 'mixed' else workload
+            rows.append(Row(f'{label}, {percent} % of the slots', 'ns_each', options(workload, keys, f'{more} --most-used 100'), ('cefrodil',)))
+    return rows
+
+
 def shares():
     """How many lookups are busy where four threads write by turns, each in one of so many calls."""
     run = '--readers 0 --writers 4 --write-every'
@@ -175,7 +206,7 @@ def sizes():
 
 
 BENCHES = {'peers': peers(), 'large': large(False), 'huge': large(True), 'turns': turns(), 'threads': threads(), 'sizes': sizes(),
-           'maps': maps(), 'latencies': latencies(), 'shares': shares()}
+           'maps': maps(), 'latencies': latencies(), 'puts': puts(), 'used': used(), 'shares': shares()}
 
 
 def alone(run):
@@ -239,6 +270,8 @@ def values(told, row, name):
     rounds = told[row.options, row.huge, row.program(name)].values()
     if row.figure == 'busy_percent':
         return [100 * each['busy'] / each['lookups'] for each in rounds]
+    if row.figure == 'ns_each':
+        return [each['ns_lookup'] or 1e9 / each['writes_s'] for each in rounds]
     return [each[row.figure] for each in rounds]
 
 

@@ -188,14 +188,30 @@ def busy():
                 is_wide=True, is_tall=True, groups=groups, places=places)
 
 
-def latency():
-    *rows, empty = contests.BENCHES['latencies']
+def percentiles(bench, name, title, up):
+    """The plot of a bench whose rows are percentiles of times. The last row is a measurement of nothing."""
+    *rows, empty = contests.BENCHES[bench]
     shares = tuple(contests.PERCENTILES.values())
     # The share of lookups that take longer shrinks by tens.
     rest = tuple(round(1 / (1 - share)) for share in shares)
-    return Plot('latency', 'Three readers beside a thread that writes all the time (100,000 keys)', 'percentile (an empty measurement takes {:.0f} ns)',
-                'ns per lookup', 'ns', tuple(zip(rest, rows)), True, True, places=tuple((place, f'{100 * share:g}') for place, share in zip(rest, shares)),
-                noted=empty)
+    return Plot(name, title, 'percentile (an empty measurement takes {:.0f} ns)', up, 'ns', tuple(zip(rest, rows)), True, True,
+                places=tuple((place, f'{100 * share:g}') for place, share in zip(rest, shares)), noted=empty)
+
+
+def latency():
+    return percentiles('latencies', 'latency', 'Three readers beside a thread that writes all the time (100,000 keys)', 'ns per lookup')
+
+
+def puts():
+    return percentiles('puts', 'puts', 'Puts of new keys into a full cache beside three readers (100,000 keys)', 'ns per put')
+
+
+def used():
+    """What calls cost over the share of slots in use: nanoseconds of each."""
+    rows = contests.BENCHES['used']
+    groups = tuple((name, tuple((percent, rows[3 * n + place]) for n, percent in enumerate(contests.USED)))
+                   for place, name in enumerate(('hit', 'overwrite', 'evict')))
+    return Plot('used', 'Calls in a table of 65,536 slots, by one thread', 'slots in use, %', 'ns per call', 'ns_each', groups=groups)
 
 
 def plots():
@@ -207,7 +223,7 @@ def plots():
         Plot('writers', 'Writes by threads that write one call in ten (100,000 keys)', 'threads', 'M writes/s', 'writes_s',
              tuple(enumerate(benches['threads'][7:], 1))),
         Plot('sizes', 'A hit, by one thread', 'keys', 'ns', 'ns_lookup', tuple(zip(contests.SIZES, benches['sizes'])), True),
-        busy(), latency())
+        busy(), latency(), puts(), used())
 
 
 def draw_all(path, folder):

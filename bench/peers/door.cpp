@@ -11,13 +11,8 @@ struct Door {
     std::mutex lending;
     static thread_local cefrodil_handle mine;
 
-    // Of the size of the other tables, at most 0.96 full.
     explicit Door(size_t keys) {
         if (cefrodil_shape_for_items(uint32_t(keys), 1, &shape) != CEFRODIL_OK) abort();
-        shape.items = uint32_t(keys);
-        shape.buckets = 2;
-        while (384 * size_t(shape.buckets) < 100 * keys) shape.buckets *= 2;
-        shape.stripes = 8192;
         if (cefrodil_open(&shape, 1, 4, handles, READERS + 1) != CEFRODIL_OK) abort();
         if (cefrodil_hold(&handles[READERS]) != CEFRODIL_OK) abort();
     }

@@ -4,7 +4,8 @@
 // its value); `put` (false where it is refused); `slots` (places for keys, or 0); `enter`, `tick` and `leave`, which each
 // thread calls at its beginning, now and then, and at its end. With `--many N` readers call `get_many`, if the contestant has it:
 // lookups of N keys, whose values it writes and of which it returns how many are there. Writers that only write call `put_many`, if the
-// contestant has it: puts of N keys, of which it returns how many are refused. With `--latencies 1` each lookup of a reader is timed.
+// contestant has it: puts of N keys, of which it returns how many are refused. With `--latencies 1` each lookup of a reader is timed; with
+// `--latencies 2` each put of a writer, which puts new keys.
 #pragma once
 #include "latencies.hpp"
 #include "options.hpp"
@@ -134,6 +135,15 @@ template <class C> __attribute__((noinline)) void time_lookups(C &map, Keys &key
     }
 }
 
+// 64 puts of new keys, each timed by itself.
+template <class C> __attribute__((noinline)) void time_puts(C &map, uint64_t &next, Tally &tally, Latencies &latencies) {
+    for (uint64_t n = 0; n < 64; n++) {
+        uint64_t key = key_of(next++), began = ticks_before();
+        tally.put(map, key, n);
+        latencies.count(ticks_after() - began);
+    }
+}
+
 // The threads of a run begin and end together.
 struct Signals {
     std::atomic<int> waiting;
@@ -159,6 +169,21 @@ template <class C> Tally work_timed(C &map, const Options &options, uint64_t see
     double began = now(options.alone());
     while (!signals.over) {
         time_lookups(map, keys, tally, latencies);
+        map.tick();
+    }
+    tally.seconds = now(options.alone()) - began;
+    map.leave();
+    return tally;
+}
+
+// The work of a thread whose puts of new keys are timed one by one.
+template <class C> Tally put_timed(C &map, const Options &options, Signals &signals, Latencies &latencies) {
+    uint64_t next = options.fresh() + (uint64_t(1) << 41);
+    Tally tally;
+    signals.enter(map);
+    double began = now(options.alone());
+    while (!signals.over) {
+        time_puts(map, next, tally, latencies);
         map.tick();
     }
     tally.seconds = now(options.alone()) - began;
@@ -245,7 +270,8 @@ template <class C> void beside(const Options &options) {
     for (uint64_t n = 0; n < threads; n++)
         workers.emplace_back([&, n] {
             bool puts = n >= options.readers;
-            if (options.latencies && !puts) tallies[n] = work_timed(*map, options, n, signals, latencies[n]);
+            if (options.latencies == 1 && !puts) tallies[n] = work_timed(*map, options, n, signals, latencies[n]);
+            else if (options.latencies == 2 && puts) tallies[n] = put_timed(*map, options, signals, latencies[n]);
             else if (options.many > 1 && puts && options.write_every == 1) tallies[n] = work_in_batches(*map, options, n, signals);
             else tallies[n] = work(*map, options, n, puts, signals);
         });

@@ -7,7 +7,7 @@ struct Cuckoo {
 
     static size_t slots_for(size_t keys) {
         size_t buckets = 2;
-        while (384 * buckets < 100 * keys) buckets *= 2;
+        while (36 * buckets < 10 * keys) buckets *= 2;
         return 4 * buckets;
     }
 

@@ -5,7 +5,7 @@ ghost use Rattle.cefrodil.specs.Loading.{AreEntries, AreLoaded, RefusesWith, ent
 ghost use Rattle.cefrodil.specs.Openings.{IsClosed, RefusesAsked, RefusesHandles, RefusesOpen};
 ghost use Rattle.cefrodil.specs.RawShapes.{HasMix, IsShapeOf};
 
-use crate::opening::{MOST_WORDS, all_closed, asked, close_all, count_of, fill, status_of};
+use crate::opening::{MOST_WORDS, all_closed, asked, count_of, fill, status_of};
 use crate::raw_handle::RawHandle;
 use crate::shape::RawShape;
 use mc_door::status::{COUNT, IN_USE, NO_ITEM, NO_MEMORY, NO_PATH, OK, SPENT};
@@ -100,7 +100,6 @@ fn open_all_with(
         Err(why) => return status_of(why),
     };
     if !fill(alloc, rest, handles) {
-        close_all(alloc, handles);
         return NO_MEMORY;
     }
     tell_done(statuses);

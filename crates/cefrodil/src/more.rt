@@ -4,7 +4,7 @@ ghost use Rattle.cefrodil.specs.More.{MoreGives, RefusesMore, more_status};
 ghost use Rattle.cefrodil.specs.Open.{kept};
 ghost use Rattle.cefrodil.specs.Openings.{IsClosed, RefusesHandles};
 
-use crate::opening::{all_closed, close_all, fill};
+use crate::opening::{all_closed, fill};
 use crate::raw_handle::RawHandle;
 use mc_door::MoreError;
 use mc_door::status::{CLOSED, HANDLES, HELD, IN_USE, NO_MEMORY, OK};
@@ -36,7 +36,6 @@ fn open_more(alloc: Global, handle: &mut RawHandle, handles: &mut [RawHandle]) -
         Err(why) => return status_of(why),
     };
     if !fill(alloc, rest, handles) {
-        close_all(alloc, handles);
         return NO_MEMORY;
     }
     OK

@@ -54,7 +54,7 @@ pub(crate) fn all_closed(handles: &[RawHandle]) -> bool
     true
 }
 
-pub(crate) fn close_all(alloc: Global, handles: &mut [RawHandle])
+fn close_all(alloc: Global, handles: &mut [RawHandle])
     ensures { All IsClosed handles.new }
 {
     for handle in handles.iter_mut() {
@@ -74,7 +74,7 @@ pub(crate) fn boxed<T: Drop>(alloc: Global, value: T) -> Option<Box<T, Global>>
 
 // A pass for each of the handles. `false` if there is no memory.
 #[tactic(auto, using(crate::proofs::Filling::all_passes))]
-pub(crate) fn fill(alloc: Global, mut rest: Rest, handles: &mut [RawHandle]) -> bool
+fn fill_each(alloc: Global, mut rest: Rest, handles: &mut [RawHandle]) -> bool
     requires { (count_on rest ≡ length handles.old) × All IsClosed handles.old }
     ensures { result ≡ true → All (IsPassAt (shards_on rest) (width_on rest) (passes_on rest)) handles.new }
 {
@@ -91,6 +91,19 @@ pub(crate) fn fill(alloc: Global, mut rest: Rest, handles: &mut [RawHandle]) -> 
         handle.put(held);
     }
     true
+}
+
+// A pass for each of the handles; or, if there is no memory, `false`, and all of them are closed.
+pub(crate) fn fill(alloc: Global, rest: Rest, handles: &mut [RawHandle]) -> bool
+    requires { (count_on rest ≡ length handles.old) × All IsClosed handles.old }
+    ensures filled { result ≡ true → All (IsPassAt (shards_on rest) (width_on rest) (passes_on rest)) handles.new }
+    ensures closed { result ≡ false → All IsClosed handles.new }
+{
+    let filled = fill_each(alloc, rest, handles);
+    if !filled {
+        close_all(alloc, handles);
+    }
+    filled
 }
 
 // The requested shape, or the first fault before those that the cache reports.
@@ -137,7 +150,6 @@ fn open_all(
         Err(why) => return status_of(why),
     };
     if !fill(alloc, rest, handles) {
-        close_all(alloc, handles);
         return NO_MEMORY;
     }
     OK

@@ -1,8 +1,7 @@
 //! The shape of a table, as C writes it.
 ghost use Rattle.std.specs.Prelude.{ℕ, ◌≡◌, ◌≢◌, MatchOption, min};
-ghost use Rattle.mc_words.specs.Sizing.{IsSizedFor};
 ghost use Rattle.mc_words.specs.declared.shape.Shape.{Shape};
-ghost use Rattle.mc_shards.specs.Sizing.{IsShare, RefusesShare};
+ghost use Rattle.mc_shards.specs.Sizing.{IsShardShape, IsShare, RefusesShare};
 ghost use Rattle.mc_shards.specs.declared.opening.OpenShardsError.{OpenShardsError};
 ghost use Rattle.mc_words.specs.Shapes.{HasShards};
 ghost use Rattle.cefrodil.specs.RawShapes.{HasMix, IsShapeOf};
@@ -81,7 +80,7 @@ impl RawShape {
 /// The shape of each of `shards` shards, which have `items` items together.
 #[unsafe(no_mangle)]
 pub extern "C" fn cefrodil_shape_for_items(items: u32, shards: u32, shape: &mut RawShape) -> u32
-    ensures sized { result ≡ OK → (chosen : Shape) × (share : ℕ) × IsShapeOf shape.new chosen × HasShards shards × IsShare items shards share × IsSizedFor share chosen }
+    ensures sized { result ≡ OK → (chosen : Shape) × (share : ℕ) × IsShapeOf shape.new chosen × HasShards shards × IsShare items shards share × IsShardShape share chosen }
     ensures refused { result ≢ OK → (why : OpenShardsError) × (result ≡ shards_status why) × RefusesShare items shards why × (shape.new ≡ shape.old) }
 {
     match shard_shape(items, shards) {

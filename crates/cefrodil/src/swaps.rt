@@ -39,6 +39,22 @@ pub extern "C" fn cefrodil_swap_if(
     told_of_handle!(handle, reply, held => held.swap(key, Swap::PutIf(since), value, old, reply))
 }
 
+/// Puts a key only if it is absent, and returns the entry that gives way: that of the key that is evicted.
+#[tactic(auto, using(crate::proofs::Gives::gives_open, crate::proofs::Gives::gives_closed))]
+#[unsafe(no_mangle)]
+pub extern "C" fn cefrodil_swap_if_absent(
+    handle: &mut RawHandle,
+    key: u64,
+    value: &[u64],
+    old: &mut [u64],
+    reply: &mut RawReply,
+) -> u32
+    ensures open { handle.new.live ≡ handle.old.live }
+    ensures told { SwapGives (kept handle.old) (kept handle.new) key Swap.PutIfAbsent value.now old.old old.new (record { status = result; reply = reply.new }) }
+{
+    told_of_handle!(handle, reply, held => held.swap(key, Swap::PutIfAbsent, value, old, reply))
+}
+
 /// Takes a key out, if its last put was at the moment `since`, and returns its entry.
 #[tactic(auto, using(crate::proofs::Gives::gives_open, crate::proofs::Gives::gives_closed))]
 #[unsafe(no_mangle)]

@@ -14,7 +14,7 @@ use Rattle.mc_writer.specs.declared.entry.Swapped.{Swapped}
 use Rattle.mc_writer.specs.declared.entry.Take.{Take}
 use Rattle.mc_cache.specs.Failing.{PutFails, PutIfAbsentFails, PutIfFails, RemovalFails, SwapFails, SwapIfFails, TakeFails, TakeIfFails}
 use Rattle.mc_cache.specs.Plain.{PutIfAbsentMeans, PutIfMeans, PutMeans, RemovalMeans}
-use Rattle.mc_cache.specs.Taking.{HasTakenIf, SwapIfMeans, SwapMeans, TakeIfMeans, TakeMeans, swap_answer, swap_if_answer, take_answer}
+use Rattle.mc_cache.specs.Taking.{HasTakenIf, SwapIfAbsentMeans, SwapIfMeans, SwapMeans, TakeIfMeans, TakeMeans, absent_of, swap_answer, swap_if_answer, take_answer}
 use Rattle.mc_cache.specs.TurnCalls.{Contract}
 
 abbrev pub put_contract : (V : ℕ) → ℕ → List ℕ → Contract V Put PutError
@@ -57,6 +57,13 @@ swap_if_contract V k since v = record {
   called = λ sh told w w'. HasCalled V sh (PutIfCall k since v) w w' (swap_if_answer told);
   means = λ h h' told. SwapIfMeans V h h' k since v told;
   fails = λ sh h made told. SwapIfFails sh h made told;
+}
+
+abbrev pub swap_if_absent_contract : (V : ℕ) → ℕ → List ℕ → Contract V (Swapped V) AbsentError
+swap_if_absent_contract V k v = record {
+  called = λ sh told w w'. HasPutIfAbsent V sh k v w w' (absent_of told);
+  means = λ h h' told. SwapIfAbsentMeans V h h' k v told;
+  fails = λ sh h made told. PutIfAbsentFails sh h made k (absent_of told);
 }
 
 abbrev pub take_contract : (V : ℕ) → ℕ → Contract V (Take V) Spent

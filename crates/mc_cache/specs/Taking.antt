@@ -2,10 +2,12 @@
 use Rattle.std.specs.Prelude.{ℕ, ◌≡◌, ◌≢◌, List, Some, Result, Ok, Err, IfOk}
 pub use Rattle.mc_writer.specs.GivenWay.{Holds, giving_way, put_if_of, put_of, removal_of}
 use Rattle.mc_words.specs.declared.history.Change.{Change}
+use Rattle.mc_plan.specs.declared.answer.AbsentError.{AbsentError}
 use Rattle.mc_plan.specs.declared.answer.Answer.{Answer}
 use Rattle.mc_plan.specs.declared.answer.Answer.TheVariants as answer
 use Rattle.mc_plan.specs.declared.answer.IfError.{IfError}
 use Rattle.mc_plan.specs.declared.answer.IfError.TheVariants as why
+use Rattle.mc_plan.specs.declared.answer.Put.{Put}
 use Rattle.mc_plan.specs.declared.answer.PutError.{PutError}
 use Rattle.mc_plan.specs.declared.answer.Remove.TheVariants as removal
 use Rattle.mc_plan.specs.declared.answer.Spent.{Spent}
@@ -14,7 +16,7 @@ use Rattle.mc_words.specs.declared.shape.Shape.{Shape}
 use Rattle.mc_plan.specs.WholeCalls.{RemoveCall}
 use Rattle.mc_shared.specs.Records.{WriterRecord}
 use Rattle.mc_writer.specs.WriterCalls.{HasCalled}
-use Rattle.mc_cache.specs.Plain.{PutIfMeans, PutMeans, RemovalMeans}
+use Rattle.mc_cache.specs.Plain.{PutIfAbsentMeans, PutIfMeans, PutMeans, RemovalMeans}
 use Rattle.mc_writer.specs.declared.entry.Entry.{Entry}
 use Rattle.mc_writer.specs.declared.entry.Replaced.{Replaced}
 use Rattle.mc_writer.specs.declared.entry.Take.{Take}
@@ -37,6 +39,15 @@ SwapMeans V h h' k v told = PutMeans V h h' k v (put_of told) × IfOk told (λ s
 -- a put on a condition, and what the map held of its key
 abbrev pub SwapIfMeans : (V : ℕ) → List (Change V) → List (Change V) → ℕ → ℕ → List ℕ → Result (Replaced V) IfError → Type 0
 SwapIfMeans V h h' k since v told = PutIfMeans V h h' k since v (put_if_of told) × IfOk told (λ replaced. Holds h k (Some replaced.old))
+
+-- the answer of the put of an absent key
+abbrev pub absent_of : {V : ℕ} → Result (Swapped V) AbsentError → Result Put AbsentError
+absent_of (Ok swapped) = Ok swapped.put
+absent_of (Err why) = Err why
+
+-- a put of a key only if it is absent, and what the map held of the key that gave way
+abbrev pub SwapIfAbsentMeans : (V : ℕ) → List (Change V) → List (Change V) → ℕ → List ℕ → Result (Swapped V) AbsentError → Type 0
+SwapIfAbsentMeans V h h' k v told = PutIfAbsentMeans V h h' k v (absent_of told) × IfOk told (λ swapped. Holds h (giving_way k swapped.put) swapped.old)
 
 -- a removal, and what the map held of its key
 abbrev pub TakeMeans : (V : ℕ) → List (Change V) → List (Change V) → ℕ → Result (Take V) Spent → Type 0

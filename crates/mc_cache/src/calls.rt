@@ -1,6 +1,6 @@
 //! The calls of the writer that a turn makes, as values.
 ghost use Rattle.mc_cache.specs.TurnCalls.{CanMake, HasMade};
-ghost use Rattle.mc_cache.specs.CallContracts.{put_contract, put_if_absent_contract, put_if_contract, remove_contract, swap_contract, swap_if_contract, take_contract, take_if_contract};
+ghost use Rattle.mc_cache.specs.CallContracts.{put_contract, put_if_absent_contract, put_if_contract, remove_contract, swap_contract, swap_if_absent_contract, swap_if_contract, take_contract, take_if_contract};
 
 use crate::cache::Cache;
 use crate::turn::{Answers, TurnCall};
@@ -116,6 +116,27 @@ impl<const V: usize> TurnCall<V, Replaced<V>, IfError> for SwappingIf<'_, V> {
         ensures { HasMade (swap_if_contract V self.entry.0 self.entry.1 self.entry.2.now) cache.now result writer.old writer.new }
     {
         writer.swap_if(cache, self.0, self.1, *self.2)
+    }
+}
+
+/// `Writer::swap_if_absent` of this key with this value.
+#[derive(Clone, Copy)]
+pub struct SwappingIfAbsent<'a, const V: usize>(pub u64, pub &'a [u64; V]);
+
+impl<const V: usize> TurnCall<V, Swapped<V>, AbsentError> for SwappingIfAbsent<'_, V> {
+    ghost contract = { λ c. swap_if_absent_contract V c.0 c.1.now };
+
+    #[inline(always)]
+    fn make(
+        self,
+        cache: &Cache<V>,
+        writer: &mut Writer<V>,
+        _: Answers<V>,
+    ) -> Result<Swapped<V>, AbsentError>
+        requires { CanMake V cache.now writer.old }
+        ensures { HasMade (swap_if_absent_contract V self.entry.0 self.entry.1.now) cache.now result writer.old writer.new }
+    {
+        writer.swap_if_absent(cache, self.0, *self.1)
     }
 }
 

@@ -1,6 +1,6 @@
 //! The writer, shared by turns that are tried for once.
 ghost use Rattle.std.specs.Prelude.{◌≡◌, IfNone, IfSome};
-ghost use Rattle.mc_cache.specs.CallContracts.{put_contract, put_if_absent_contract, put_if_contract, remove_contract, swap_contract, swap_if_contract, take_contract, take_if_contract};
+ghost use Rattle.mc_cache.specs.CallContracts.{put_contract, put_if_contract, remove_contract};
 ghost use Rattle.mc_cache.specs.Resting.{IsAtRest, IsFit};
 
 mod batches;
@@ -8,16 +8,13 @@ mod looking;
 mod turns;
 
 use crate::cache::Cache;
-use crate::calls::{
-    Putting, PuttingIf, PuttingIfAbsent, Removing, Swapping, SwappingIf, Taking, TakingIf,
-};
+use crate::calls::{Putting, PuttingIf, Removing};
 use crate::reader::Reader;
 use crate::turn::{TurnCall, get_in_turn, make_in_turn};
 use crate::writer::Writer;
 use counted_slot::{Counted, Fits};
-use mc_plan::{AbsentError, IfError, Put, PutError, Remove, Spent};
+use mc_plan::{IfError, Put, PutError, Remove, Spent};
 use mc_words::Reply;
-use mc_writer::{Replaced, Swapped, Take};
 use std::marker::Model;
 use std::snapshot::Snapshot;
 
@@ -135,24 +132,6 @@ impl<const V: usize> Desk<V> {
         self.try_call(cache, pass, PuttingIf(key, since, &value))
     }
 
-    /// Like `try_put`, with `Writer::put_if_absent`.
-    #[inline(always)]
-    pub fn try_put_if_absent(
-        &self,
-        cache: &Cache<V>,
-        pass: &mut Reader<V>,
-        key: u64,
-        value: [u64; V],
-    ) -> Result<Put, DeskError<AbsentError>>
-        requires of { (self.now ≡ cache.now) × (pass.old.of ≡ cache.now) }
-        ensures of { pass.new.of ≡ pass.old.of }
-        ensures turn { HasTriedTo V cache.now.layout.shape ((put_if_absent_contract V key value.entry).called cache.now.layout.shape) pass.old pass.new result }
-        ensures plain { TurnMeans (put_if_absent_contract V key value.entry).means (seen V pass.old) (seen V pass.new) result }
-        ensures fails { TurnFails ((put_if_absent_contract V key value.entry).fails cache.now.layout.shape (seen V pass.new) (versions_seen V pass.new)) result }
-    {
-        self.try_call(cache, pass, PuttingIfAbsent(key, &value))
-    }
-
     /// Like `try_put`, with `Writer::remove`.
     #[inline(always)]
     pub fn try_remove(
@@ -168,77 +147,6 @@ impl<const V: usize> Desk<V> {
         ensures fails { TurnFails ((remove_contract V key).fails cache.now.layout.shape (seen V pass.new) (versions_seen V pass.new)) result }
     {
         self.try_call(cache, pass, Removing(key))
-    }
-
-    /// Like `try_put`, with `Writer::swap`.
-    #[inline(always)]
-    pub fn try_swap(
-        &self,
-        cache: &Cache<V>,
-        pass: &mut Reader<V>,
-        key: u64,
-        value: [u64; V],
-    ) -> Result<Swapped<V>, DeskError<PutError>>
-        requires of { (self.now ≡ cache.now) × (pass.old.of ≡ cache.now) }
-        ensures of { pass.new.of ≡ pass.old.of }
-        ensures turn { HasTriedTo V cache.now.layout.shape ((swap_contract V key value.entry).called cache.now.layout.shape) pass.old pass.new result }
-        ensures plain { TurnMeans (swap_contract V key value.entry).means (seen V pass.old) (seen V pass.new) result }
-        ensures fails { TurnFails ((swap_contract V key value.entry).fails cache.now.layout.shape (seen V pass.new) (versions_seen V pass.new)) result }
-    {
-        self.try_call(cache, pass, Swapping(key, &value))
-    }
-
-    /// Like `try_put`, with `Writer::swap_if`.
-    #[inline(always)]
-    pub fn try_swap_if(
-        &self,
-        cache: &Cache<V>,
-        pass: &mut Reader<V>,
-        key: u64,
-        since: u64,
-        value: [u64; V],
-    ) -> Result<Replaced<V>, DeskError<IfError>>
-        requires of { (self.now ≡ cache.now) × (pass.old.of ≡ cache.now) }
-        ensures of { pass.new.of ≡ pass.old.of }
-        ensures turn { HasTriedTo V cache.now.layout.shape ((swap_if_contract V key since value.entry).called cache.now.layout.shape) pass.old pass.new result }
-        ensures plain { TurnMeans (swap_if_contract V key since value.entry).means (seen V pass.old) (seen V pass.new) result }
-        ensures fails { TurnFails ((swap_if_contract V key since value.entry).fails cache.now.layout.shape (seen V pass.new) (versions_seen V pass.new)) result }
-    {
-        self.try_call(cache, pass, SwappingIf(key, since, &value))
-    }
-
-    /// Like `try_put`, with `Writer::take`.
-    #[inline(always)]
-    pub fn try_take(
-        &self,
-        cache: &Cache<V>,
-        pass: &mut Reader<V>,
-        key: u64,
-    ) -> Result<Take<V>, DeskError<Spent>>
-        requires of { (self.now ≡ cache.now) × (pass.old.of ≡ cache.now) }
-        ensures of { pass.new.of ≡ pass.old.of }
-        ensures turn { HasTriedTo V cache.now.layout.shape ((take_contract V key).called cache.now.layout.shape) pass.old pass.new result }
-        ensures plain { TurnMeans (take_contract V key).means (seen V pass.old) (seen V pass.new) result }
-        ensures fails { TurnFails ((take_contract V key).fails cache.now.layout.shape (seen V pass.new) (versions_seen V pass.new)) result }
-    {
-        self.try_call(cache, pass, Taking(key))
-    }
-
-    /// Like `try_put`, with `Writer::take_if`.
-    pub fn try_take_if(
-        &self,
-        cache: &Cache<V>,
-        pass: &mut Reader<V>,
-        key: u64,
-        since: u64,
-    ) -> Result<Replaced<V>, DeskError<IfError>>
-        requires of { (self.now ≡ cache.now) × (pass.old.of ≡ cache.now) }
-        ensures of { pass.new.of ≡ pass.old.of }
-        ensures turn { HasTriedTo V cache.now.layout.shape ((take_if_contract V key since).called cache.now.layout.shape) pass.old pass.new result }
-        ensures plain { TurnMeans (take_if_contract V key since).means (seen V pass.old) (seen V pass.new) result }
-        ensures fails { TurnFails ((take_if_contract V key since).fails cache.now.layout.shape (seen V pass.new) (versions_seen V pass.new)) result }
-    {
-        self.try_call(cache, pass, TakingIf(key, since))
     }
 
     /// Takes the writer off the desk. `None` if a turn could not give it back.

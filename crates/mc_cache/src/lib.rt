@@ -26,6 +26,7 @@ mod cache;
 pub mod calls;
 mod closing;
 mod desk;
+pub mod keyed;
 pub mod laws;
 mod listing;
 mod loading;

@@ -1,14 +1,15 @@
 //! The writer's calls that also return the entry which they take out of the map.
 ghost use Rattle.std.specs.Prelude.{◌≡◌};
-ghost use Rattle.mc_cache.specs.Failing.{SwapFails, SwapIfFails, TakeFails, TakeIfFails, version_changes};
+ghost use Rattle.mc_cache.specs.Failing.{PutIfAbsentFails, SwapFails, SwapIfFails, TakeFails, TakeIfFails, version_changes};
 ghost use Rattle.mc_cache.specs.Plain.{history};
-ghost use Rattle.mc_cache.specs.Taking.{HasTakenIf, SwapIfMeans, SwapMeans, TakeIfMeans, TakeMeans, swap_answer, swap_if_answer, take_answer};
+ghost use Rattle.mc_cache.specs.Taking.{HasTakenIf, SwapIfAbsentMeans, SwapIfMeans, SwapMeans, TakeIfMeans, TakeMeans, absent_of, swap_answer, swap_if_answer, take_answer};
 ghost use Rattle.mc_plan.specs.WholeCalls.{PutCall, PutIfCall, RemoveCall};
-ghost use Rattle.mc_writer.specs.WriterCalls.{HasCalled};
+ghost use Rattle.mc_writer.specs.WriterCalls.{HasCalled, HasPutIfAbsent};
 
 use crate::cache::Cache;
 use crate::writer::{Writer, at};
-use mc_plan::{IfError, PutError, Spent};
+use mc_plan::{AbsentError, IfError, PutError, Spent};
+use mc_words::Reply;
 use mc_writer::{Replaced, Swapped, Take, look, swap, swap_if, take};
 
 impl<const V: usize> Writer<V> {
@@ -59,6 +60,31 @@ impl<const V: usize> Writer<V> {
                 Ok(replaced)
             }
             Err(why) => Err(why),
+        }
+    }
+
+    /// Puts the key only if it is absent, as `put_if_absent` does, and returns the entry that gives way: that of the key that is evicted.
+    pub fn swap_if_absent(
+        &mut self,
+        cache: &Cache<V>,
+        key: u64,
+        value: [u64; V],
+    ) -> Result<Swapped<V>, AbsentError>
+        requires of { self.old.of ≡ cache.now }
+        ensures of { self.new.of ≡ self.old.of }
+        ensures called { HasPutIfAbsent V cache.now.layout.shape key value.entry self.old self.new (absent_of result) }
+        ensures plain { SwapIfAbsentMeans V (history V self.old) (history V self.new) key value.entry result }
+        ensures fails { PutIfAbsentFails cache.now.layout.shape (history V self.new) (version_changes V self.new) key (absent_of result) }
+    {
+        match look(&cache.cells, &mut self.seat, &self.books, key) {
+            Some(_) => match self.get(cache, key) {
+                Reply::Found { since, .. } => Err(AbsentError::Present { since }),
+                _ => unreachable!(),
+            },
+            None => match self.swap(cache, key, value) {
+                Ok(swapped) => Ok(swapped),
+                Err(why) => Err(AbsentError::Put(why)),
+            },
         }
     }
 

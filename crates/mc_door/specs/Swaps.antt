@@ -1,6 +1,6 @@
 -- What the writes mean that also return the entry which gives way: a holder makes them, and a pass in a turn.
 use Rattle.std.specs.Prelude.{ℕ, ◌≡◌, ◌≢◌, ◌⊎◌, List, length, Option, Some, None, Result, Ok, Err}
-use Rattle.mc_cache.specs.CallContracts.{swap_contract, swap_if_contract, take_contract, take_if_contract}
+use Rattle.mc_cache.specs.CallContracts.{swap_contract, swap_if_absent_contract, swap_if_contract, take_contract, take_if_contract}
 use Rattle.mc_cache.specs.TurnCalls.{Contract}
 use Rattle.mc_cache.specs.declared.desk.DeskError.{DeskError}
 use Rattle.mc_cache.specs.declared.desk.DeskError.TheVariants as desk
@@ -9,11 +9,12 @@ use Rattle.mc_writer.specs.declared.entry.Replaced.{Replaced}
 use Rattle.mc_writer.specs.declared.entry.Swapped.{Swapped}
 use Rattle.mc_writer.specs.declared.entry.Take.{Take}
 use Rattle.mc_writer.specs.declared.entry.Take.TheVariants.{Taken, NotThere}
+use Rattle.mc_plan.specs.declared.answer.AbsentError.{AbsentError}
 use Rattle.mc_plan.specs.declared.answer.IfError.{IfError}
 use Rattle.mc_plan.specs.declared.answer.PutError.{PutError}
 use Rattle.mc_plan.specs.declared.answer.Spent.{Spent}
 use Rattle.mc_door.specs.Roles.{Role}
-use Rattle.mc_door.specs.Tellings.{plain, swap_if_told, swap_told, take_if_told, take_told, turn_told}
+use Rattle.mc_door.specs.Tellings.{plain, swap_if_absent_told, swap_if_told, swap_told, take_if_told, take_told, turn_told}
 use Rattle.mc_door.specs.Tells.{HasTold}
 use Rattle.mc_door.specs.Turns.{HasCalledBy}
 use Rattle.mc_door.specs.declared.status.TheConstants.{WIDTH}
@@ -31,6 +32,10 @@ swap_words V _ v = length v
 abbrev pub old_of_swap : {V : ℕ} → Result (Swapped V) PutError → Option (Entry V)
 old_of_swap (Ok swapped) = swapped.old
 old_of_swap (Err why) = None
+
+abbrev pub old_of_swap_if_absent : {V : ℕ} → Result (Swapped V) AbsentError → Option (Entry V)
+old_of_swap_if_absent (Ok swapped) = swapped.old
+old_of_swap_if_absent (Err why) = None
 
 abbrev pub old_of_swap_if : {V : ℕ} → Result (Replaced V) IfError → Option (Entry V)
 old_of_swap_if (Ok replaced) = Some replaced.old
@@ -56,6 +61,7 @@ left_by None words = words
 abbrev pub SwapIs : (V : ℕ) → ((T E : Type 0) → Contract V T E → (Result T E → Outcome) → (Result T E → Option (Entry V)) → Type 0) → ℕ → Swap → List ℕ → Type 0
 SwapIs V Is key call.Put v = Is (Swapped V) PutError (swap_contract V key v) swap_told old_of_swap
 SwapIs V Is key (call.PutIf since) v = Is (Replaced V) IfError (swap_if_contract V key since v) swap_if_told old_of_swap_if
+SwapIs V Is key call.PutIfAbsent v = Is (Swapped V) AbsentError (swap_if_absent_contract V key v) swap_if_absent_told old_of_swap_if_absent
 SwapIs V Is key call.Remove v = Is (Take V) Spent (take_contract V key) take_told old_of_take
 SwapIs V Is key (call.RemoveIf since) v = Is (Replaced V) IfError (take_if_contract V key since) take_if_told old_of_swap_if
 

@@ -93,6 +93,10 @@ abbrev pub swap_told : {V : ℕ} → Result (Swapped V) PutError → Outcome
 swap_told (Ok swapped) = with_stamp swapped.old (done_told swapped.put)
 swap_told (Err why) = not_put_told why
 
+abbrev pub swap_if_absent_told : {V : ℕ} → Result (Swapped V) AbsentError → Outcome
+swap_if_absent_told (Ok swapped) = swap_told (Ok swapped)
+swap_if_absent_told (Err why) = put_if_absent_told (Err why)
+
 abbrev pub swap_if_told : {V : ℕ} → Result (Replaced V) IfError → Outcome
 swap_if_told (Ok replaced) = with_stamp (Some replaced.old) (done_told (Renewed replaced.at))
 swap_if_told (Err why) = not_put_if_told why

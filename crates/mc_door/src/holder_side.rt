@@ -11,6 +11,7 @@ use crate::looked::Looked;
 use crate::outcome::{Outcome, RawReply};
 use crate::shared::Shared;
 use mc_cache::DeskError;
+use mc_cache::keyed::Keyed;
 use mc_cache::turn::TurnCall;
 use mc_shards::{Holder, Pass};
 use std::alloc::Global;
@@ -70,11 +71,11 @@ impl<const V: usize> Caller<V> for HolderSide<V> {
     ghost role = { λ s. Holds s.shared.value.shards s.holder };
 
     #[inline(always)]
-    fn try_call<T, E, C: TurnCall<V, T, E>>(&mut self, key: u64, call: C) -> Result<T, DeskError<E>>
-        ensures tried { HasCalledBy (Holds self.old.shared.value.shards self.old.holder) (Holds self.new.shared.value.shards self.new.holder) key (C.contract call) result }
+    fn try_call<T, E, C: TurnCall<V, T, E> + Keyed>(&mut self, call: C) -> Result<T, DeskError<E>>
+        ensures tried { HasCalledBy (Holds self.old.shared.value.shards self.old.holder) (Holds self.new.shared.value.shards self.new.holder) (C.key_of call) (C.contract call) result }
         ensures held { result ≡ Err Held → Holds self.new.shared.value.shards self.new.holder ≡ Holds self.old.shared.value.shards self.old.holder }
     {
-        match self.holder.call(&self.shared.shards, key, call) {
+        match self.holder.call(&self.shared.shards, call) {
             Ok(done) => Ok(done),
             Err(why) => Err(DeskError::Call(why)),
         }

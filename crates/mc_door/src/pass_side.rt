@@ -8,6 +8,7 @@ use crate::looked::Looked;
 use crate::outcome::{Outcome, RawReply};
 use crate::shared::Shared;
 use mc_cache::DeskError;
+use mc_cache::keyed::Keyed;
 use mc_cache::turn::TurnCall;
 use mc_shards::Pass;
 use std::alloc::Global;
@@ -68,10 +69,10 @@ impl<const V: usize> Caller<V> for PassSide<V> {
     ghost role = { λ s. Tries s.shared.value.shards s.pass };
 
     #[inline(always)]
-    fn try_call<T, E, C: TurnCall<V, T, E>>(&mut self, key: u64, call: C) -> Result<T, DeskError<E>>
-        ensures tried { HasCalledBy (Tries self.old.shared.value.shards self.old.pass) (Tries self.new.shared.value.shards self.new.pass) key (C.contract call) result }
+    fn try_call<T, E, C: TurnCall<V, T, E> + Keyed>(&mut self, call: C) -> Result<T, DeskError<E>>
+        ensures tried { HasCalledBy (Tries self.old.shared.value.shards self.old.pass) (Tries self.new.shared.value.shards self.new.pass) (C.key_of call) (C.contract call) result }
         ensures held { result ≡ Err Held → Tries self.new.shared.value.shards self.new.pass ≡ Tries self.old.shared.value.shards self.old.pass }
     {
-        self.pass.try_call(&self.shared.shards, key, call)
+        self.pass.try_call(&self.shared.shards, call)
     }
 }

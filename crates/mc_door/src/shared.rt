@@ -4,8 +4,7 @@ ghost use Rattle.mc_shards.specs.Sharded.{ArePassOf};
 ghost use Rattle.mc_shards.specs.Spares.{AreSparesOf};
 
 use counted_slot::{Counted, Fits, TAKEN};
-use mc_shards::{Pass, Shards, Spares};
-use mc_words::MOST_READERS;
+use mc_shards::{Pass, Shards, Spares, SparesError};
 use std::alloc::Global;
 
 // The words of the slot. The high half says whether the spares are there.
@@ -42,30 +41,6 @@ pub enum MoreError {
     Held,
     /// There is no memory.
     NoMemory,
-}
-
-// Makes this many passes, and stops where there is no memory.
-fn make<const V: usize>(
-    alloc: Global,
-    shards: &Shards<V>,
-    kept: &mut Kept<V>,
-    many: usize,
-    given: &mut Vec<Pass<V>>,
-)
-    requires spares { AreSparesOf shards.now kept.old.spares }
-    requires none { All (ArePassOf shards.now) given.old.items }
-    ensures spares { AreSparesOf shards.now kept.new.spares }
-    ensures given { All (ArePassOf shards.now) given.new.items }
-{
-    for n in 0..many {
-        let _n = n;
-        let Ok(Some(pass)) = kept.spares.next(alloc, shards) else {
-            return;
-        };
-        let Ok(()) = given.push(pass) else {
-            return;
-        };
-    }
 }
 
 impl<const V: usize> Shared<V> {
@@ -107,25 +82,18 @@ impl<const V: usize> Shared<V> {
         ensures of { IfOk result (λ given. All (ArePassOf self.now.shards) given.items) }
         ensures many { IfOk result (λ given. length given.items ≡ many) }
     {
-        if many == 0 || many > MOST_READERS as usize {
+        if many == 0 {
             return Err(MoreError::Count);
         }
         let Some(mut kept) = self.take() else {
             return Err(MoreError::Held);
         };
-        let mut given = Vec::new(alloc);
-        let enough = many <= kept.spares.count();
-        if enough {
-            make(alloc, &self.shards, &mut kept, many, &mut given);
-        }
+        let given = kept.spares.take(alloc, &self.shards, many);
         self.give(kept);
-        if given.len() == many {
-            return Ok(given);
+        match given {
+            Ok(given) => Ok(given),
+            Err(SparesError::Few) => Err(MoreError::Count),
+            Err(SparesError::NoMemory) => Err(MoreError::NoMemory),
         }
-        Err(if enough {
-            MoreError::NoMemory
-        } else {
-            MoreError::Count
-        })
     }
 }

@@ -10,7 +10,7 @@ use crate::tell::in_turn;
 use crate::words::array_of;
 use crate::write::Swap;
 use mc_cache::DeskError;
-use mc_cache::calls::{Swapping, SwappingIf, Taking, TakingIf};
+use mc_cache::calls::{Swapping, SwappingIf, SwappingIfAbsent, Taking, TakingIf};
 
 #[inline(never)]
 fn swap_in<const V: usize, S: Caller<V>>(
@@ -26,7 +26,7 @@ fn swap_in<const V: usize, S: Caller<V>>(
     ensures { SwapMeans V (S.role side.old) (S.role side.new) key Swap.Put value.now old.old old.new (record { status = result; reply = reply.new }) }
 {
     let value = array_of::<V>(value);
-    let tried = side.try_call(key, Swapping(key, &value));
+    let tried = side.try_call(Swapping(key, &value));
     in_turn!(tried, reply, made => tell::swap(made, old, reply))
 }
 
@@ -45,8 +45,26 @@ fn swap_if<const V: usize, S: Caller<V>>(
     ensures { SwapMeans V (S.role side.old) (S.role side.new) key (Swap.PutIf since) value.now old.old old.new (record { status = result; reply = reply.new }) }
 {
     let value = array_of::<V>(value);
-    let tried = side.try_call(key, SwappingIf(key, since, &value));
+    let tried = side.try_call(SwappingIf(key, since, &value));
     in_turn!(tried, reply, made => tell::swap_if(made, old, reply))
+}
+
+#[inline(never)]
+fn swap_if_absent<const V: usize, S: Caller<V>>(
+    side: &mut S,
+    key: u64,
+    value: &[u64],
+    old: &mut [u64],
+    reply: &mut RawReply,
+) -> u32
+    requires width { IsWidth V }
+    requires value { length value.now ≡ V }
+    requires old { length old.old ≡ V }
+    ensures { SwapMeans V (S.role side.old) (S.role side.new) key Swap.PutIfAbsent value.now old.old old.new (record { status = result; reply = reply.new }) }
+{
+    let value = array_of::<V>(value);
+    let tried = side.try_call(SwappingIfAbsent(key, &value));
+    in_turn!(tried, reply, made => tell::swap_if_absent(made, old, reply))
 }
 
 #[inline(never)]
@@ -60,7 +78,7 @@ fn take<const V: usize, S: Caller<V>>(
     requires old { length old.old ≡ V }
     ensures { SwapMeans V (S.role side.old) (S.role side.new) key Swap.Remove [] old.old old.new (record { status = result; reply = reply.new }) }
 {
-    let tried = side.try_call(key, Taking(key));
+    let tried = side.try_call(Taking(key));
     in_turn!(tried, reply, made => tell::take(made, old, reply))
 }
 
@@ -76,7 +94,7 @@ fn take_if<const V: usize, S: Caller<V>>(
     requires old { length old.old ≡ V }
     ensures { SwapMeans V (S.role side.old) (S.role side.new) key (Swap.RemoveIf since) [] old.old old.new (record { status = result; reply = reply.new }) }
 {
-    let tried = side.try_call(key, TakingIf(key, since));
+    let tried = side.try_call(TakingIf(key, since));
     in_turn!(tried, reply, made => tell::take_if(made, old, reply))
 }
 
@@ -98,6 +116,7 @@ pub(crate) fn swap<const V: usize, S: Caller<V>>(
     match call {
         Swap::Put => swap_in(side, key, value, old, reply),
         Swap::PutIf(since) => swap_if(side, key, since, value, old, reply),
+        Swap::PutIfAbsent => swap_if_absent(side, key, value, old, reply),
         Swap::Remove => take::<V, S>(side, key, old, reply),
         Swap::RemoveIf(since) => take_if::<V, S>(side, key, since, old, reply),
     }

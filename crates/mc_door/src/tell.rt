@@ -1,8 +1,8 @@
 //! Writes the answer of a write to C's reply, each form of it by itself. A refusal and a put that failed are out of line, which saves
 //! registers.
-ghost use Rattle.std.specs.Prelude.{◌≡◌, length};
-ghost use Rattle.mc_door.specs.Swaps.{left_by, old_of_swap, old_of_swap_if, old_of_take};
-ghost use Rattle.mc_door.specs.Tellings.{done_told, not_put_told, plain, put_if_absent_told, put_if_told, put_told, removal_told, swap_if_told, swap_told, stamped, take_if_told, take_told};
+ghost use Rattle.std.specs.Prelude.{◌≡◌, Err, length};
+ghost use Rattle.mc_door.specs.Swaps.{left_by, old_of_swap, old_of_swap_if, old_of_swap_if_absent, old_of_take};
+ghost use Rattle.mc_door.specs.Tellings.{done_told, not_put_told, plain, put_if_absent_told, put_if_told, put_told, removal_told, swap_if_absent_told, swap_if_told, swap_told, stamped, take_if_told, take_told};
 
 use crate::outcome::{Outcome, RawReply};
 use crate::status;
@@ -60,14 +60,22 @@ pub(crate) fn put_if(made: Result<u64, IfError>, reply: &mut RawReply) -> u32
     }
 }
 
+fn not_absent(why: AbsentError, reply: &mut RawReply) -> u32
+    ensures { record { status = result; reply = reply.new } ≡ put_if_absent_told (Err why) }
+{
+    match why {
+        AbsentError::Present { since } => Outcome::since(status::PRESENT, since).tell(reply),
+        AbsentError::Put(why) => not_put(why, reply),
+    }
+}
+
 #[inline(always)]
 pub(crate) fn put_if_absent(made: Result<Put, AbsentError>, reply: &mut RawReply) -> u32
     ensures { record { status = result; reply = reply.new } ≡ put_if_absent_told made }
 {
     match made {
         Ok(put) => done(put, reply),
-        Err(AbsentError::Present { since }) => Outcome::since(status::PRESENT, since).tell(reply),
-        Err(AbsentError::Put(why)) => not_put(why, reply),
+        Err(why) => not_absent(why, reply),
     }
 }
 
@@ -112,6 +120,21 @@ pub(crate) fn swap<const V: usize>(
             status
         }
         Err(why) => not_put(why, reply),
+    }
+}
+
+pub(crate) fn swap_if_absent<const V: usize>(
+    made: Result<Swapped<V>, AbsentError>,
+    old: &mut [u64],
+    reply: &mut RawReply,
+) -> u32
+    requires { length old.old ≡ V }
+    ensures told { record { status = result; reply = reply.new } ≡ swap_if_absent_told made.entry }
+    ensures old { old.new ≡ left_by (old_of_swap_if_absent made.entry) old.old }
+{
+    match made {
+        Ok(swapped) => swap(Ok(swapped), old, reply),
+        Err(why) => not_absent(why, reply),
     }
 }
 

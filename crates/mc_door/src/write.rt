@@ -35,6 +35,7 @@ pub enum Swap {
     Put,
     /// A put of a key whose last put was at this moment.
     PutIf(u64),
+    PutIfAbsent,
     /// A removal. It has no value.
     Remove,
     /// A removal of a key whose last put was at this moment. It has no value.

@@ -25,7 +25,7 @@ pub(crate) fn put<const V: usize, S: Caller<V>>(
     ensures { WriteMeans V (S.role side.old) (S.role side.new) key Write.Put value.now (record { status = result; reply = reply.new }) }
 {
     let value = array_of::<V>(value);
-    let tried = side.try_call(key, Putting(key, &value));
+    let tried = side.try_call(Putting(key, &value));
     in_turn!(tried, reply, made => tell::put(made, reply))
 }
 
@@ -52,12 +52,12 @@ fn try_within<const V: usize, S: Caller<V>>(
     ensures { HasCalledBy (S.role side.old) (S.role side.new) key (put_contract V key value.now) result }
 {
     for _ in 1..tries {
-        match side.try_call(key, Putting(key, value)) {
+        match side.try_call(Putting(key, value)) {
             Err(DeskError::Held) => {}
             told => return told,
         }
     }
-    side.try_call(key, Putting(key, value))
+    side.try_call(Putting(key, value))
 }
 
 #[inline(never)]
@@ -88,7 +88,7 @@ fn put_if<const V: usize, S: Caller<V>>(
     ensures { WriteMeans V (S.role side.old) (S.role side.new) key (Write.PutIf since) value.now (record { status = result; reply = reply.new }) }
 {
     let value = array_of::<V>(value);
-    let tried = side.try_call(key, PuttingIf(key, since, &value));
+    let tried = side.try_call(PuttingIf(key, since, &value));
     in_turn!(tried, reply, made => tell::put_if(made, reply))
 }
 
@@ -103,7 +103,7 @@ fn put_if_absent<const V: usize, S: Caller<V>>(
     ensures { WriteMeans V (S.role side.old) (S.role side.new) key Write.PutIfAbsent value.now (record { status = result; reply = reply.new }) }
 {
     let value = array_of::<V>(value);
-    let tried = side.try_call(key, PuttingIfAbsent(key, &value));
+    let tried = side.try_call(PuttingIfAbsent(key, &value));
     in_turn!(tried, reply, made => tell::put_if_absent(made, reply))
 }
 
@@ -111,7 +111,7 @@ fn put_if_absent<const V: usize, S: Caller<V>>(
 fn remove<const V: usize, S: Caller<V>>(side: &mut S, key: u64, reply: &mut RawReply) -> u32
     ensures { WriteMeans V (S.role side.old) (S.role side.new) key Write.Remove [] (record { status = result; reply = reply.new }) }
 {
-    let tried = side.try_call(key, Removing(key));
+    let tried = side.try_call(Removing(key));
     in_turn!(tried, reply, made => tell::removal(made, reply))
 }
 

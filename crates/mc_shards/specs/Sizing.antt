@@ -1,7 +1,8 @@
 -- The shape that is chosen for shards.
-use Rattle.std.specs.Prelude.{ℕ, ◌≡◌, ◌≢◌, ◌+◌, ◌-◌, ◌*◌, ◌<◌, ◌≤◌, ◌⊎◌}
+use Rattle.std.specs.Prelude.{ℕ, ◌≡◌, ◌≢◌, ◌+◌, ◌-◌, ◌*◌, ◌<◌, ◌≤◌, ◌⊎◌, if◌then◌else◌, nat_lt}
 use Rattle.mc_words.specs.Shapes.{HasShards}
-use Rattle.mc_words.specs.Sizing.{CanBeSized}
+use Rattle.mc_words.specs.Sizing.{CanBeSized, IsSizedFor}
+use Rattle.mc_words.specs.declared.shape.Shape.{Shape}
 use Rattle.mc_words.specs.declared.shape.ShapeError.TheVariants.{Items}
 use Rattle.mc_cache.specs.declared.opening.OpenError.TheVariants as opening
 use Rattle.mc_shards.specs.declared.opening.OpenShardsError.{OpenShardsError}
@@ -18,6 +19,18 @@ pub record IsMeanShare (items shards n : ℕ) : Type 0 where
 -- a single shard gets all items
 abbrev pub IsShare : ℕ → ℕ → ℕ → Type 0
 IsShare items shards n = ((shards ≡ 1) × (n ≡ items)) ⊎ ((shards ≢ 1) × IsMeanShare items shards n)
+
+-- hashing fills small tables unevenly, so a table for few items has room for twice as many
+abbrev pub room_for : ℕ → ℕ
+room_for n = if nat_lt n 256 then 2 * n else n
+
+-- the shape with this number of items
+abbrev pub holding : ℕ → Shape → Shape
+holding n sh = record { buckets = sh.buckets; items = n; stripes = sh.stripes; depth = sh.depth; tries = sh.tries; limit = sh.limit; mix = sh.mix }
+
+-- the shape of a shard with n items
+abbrev pub IsShardShape : ℕ → Shape → Type 0
+IsShardShape n sh = (sized : Shape) × IsSizedFor (room_for n) sized × (sh ≡ holding n sized)
 
 -- why there is no such shape: their number is not allowed, there are no items, or a shard's are too many
 abbrev pub RefusesShare : ℕ → ℕ → OpenShardsError → Type 0

@@ -10,6 +10,7 @@ ghost use Rattle.mc_shards.specs.Sharded.{ChangesAt, shard_in};
 
 use crate::holding::Holder;
 use crate::shards::Shards;
+use mc_cache::keyed::Keyed;
 use mc_cache::turn::TurnCall;
 use mc_cache::{Cache, Reply, Writer};
 use std::marker::PhantomData;
@@ -32,22 +33,20 @@ fn make<const V: usize, T, E, C: TurnCall<V, T, E>>(
 }
 
 impl<const V: usize> Holder<V> {
-    /// Makes the call with the writer of the key's shard. It needs no try. The key must be the one that the call uses. Nothing checks that, and no
-    /// lookup finds what is put in another shard. Condition: the holder belongs to these shards.
+    /// Makes the call with the writer of the shard that the call's key selects. It needs no try. Condition: the holder belongs to these shards.
     #[inline(always)]
-    pub fn call<T, E, C: TurnCall<V, T, E>>(
+    pub fn call<T, E, C: TurnCall<V, T, E> + Keyed>(
         &mut self,
         shards: &Shards<V>,
-        key: u64,
         call: C,
     ) -> Result<T, E>
         requires of { IsHolderOf shards.now self.old }
         ensures of { IsHolderOf shards.now self.new }
         ensures readers { self.new.readers ≡ self.old.readers }
-        ensures made { ChangesAt (shard_in shards.now key) self.old.writers self.new.writers (λ w w'. HasMade (C.contract call) w.of result w w') }
-        ensures plain { ChangesAt (shard_in shards.now key) (histories V self.old) (histories V self.new) (λ h h'. (C.contract call).means h h' result) }
+        ensures made { ChangesAt (shard_in shards.now (C.key_of call)) self.old.writers self.new.writers (λ w w'. HasMade (C.contract call) w.of result w w') }
+        ensures plain { ChangesAt (shard_in shards.now (C.key_of call)) (histories V self.old) (histories V self.new) (λ h h'. (C.contract call).means h h' result) }
     {
-        let n = shards.shard_of(key);
+        let n = shards.shard_of(call.key());
         let writer = self.turns[n].writer(&shards.lender(n).table.shared);
         make(shards.cache(n), writer, call)
     }

@@ -33,7 +33,6 @@ mod pass;
 mod shards;
 mod sizing;
 mod spares;
-mod taking;
 
 pub use closing::StillOpen;
 pub use holding::Holder;
@@ -46,4 +45,4 @@ pub use opening::{OpenShardsError, open_shards, open_spared};
 pub use pass::Pass;
 pub use shards::Shards;
 pub use sizing::shard_shape;
-pub use spares::Spares;
+pub use spares::{Spares, SparesError};

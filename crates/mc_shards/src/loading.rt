@@ -1,5 +1,5 @@
 //! Opening shards with entries.
-ghost use Rattle.std.specs.Prelude.{ℕ, ◌≡◌, ◌≤◌, All, IfErr, IfOk, List, MatchResult, OnOk, [], length, map};
+ghost use Rattle.std.specs.Prelude.{ℕ, ◌≡◌, ◌+◌, ◌≤◌, All, IfErr, IfOk, List, MatchResult, OnOk, [], length, map};
 ghost use Rattle.mc_words.specs.declared.history.Change.{Change};
 ghost use Rattle.mc_words.specs.Keys.{shard_of};
 ghost use Rattle.mc_words.specs.Places.{IsWidth};
@@ -14,7 +14,7 @@ ghost use Rattle.mc_shards.specs.Loadings.{HaveLoaded, HaveMet, HoldEntries, Sha
 ghost use Rattle.mc_shards.specs.Openings.{RefusesShards};
 ghost use Rattle.mc_shards.specs.Plain.{seens};
 ghost use Rattle.mc_shards.specs.Sharded.{ArePassOf, ChangesAt};
-ghost use Rattle.mc_shards.specs.Spares.{AreSparesOf};
+ghost use Rattle.mc_shards.specs.Spares.{AreSparesOf, count_of};
 
 use crate::opening::{OpenShardsError, check_opening, lenders_of, open_all, push_to};
 use crate::pass::Pass;
@@ -135,7 +135,7 @@ pub fn open_spared_with<const V: usize>(
     ensures of { IfOk result (λ o. All (ArePassOf o.0.shards) o.0.passes.items) }
     ensures loaded { IfOk result (λ o. HaveLoaded V shape entries.now o.0.shards.tables o.0.passes.items o.0.left.items) }
     ensures plain { IfOk result (λ o. (hs : List (List (Change V))) × HoldEntries V shape entries.now hs o.0.left.items × All (λ pass. seens V pass ≡ hs) o.0.passes.items) }
-    ensures spares { IfOk result (λ o. AreSparesOf o.0.shards o.1) }
+    ensures spares { IfOk result (λ o. AreSparesOf o.0.shards o.1 × (count_of o.1 + passes ≡ all)) }
 {
     check_opening(shape, shards, passes)?;
     let (caches, mut writers, mut passes, spares) = open_all::<V>(

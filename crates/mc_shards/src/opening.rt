@@ -1,5 +1,5 @@
 //! Opening shards.
-ghost use Rattle.std.specs.Prelude.{◌≡◌, ◌≤◌, [], ◌∷◌, ◌++◌, All, IfErr, IfOk, MatchResult, OnOk, length, map};
+ghost use Rattle.std.specs.Prelude.{◌≡◌, ◌+◌, ◌≤◌, [], ◌∷◌, ◌++◌, All, IfErr, IfOk, MatchResult, OnOk, length, map};
 ghost use Rattle.mc_words.specs.Places.{IsWidth};
 ghost use Rattle.mc_words.specs.Readers.{HasReaders};
 ghost use Rattle.mc_words.specs.Shapes.{HasShards, IsShape};
@@ -13,7 +13,7 @@ ghost use Rattle.mc_shards.specs.Openings.{HasSeenNothing, RefusesShards};
 ghost use Rattle.mc_shards.specs.Lending.{table_of};
 ghost use Rattle.mc_shards.specs.Loadings.{new_writers};
 ghost use Rattle.mc_shards.specs.Inside.Dealt.{AreDealt};
-ghost use Rattle.mc_shards.specs.Spares.{AreListsOf, AreSparesOf};
+ghost use Rattle.mc_shards.specs.Spares.{AreListsOf, AreSparesOf, count_of};
 ghost use Rattle.mc_shards.specs.Sharded.{ArePassOf};
 
 use crate::lender::Lender;
@@ -59,11 +59,14 @@ pub(crate) fn check_opening(shape: Shape, shards: u32, passes: u32) -> Result<()
 }
 
 // That many passes without a reader.
-fn blank_passes<const V: usize>(alloc: Global, many: u32) -> Result<Vec<Pass<V>>, AllocError>
+pub(crate) fn blank_passes<const V: usize>(
+    alloc: Global,
+    many: usize,
+) -> Result<Vec<Pass<V>>, AllocError>
     ensures many { IfOk result (λ given. length given.items ≡ many) }
     ensures blank { IfOk result (λ given. All (AreDealt []) given.items) }
 {
-    let mut given = Vec::with_capacity(alloc, many as usize)?;
+    let mut given = Vec::with_capacity(alloc, many)?;
     for n in 0..many {
         let _n = n;
         given.push(Pass::blank(alloc)?)?;
@@ -93,6 +96,7 @@ fn deal<const V: usize>(
     ensures many { IfOk result (λ r. length r.0.items ≡ length given.entry.items) }
     ensures dealt { IfOk result (λ r. All (AreDealt (caches.now.items ++ cache.now ∷ [])) r.0.items) }
     ensures left { IfOk result (λ r. All (λ x. (x.of ≡ cache.now) × (x.front ≡ [])) r.1.items) }
+    ensures rest { IfOk result (λ r. length r.1.items + length given.entry.items ≡ length readers.entry.items) }
 {
     let (_caches, _cache) = (caches, cache);
     let mut dealt = Vec::with_capacity(alloc, given.len())?;
@@ -122,6 +126,7 @@ fn open_one<const V: usize>(
     ensures many { IfOk result (λ r. length r.2.items ≡ length given.entry.items) }
     ensures dealt { IfOk result (λ r. All (AreDealt (caches.now.items ++ r.0 ∷ [])) r.2.items) }
     ensures left { IfOk result (λ r. All (λ x. (x.of ≡ r.0) × (x.front ≡ [])) r.3.items) }
+    ensures rest { IfOk result (λ r. length r.3.items + length given.entry.items ≡ all) }
 {
     let (cache, writer, readers) = open::<V>(alloc, shape, all)?;
     match deal::<V>(alloc, caches, &cache, given, readers) {
@@ -157,12 +162,13 @@ pub(crate) fn open_all<const V: usize>(
     ensures writers { IfOk result (λ r. r.1.items ≡ new_writers r.0.items) }
     ensures many { IfOk result (λ r. length r.2.items ≡ passes) }
     ensures dealt { IfOk result (λ r. All (AreDealt r.0.items) r.2.items) }
-    ensures spares { IfOk result (λ r. AreListsOf r.0.items r.3) }
+    ensures spares { IfOk result (λ r. AreListsOf (count_of r.3) r.0.items r.3) }
+    ensures rest { IfOk result (λ r. count_of r.3 + passes ≡ all) }
 {
     let mut caches = Vec::new(alloc);
     let mut writers = Vec::new(alloc);
     let mut lists = Vec::new(alloc);
-    let Ok(mut given) = blank_passes::<V>(alloc, passes) else {
+    let Ok(mut given) = blank_passes::<V>(alloc, passes as usize) else {
         return Err(OpenError::NoMemory);
     };
     for shard in 0..shards {
@@ -173,7 +179,8 @@ pub(crate) fn open_all<const V: usize>(
         push_to(&mut writers, writer)?;
         push_to(&mut lists, left)?;
     }
-    Ok((caches, writers, given, Spares { lists }))
+    let count = (all - passes) as usize;
+    Ok((caches, writers, given, Spares { lists, count }))
 }
 
 // A place for each writer.
@@ -213,7 +220,7 @@ pub fn open_spared<const V: usize>(
     ensures many { IfOk result (λ r. length r.1.items ≡ passes) }
     ensures of { IfOk result (λ r. All (ArePassOf r.0) r.1.items) }
     ensures plain { IfOk result (λ r. All (HasSeenNothing V) r.1.items) }
-    ensures spares { IfOk result (λ r. AreSparesOf r.0 r.2) }
+    ensures spares { IfOk result (λ r. AreSparesOf r.0 r.2 × (count_of r.2 + passes ≡ all)) }
 {
     check_opening(shape, shards, passes)?;
     let (caches, writers, passes, spares) = open_all::<V>(alloc, shape, shards, passes, all)?;

@@ -1,7 +1,7 @@
 //! A pass: a reader of each shard, for one thread at a time.
 ghost use Rattle.std.specs.Prelude.{◌≡◌, ◌≤◌, [], IfOk, length, vec_capacity};
 ghost use Rattle.mc_reader.specs.Records.{HasLooked};
-ghost use Rattle.mc_cache.specs.CallContracts.{put_contract, put_if_absent_contract, put_if_contract, remove_contract};
+ghost use Rattle.mc_cache.specs.CallContracts.{put_contract, remove_contract};
 ghost use Rattle.mc_cache.specs.Turns.{HasLookedOrMet, HasTriedTo, HasTriedToPeek};
 ghost use Rattle.mc_cache.specs.Failing.{TurnFails, versions_seen};
 ghost use Rattle.mc_cache.specs.Plain.{seen};
@@ -10,9 +10,10 @@ ghost use Rattle.mc_shards.specs.Sharded.{ArePassOf, ChangesAt, shard_in};
 
 use crate::lending::Turn;
 use crate::shards::Shards;
-use mc_cache::calls::{Putting, PuttingIf, PuttingIfAbsent, Removing};
+use mc_cache::calls::{Putting, Removing};
+use mc_cache::keyed::Keyed;
 use mc_cache::turn::TurnCall;
-use mc_cache::{AbsentError, DeskError, IfError, Put, PutError, Reader, Remove, Reply, Spent};
+use mc_cache::{DeskError, Put, PutError, Reader, Remove, Reply, Spent};
 use std::alloc::{AllocError, Global};
 use std::marker::Model;
 
@@ -110,23 +111,22 @@ impl<const V: usize> Pass<V> {
         lender.try_peek(cache, reader, key)
     }
 
-    /// Tries once for the turn of the key's shard, and with it makes the call. The key must be the one that the call uses. Nothing checks
-    /// that, and no lookup finds what is put in another shard. Condition: the pass belongs to these shards.
+    /// Tries once for the turn of the shard that the call's key selects, and with it makes the call, as `Desk::try_call` does. Condition: the
+    /// pass belongs to these shards.
     #[inline(always)]
-    pub fn try_call<T, E, C: TurnCall<V, T, E>>(
+    pub fn try_call<T, E, C: TurnCall<V, T, E> + Keyed>(
         &mut self,
         shards: &Shards<V>,
-        key: u64,
         call: C,
     ) -> Result<T, DeskError<E>>
         requires of { ArePassOf shards.now self.old }
         ensures of { ArePassOf shards.now self.new }
-        ensures turn { ChangesAt (shard_in shards.now key) self.old self.new (λ r r'. HasTriedTo V shards.now.shape ((C.contract call).called shards.now.shape) r r' result) }
-        ensures plain { ChangesAt (shard_in shards.now key) (seens V self.old) (seens V self.new)
+        ensures turn { ChangesAt (shard_in shards.now (C.key_of call)) self.old self.new (λ r r'. HasTriedTo V shards.now.shape ((C.contract call).called shards.now.shape) r r' result) }
+        ensures plain { ChangesAt (shard_in shards.now (C.key_of call)) (seens V self.old) (seens V self.new)
             (λ h h'. TurnMeans ((C.contract call).means) h h' result) }
-        ensures fails { ChangesAt (shard_in shards.now key) self.old self.new (λ r r'. TurnFails ((C.contract call).fails shards.now.shape (seen V r') (versions_seen V r')) result) }
+        ensures fails { ChangesAt (shard_in shards.now (C.key_of call)) self.old self.new (λ r r'. TurnFails ((C.contract call).fails shards.now.shape (seen V r') (versions_seen V r')) result) }
     {
-        let n = shards.shard_of(key);
+        let n = shards.shard_of(call.key());
         let cache = shards.cache(n);
         let lender = shards.lender(n);
         let reader = &mut self.readers[n];
@@ -149,68 +149,7 @@ impl<const V: usize> Pass<V> {
             (λ h h'. TurnMeans (put_contract V key value.entry).means h h' result) }
         ensures fails { ChangesAt (shard_in shards.now key) self.old self.new (λ r r'. TurnFails ((put_contract V key value.entry).fails shards.now.shape (seen V r') (versions_seen V r')) result) }
     {
-        self.try_call(shards, key, Putting(key, &value))
-    }
-
-    /// Like `try_put`, with at most `tries` tries, one after the other without a pause. `Held` if none of them won.
-    pub fn put_within(
-        &mut self,
-        shards: &Shards<V>,
-        tries: u32,
-        key: u64,
-        value: [u64; V],
-    ) -> Result<Put, DeskError<PutError>>
-        requires of { ArePassOf shards.now self.old }
-        ensures of { ArePassOf shards.now self.new }
-        ensures turn { ChangesAt (shard_in shards.now key) self.old self.new (λ r r'. HasTriedTo V shards.now.shape ((put_contract V key value.entry).called shards.now.shape) r r' result) }
-        ensures plain { ChangesAt (shard_in shards.now key) (seens V self.old) (seens V self.new)
-            (λ h h'. TurnMeans (put_contract V key value.entry).means h h' result) }
-        ensures fails { ChangesAt (shard_in shards.now key) self.old self.new (λ r r'. TurnFails ((put_contract V key value.entry).fails shards.now.shape (seen V r') (versions_seen V r')) result) }
-    {
-        for _ in 1..tries {
-            match self.try_put(shards, key, value) {
-                Err(DeskError::Held) => {}
-                told => return told,
-            }
-        }
-        self.try_put(shards, key, value)
-    }
-
-    /// Like `try_put`, with `Desk::try_put_if`.
-    #[inline(always)]
-    pub fn try_put_if(
-        &mut self,
-        shards: &Shards<V>,
-        key: u64,
-        since: u64,
-        value: [u64; V],
-    ) -> Result<u64, DeskError<IfError>>
-        requires of { ArePassOf shards.now self.old }
-        ensures of { ArePassOf shards.now self.new }
-        ensures turn { ChangesAt (shard_in shards.now key) self.old self.new (λ r r'. HasTriedTo V shards.now.shape ((put_if_contract V key since value.entry).called shards.now.shape) r r' result) }
-        ensures plain { ChangesAt (shard_in shards.now key) (seens V self.old) (seens V self.new)
-            (λ h h'. TurnMeans (put_if_contract V key since value.entry).means h h' result) }
-        ensures fails { ChangesAt (shard_in shards.now key) self.old self.new (λ r r'. TurnFails ((put_if_contract V key since value.entry).fails shards.now.shape (seen V r') (versions_seen V r')) result) }
-    {
-        self.try_call(shards, key, PuttingIf(key, since, &value))
-    }
-
-    /// Like `try_put`, with `Desk::try_put_if_absent`.
-    #[inline(always)]
-    pub fn try_put_if_absent(
-        &mut self,
-        shards: &Shards<V>,
-        key: u64,
-        value: [u64; V],
-    ) -> Result<Put, DeskError<AbsentError>>
-        requires of { ArePassOf shards.now self.old }
-        ensures of { ArePassOf shards.now self.new }
-        ensures turn { ChangesAt (shard_in shards.now key) self.old self.new (λ r r'. HasTriedTo V shards.now.shape ((put_if_absent_contract V key value.entry).called shards.now.shape) r r' result) }
-        ensures plain { ChangesAt (shard_in shards.now key) (seens V self.old) (seens V self.new)
-            (λ h h'. TurnMeans (put_if_absent_contract V key value.entry).means h h' result) }
-        ensures fails { ChangesAt (shard_in shards.now key) self.old self.new (λ r r'. TurnFails ((put_if_absent_contract V key value.entry).fails shards.now.shape (seen V r') (versions_seen V r')) result) }
-    {
-        self.try_call(shards, key, PuttingIfAbsent(key, &value))
+        self.try_call(shards, Putting(key, &value))
     }
 
     /// Like `try_put`, with `Desk::try_remove`.
@@ -223,7 +162,7 @@ impl<const V: usize> Pass<V> {
             (λ h h'. TurnMeans (remove_contract V key).means h h' result) }
         ensures fails { ChangesAt (shard_in shards.now key) self.old self.new (λ r r'. TurnFails ((remove_contract V key).fails shards.now.shape (seen V r') (versions_seen V r')) result) }
     {
-        self.try_call(shards, key, Removing(key))
+        self.try_call(shards, Removing(key))
     }
 
     /// Looks the keys up. Equivalent to calling `get` for each key in order.

@@ -1,8 +1,7 @@
 //! Choosing a shape for shards.
-ghost use Rattle.std.specs.Prelude.{ℕ, ◌≤◌, MatchResult};
+ghost use Rattle.std.specs.Prelude.{ℕ, ◌≡◌, ◌<◌, ◌≤◌, ◌^◌, MatchResult};
 ghost use Rattle.mc_words.specs.Shapes.{HasShards};
-ghost use Rattle.mc_words.specs.Sizing.{IsSizedFor};
-ghost use Rattle.mc_shards.specs.Sizing.{IsShare, RefusesShare};
+ghost use Rattle.mc_shards.specs.Sizing.{IsShardShape, IsShare, RefusesShare, room_for};
 
 use crate::opening::OpenShardsError;
 use mc_cache::{OpenError, Shape, ShapeError};
@@ -23,12 +22,23 @@ fn share_of(items: u32, shards: u32) -> u64
     mean + 5 * (mean.isqrt() + 1)
 }
 
-/// A shape for each of `shards` shards, which have `items` items together: `Shape::for_items` of the items. Of several shards each gets its mean
-/// share and five standard deviations more, since the hash gives some shards more keys than others. `Err` if the number of shards is not allowed, or if
-/// there are no items or too many.
+// A table for fewer items has room for twice as many.
+const FEW: u32 = 256;
+
+// The number of items for which a table with `share` items has room.
+fn room_for(share: u32) -> u32
+    ensures { result ≡ room_for share }
+{
+    if share < FEW { 2 * share } else { share }
+}
+
+/// A shape for each of `shards` shards, which have `items` items together: that of `Shape::for_items` for a shard's items, or for twice as many if
+/// they are fewer than 256. In a smaller table, up to one new key in a hundred would find no place. Of several shards each gets its mean share and
+/// five standard deviations more, since the hash gives some shards more keys than others. `Err` if the number of shards is not allowed, or if there
+/// are no items or too many.
 pub fn shard_shape(items: u32, shards: u32) -> Result<Shape, OpenShardsError>
     ensures { MatchResult result
-        (λ sh. HasShards shards × (n : ℕ) × IsShare items shards n × IsSizedFor n sh)
+        (λ sh. HasShards shards × (n : ℕ) × IsShare items shards n × IsShardShape n sh)
         (λ e. RefusesShare items shards e) }
 {
     if !can_shard(shards) {
@@ -41,8 +51,9 @@ pub fn shard_shape(items: u32, shards: u32) -> Result<Shape, OpenShardsError>
     if share > u64::from(u32::MAX) {
         return Err(REFUSED);
     }
-    match Shape::for_items(share as u32) {
-        Ok(shape) => Ok(shape),
+    let items = share as u32;
+    match Shape::for_items(room_for(items)) {
+        Ok(shape) => Ok(Shape { items, ..shape }),
         Err(_) => Err(REFUSED),
     }
 }

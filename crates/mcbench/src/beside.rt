@@ -1,13 +1,15 @@
 //! Readers and writers, each in a thread of its own.
 ghost use Rattle.std.specs.Prelude.{◌≡◌, All, IfOk};
 
-use crate::lookups::{Task, look_on};
+use crate::callers::{Alone, AtDesk, Caller};
+use crate::calling::call_in_threads;
+use crate::lookups::look_on;
 use crate::memory::resident;
-use crate::options::{Options, Workload};
+use crate::options::Options;
 use crate::report::{Quotient, Report, bytes_a_key};
 use crate::tally::Tally;
-use crate::turns::work_by_turns;
-use crate::writes::{get_all, put_all, write_on};
+use crate::tasks::{Task, task_of};
+use crate::writes::{get_all, put_all};
 use mc_cache::{Cache, Desk, Reader, Writer, open};
 use std::alloc::{AllocError, Global};
 use std::rt::Files;
@@ -17,43 +19,24 @@ use std::{io, thread};
 
 /// A reader, and what it is to do.
 #[derive(Drop)]
-pub(crate) struct Job {
+struct Job {
     pub reader: Reader<4>,
     pub task: Task,
 }
 
-/// What the threads do.
-pub(crate) fn task_of(options: &Options, number: u64) -> Task {
-    Task {
-        first: match options.workload {
-            Workload::Absent => 1 << 40,
-            _ => 0,
-        },
-        numbers: match options.workload {
-            Workload::Half => options.keys.saturating_mul(2),
-            _ => options.keys,
-        },
-        seed: u64::from(options.seed) * 1000 ^ number,
-        time: options.time,
-        many: options.many,
-        alone: options.readers.saturating_add(options.writers) <= 1,
-    }
-}
-
-/// A job for each reader of the cache. What they draw differs by their numbers.
-pub(crate) fn jobs_of(
+// A job for each reader of the cache. What they draw differs by their numbers.
+fn jobs_of(
     alloc: Global,
     cache: &Cache<4>,
     mut readers: Vec<Reader<4>>,
     options: &Options,
-    first: u64,
 ) -> Result<Vec<Job>, AllocError>
     requires { All (λ r. r.of ≡ cache.now) readers.items }
     ensures { IfOk result (λ jobs. All (λ job. job.reader.of ≡ cache.now) jobs.items) }
 {
     let _cache = cache;
     let mut jobs = Vec::new(alloc);
-    let mut number = first;
+    let mut number = 0;
     while let Some(reader) = readers.pop() {
         let task = task_of(options, number);
         jobs.push(Job { reader, task })?;
@@ -62,8 +45,8 @@ pub(crate) fn jobs_of(
     Ok(jobs)
 }
 
-/// All readers look keys up.
-pub(crate) fn look_in_threads<R: Threads + Sync + Clock + CpuClock>(
+// All readers look keys up.
+fn look_in_threads<R: Threads + Sync + Clock + CpuClock>(
     rt: &R,
     alloc: Global,
     cache: &Cache<4>,
@@ -72,7 +55,7 @@ pub(crate) fn look_in_threads<R: Threads + Sync + Clock + CpuClock>(
 ) -> io::Result<Tally>
     requires { All (λ r. r.of ≡ cache.now) readers.items }
 {
-    let jobs = jobs_of(alloc, cache, readers, options, 0)?;
+    let jobs = jobs_of(alloc, cache, readers, options)?;
     let tallies = thread::map_vec(
         rt,
         jobs,
@@ -87,36 +70,55 @@ pub(crate) fn look_in_threads<R: Threads + Sync + Clock + CpuClock>(
     Ok(sum)
 }
 
-// The readers look keys up and the writer puts them, each in its thread.
-fn work<R: Threads + Sync + Clock + CpuClock>(
+// The readers look keys up and the callers put them, each in a thread of its own: what the readers did, and what the callers did.
+fn work<C: Caller, R: Threads + Sync + Clock + CpuClock>(
     rt: &R,
     alloc: Global,
     cache: &Cache<4>,
-    writer: &mut Writer<4>,
+    callers: Vec<C>,
     readers: Vec<Reader<4>>,
     options: &Options,
 ) -> io::Result<(Tally, Tally)>
-    requires writer { writer.old.of ≡ cache.now }
-    requires readers { All (λ r. r.of ≡ cache.now) readers.items }
+    requires { All (λ r. r.of ≡ cache.now) readers.items }
 {
-    let task = task_of(options, 500);
-    let every = options.write_every;
     if options.writers == 0 {
         let looked = look_in_threads(rt, alloc, cache, readers, options)?;
         return Ok((looked, Tally::default()));
     }
     if options.readers == 0 {
-        let written = write_on(rt, cache, writer, task, every)?;
-        return Ok((Tally::default(), written));
+        let called = call_in_threads(rt, alloc, callers, options)?;
+        return Ok((Tally::default(), called));
     }
-    let (looked, written) = join(
+    let (looked, called) = join(
         rt,
         || -> io::Result<Tally>
             requires { All (λ r. r.of ≡ cache.now) readers.items }
         { look_in_threads(rt, alloc, cache, readers, options) },
-        || write_on(rt, cache, writer, task, every),
+        || -> io::Result<Tally> { call_in_threads(rt, alloc, callers, options) },
     );
-    Ok((looked?, written?))
+    Ok((looked?, called?))
+}
+
+// Takes `many` of the readers, for passes of the desk.
+fn passes_of<'p>(
+    alloc: Global,
+    cache: &'p Cache<4>,
+    desk: &'p Desk<4>,
+    readers: &mut Vec<Reader<4>>,
+    many: u32,
+) -> Result<Vec<AtDesk<'p>>, AllocError>
+    requires desk { desk.now ≡ cache.now }
+    requires readers { All (λ r. r.of ≡ cache.now) readers.old.items }
+    ensures left { All (λ r. r.of ≡ cache.now) readers.new.items }
+{
+    let mut passes = Vec::new(alloc);
+    for _pass in 0..many {
+        let Some(pass) = readers.pop() else {
+            break;
+        };
+        passes.push(AtDesk { cache, desk, pass })?;
+    }
+    Ok(passes)
 }
 
 // The readers work beside the writer, or beside threads that share it by turns.
@@ -124,8 +126,8 @@ fn work_as_asked<R: Threads + Sync + Clock + CpuClock>(
     rt: &R,
     alloc: Global,
     cache: &Cache<4>,
-    mut writer: Writer<4>,
-    readers: Vec<Reader<4>>,
+    writer: Writer<4>,
+    mut readers: Vec<Reader<4>>,
     options: &Options,
 ) -> io::Result<(Tally, Tally)>
     requires writer { writer.of ≡ cache.now }
@@ -133,10 +135,12 @@ fn work_as_asked<R: Threads + Sync + Clock + CpuClock>(
 {
     if options.writers > 1 {
         let desk = Desk::new(writer);
-        work_by_turns(rt, alloc, cache, &desk, readers, options)
-    } else {
-        work(rt, alloc, cache, &mut writer, readers, options)
+        let passes = passes_of(alloc, cache, &desk, &mut readers, options.writers)?;
+        return work(rt, alloc, cache, passes, readers, options);
     }
+    let mut alone = Vec::new(alloc);
+    alone.push(Alone { cache, writer })?;
+    work(rt, alloc, cache, alone, readers, options)
 }
 
 // Puts the keys and looks them up. Returns how many were refused, and the memory that the keys added to `before` bytes.
@@ -187,7 +191,7 @@ pub(crate) fn measure<R: Threads + Sync + Files + AllocGlobal + Clock + CpuClock
     options: &Options,
 ) -> io::Result<Report> {
     let before = resident(rt)?;
-    let Ok((cache, writer, readers)) = open::<4>(alloc, options.shape(), options.seats()) else {
+    let Ok((cache, writer, readers)) = open::<4>(alloc, options.shape()?, options.seats()) else {
         return Err(io::Error::other("the cache can't be opened"));
     };
     measure_open(rt, alloc, &cache, writer, readers, options, before)

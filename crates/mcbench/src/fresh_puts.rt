@@ -17,7 +17,7 @@ use std::time::{Clock, CpuClock, Duration};
 pub(crate) fn open_for(alloc: Global, options: &Options) -> io::Result<(Cache<4>, Writer<4>)>
     ensures { IfOk result (λ r. r.1.of ≡ r.0) }
 {
-    let Ok((cache, writer, _readers)) = open::<4>(alloc, options.shape(), 1) else {
+    let Ok((cache, writer, _readers)) = open::<4>(alloc, options.shape()?, 1) else {
         return Err(io::Error::other("the cache can't be opened"));
     };
     Ok((cache, writer))
@@ -161,7 +161,7 @@ fn load_one<R: Clock + CpuClock>(
 
 // Puts fresh keys until one is refused.
 fn load<R: Clock + CpuClock>(rt: &R, alloc: Global, options: &Options) -> io::Result<Report> {
-    let slots = options.shape().items;
+    let slots = options.shape()?.items;
     let written = load_one(rt, alloc, options, slots)?;
     Ok(Report {
         written,

@@ -89,7 +89,7 @@ pub(crate) fn measure<R: Clock + CpuClock>(
     options: &Options,
 ) -> io::Result<Report> {
     let (entries, listed_ns) = entries_of(rt, alloc, options)?;
-    let written = open_larger(rt, alloc, doubled(options.shape()), entries.as_slice())?;
+    let written = open_larger(rt, alloc, doubled(options.shape()?), entries.as_slice())?;
     Ok(Report {
         written,
         listed_ns,

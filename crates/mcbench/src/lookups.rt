@@ -4,26 +4,13 @@ ghost use Rattle.std.specs.Prelude.{◌≡◌};
 use crate::keys::{Draw, key_of};
 use crate::stopwatch::Stopwatch;
 use crate::tally::Tally;
+use crate::tasks::Task;
 use mc_cache::{Cache, Reader, Reply};
 use std::io;
-use std::time::{Clock, CpuClock, Duration};
+use std::time::{Clock, CpuClock};
 
 /// The most keys that a call looks up.
 const MOST: usize = 64;
-
-/// What a thread is to do.
-#[derive(Clone, Copy)]
-pub(crate) struct Task {
-    /// The keys are those of `numbers` numbers, from this one on.
-    pub first: u64,
-    pub numbers: u32,
-    pub seed: u64,
-    pub time: Duration,
-    /// No other thread works.
-    pub alone: bool,
-    /// One call looks up this many keys, at most 64.
-    pub many: u32,
-}
 
 /// One of the keys.
 #[inline(always)]

@@ -2,6 +2,8 @@
 #![tactic(auto)]
 
 mod beside;
+mod callers;
+mod calling;
 mod fresh_puts;
 mod growing;
 mod keys;
@@ -12,7 +14,7 @@ mod report;
 mod shards;
 mod stopwatch;
 mod tally;
-mod turns;
+mod tasks;
 mod writes;
 
 use crate::options::{Options, Workload, options_of};

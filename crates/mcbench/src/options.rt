@@ -4,6 +4,7 @@ use clap::{Arg, ArgMatches, Command, Error};
 use mc_cache::{Mix, Shape};
 use std::alloc::{AllocError, Global};
 use std::convert::AsStr;
+use std::io;
 use std::time::Duration;
 
 /// What is measured.
@@ -40,6 +41,8 @@ pub(crate) struct Options {
     pub many: u32,
     /// Shards with a writer each, among which the keys are divided; 0: one cache.
     pub shards: u32,
+    /// The greatest share of slots in use, in percent; 0: the table is that of `Shape::for_items`.
+    pub most_used: u32,
 }
 
 /// The names of the workloads.
@@ -68,7 +71,7 @@ struct Row {
 }
 
 /// The options, in the order of the help.
-const ROWS: [Row; 10] = [
+const ROWS: [Row; 11] = [
     Row {
         name: "workload",
         takes: ValueParser::Names(&WORKLOADS),
@@ -97,7 +100,7 @@ const ROWS: [Row; 10] = [
         name: "capacity",
         takes: ValueParser::Signed(1, 4_000_000),
         default: "1000",
-        help: "Keys for which the table is made, which fill at most 0.96 of it",
+        help: "Keys for which the table is made",
     },
     Row {
         name: "readers",
@@ -128,6 +131,12 @@ const ROWS: [Row; 10] = [
         takes: ValueParser::Signed(0, 256),
         default: "0",
         help: "Shards, a power of two, with a writer each; all writers put keys that are there, and look keys up (0: one cache)",
+    },
+    Row {
+        name: "most-used",
+        takes: ValueParser::Signed(0, 100),
+        default: "0",
+        help: "The greatest share of slots in use, in percent (0: as Shape::for_items chooses)",
     },
 ];
 
@@ -180,18 +189,27 @@ pub(crate) fn options_of<S: AsStr>(alloc: Global, words: &[S]) -> Result<Options
         seed: number_in(&matches, "seed"),
         many: number_in(&matches, "many"),
         shards: number_in(&matches, "shards"),
+        most_used: number_in(&matches, "most-used"),
     })
 }
 
-/// The fewest buckets of which `keys` keys fill at most 0.96.
-fn buckets_for(keys: u32) -> u32 {
-    for doublings in 1..20u32 {
-        let buckets = 1u32 << doublings;
-        if u64::from(buckets) * 384 >= u64::from(keys) * 100 {
-            return buckets;
+/// The table with the fewest buckets of which `keys` keys fill at most this share, in percent.
+fn by_hand(keys: u32, most_used: u32) -> Shape {
+    let mut buckets = 2u32;
+    for _ in 1..20u32 {
+        if u64::from(buckets) * 4 * u64::from(most_used) < u64::from(keys) * 100 {
+            buckets = buckets.saturating_mul(2);
         }
     }
-    1 << 20
+    Shape {
+        buckets,
+        items: keys,
+        stripes: buckets.min(8192),
+        depth: 5,
+        tries: 8,
+        limit: 1 << 62,
+        mix: Mix::Fmix,
+    }
 }
 
 impl Options {
@@ -210,20 +228,20 @@ impl Options {
     }
 
     /// The table: as many items as keys, but as many as slots if it is to be filled until a put is refused.
-    pub(crate) fn shape(&self) -> Shape {
-        let buckets = buckets_for(self.capacity);
-        let items = match self.workload {
-            Workload::Load => buckets.saturating_mul(4),
-            _ => self.capacity,
+    pub(crate) fn shape(&self) -> io::Result<Shape> {
+        let shape = match self.most_used {
+            0 => Shape::for_items(self.capacity),
+            share => Ok(by_hand(self.capacity, share)),
         };
-        Shape {
-            buckets,
-            items,
-            stripes: 8192,
-            depth: 5,
-            tries: 8,
-            limit: 1 << 62,
-            mix: Mix::Fmix,
-        }
+        let Ok(shape) = shape else {
+            return Err(io::Error::other("there is no such shape"));
+        };
+        Ok(match self.workload {
+            Workload::Load => Shape {
+                items: shape.buckets.saturating_mul(4),
+                ..shape
+            },
+            _ => shape,
+        })
     }
 }

@@ -3,6 +3,7 @@ ghost use Rattle.std.specs.Prelude.{◌≡◌, All, IfOk};
 
 use crate::opened::open_for_one;
 use crate::turns::{Caller, call_in_threads, history_of};
+use mc_cache::calls::PuttingIfAbsent;
 use mc_cache::{
     AbsentError, Cache, Desk, DeskError, IfError, Mix, Put, PutError, Reader, Remove, Reply, Shape,
     open,
@@ -69,7 +70,7 @@ fn goes_by_the_stamp(cache: &Cache<1>, desk: &Desk<1>, pass: &mut Reader<1>) -> 
         && desk.try_put_if(cache, pass, 0, 1, [9]) == Ok(3)
         && desk.try_put_if(cache, pass, 0, 1, [10]) == changed
         && desk.try_put_if(cache, pass, 5, 0, [1]) == not_there
-        && desk.try_put_if_absent(cache, pass, 0, [5]) == present
+        && desk.try_call(cache, pass, PuttingIfAbsent(0, &[5])) == present
         && pass.get_or_desk(cache, desk, 0) == found(9, 3, 3)
 }
 

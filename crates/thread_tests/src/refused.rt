@@ -3,6 +3,7 @@ ghost use Rattle.std.specs.Prelude.{◌≡◌};
 ghost use Rattle.mc_shards.specs.Sharded.{ArePassOf};
 
 use crate::opened::open_for_one;
+use mc_cache::calls::{PuttingIf, PuttingIfAbsent, Swapping, SwappingIf, Taking};
 use mc_cache::{AbsentError, Cache, Desk, DeskError, IfError, Mix, PutError, Reader, Shape, Spent};
 use mc_shards::{Pass, Shards, open_shards};
 use std::test::Fail;
@@ -28,11 +29,11 @@ fn each_is_spent(cache: &Cache<1>, desk: &Desk<1>, pass: &mut Reader<1>) -> bool
     let absent = DeskError::Call(AbsentError::Put(PutError::Spent));
     desk.try_put(cache, pass, 0, [7]) == Err(put)
         && desk.try_put_if(cache, pass, 0, 1, [7]) == Err(on_a_condition)
-        && desk.try_put_if_absent(cache, pass, 0, [7]) == Err(absent)
+        && desk.try_call(cache, pass, PuttingIfAbsent(0, &[7])) == Err(absent)
         && desk.try_remove(cache, pass, 0) == Err(removal)
-        && desk.try_swap(cache, pass, 0, [7]) == Err(put)
-        && desk.try_swap_if(cache, pass, 0, 1, [7]) == Err(on_a_condition)
-        && desk.try_take(cache, pass, 0) == Err(removal)
+        && desk.try_call(cache, pass, Swapping(0, &[7])) == Err(put)
+        && desk.try_call(cache, pass, SwappingIf(0, 1, &[7])) == Err(on_a_condition)
+        && desk.try_call(cache, pass, Taking(0)) == Err(removal)
         && desk.try_len(cache, pass) == Some(0)
 }
 
@@ -54,13 +55,12 @@ fn each_is_spent_by_shards(shards: &Shards<1>, pass: &mut Pass<1>) -> bool
     let removal = DeskError::Call(Spent);
     let absent = DeskError::Call(AbsentError::Put(PutError::Spent));
     pass.try_put(shards, 0, [7]) == Err(put)
-        && pass.put_within(shards, 3, 0, [7]) == Err(put)
-        && pass.try_put_if(shards, 0, 1, [7]) == Err(on_a_condition)
-        && pass.try_put_if_absent(shards, 0, [7]) == Err(absent)
+        && pass.try_call(shards, PuttingIf(0, 1, &[7])) == Err(on_a_condition)
+        && pass.try_call(shards, PuttingIfAbsent(0, &[7])) == Err(absent)
         && pass.try_remove(shards, 0) == Err(removal)
-        && pass.try_swap(shards, 0, [7]) == Err(put)
-        && pass.try_swap_if(shards, 0, 1, [7]) == Err(on_a_condition)
-        && pass.try_take(shards, 0) == Err(removal)
+        && pass.try_call(shards, Swapping(0, &[7])) == Err(put)
+        && pass.try_call(shards, SwappingIf(0, 1, &[7])) == Err(on_a_condition)
+        && pass.try_call(shards, Taking(0)) == Err(removal)
         && pass.try_put(shards, 0, [7]) == Err(put)
 }
 

@@ -30,7 +30,7 @@ fn try_put(shards: &Shards<1>, pass: &mut Pass<1>, key: u64, word: u64) -> Tried
     ensures { ArePassOf shards.now pass.new }
 {
     let change = Change::Put(key, [word]);
-    match pass.put_within(shards, 2, key, [word]) {
+    match pass.try_put(shards, key, [word]) {
         Ok(Put::Stored { at, .. } | Put::Renewed { at }) => Tried::Made { at, change },
         Err(DeskError::Call(_)) => Tried::Kept,
         Err(DeskError::Held) => Tried::Held,

@@ -5,9 +5,10 @@ ghost use Rattle.mc_shards.specs.Sharded.{ArePassOf};
 use crate::calls::{Call, Told};
 use crate::opened::open_for_one;
 use crate::rows::{check_rows, small, with_items};
+use mc_cache::calls::{Swapping, SwappingIf, SwappingIfAbsent, Taking};
 use mc_cache::{
-    Cache, Desk, DeskError, Entry, IfError, Mix, Put, Reader, Replaced, Reply, Shape, Swapped,
-    Take, Writer,
+    AbsentError, Cache, Desk, DeskError, Entry, IfError, Mix, Put, Reader, Replaced, Reply, Shape,
+    Swapped, Take, Writer,
 };
 use mc_shards::{Pass, Shards, open_shards};
 use std::test::Fail;
@@ -78,15 +79,34 @@ fn returns_entries(cache: &Cache<1>, desk: &Desk<1>, pass: &mut Reader<1>) -> bo
 {
     let (at, old) = (3, entry(6, 8, 2));
     let changed = Err(DeskError::Call(IfError::Changed { since: 3 }));
-    desk.try_swap(cache, pass, 6, [7]) == Ok(first())
-        && desk.try_swap(cache, pass, 6, [8]) == Ok(second(entry(6, 7, 1)))
-        && desk.try_swap_if(cache, pass, 6, 2, [9]) == Ok(Replaced { at, old })
-        && desk.try_swap_if(cache, pass, 6, 2, [10]) == changed
+    desk.try_call(cache, pass, Swapping(6, &[7])) == Ok(first())
+        && desk.try_call(cache, pass, Swapping(6, &[8])) == Ok(second(entry(6, 7, 1)))
+        && desk.try_call(cache, pass, SwappingIf(6, 2, &[9])) == Ok(Replaced { at, old })
+        && desk.try_call(cache, pass, SwappingIf(6, 2, &[10])) == changed
         && desk.try_len(cache, pass) == Some(1)
         && desk.try_peek(cache, pass, 6) == Some(found())
-        && desk.try_take(cache, pass, 6) == Ok(taken())
-        && desk.try_take(cache, pass, 6) == Ok(Take::NotThere { at: 4 })
+        && desk.try_call(cache, pass, Taking(6)) == Ok(taken())
+        && desk.try_call(cache, pass, Taking(6)) == Ok(Take::NotThere { at: 4 })
         && desk.try_len(cache, pass) == Some(0)
+}
+
+// Whether a key is put if it is absent, and otherwise its stamp is told. Two keys are more than the cache has items.
+fn puts_absent_keys(cache: &Cache<1>, desk: &Desk<1>, pass: &mut Reader<1>) -> bool
+    requires { (desk.now ≡ cache.now) × (pass.old.of ≡ cache.now) }
+{
+    let present = Err(DeskError::Call(AbsentError::Present { since: 1 }));
+    let evicting = Swapped {
+        put: Put::Stored {
+            at: 3,
+            moves: 0,
+            evicted: Some(6),
+        },
+        old: Some(entry(6, 7, 1)),
+    };
+    desk.try_call(cache, pass, SwappingIfAbsent(6, &[7])) == Ok(first())
+        && desk.try_call(cache, pass, SwappingIfAbsent(6, &[8])) == present
+        && desk.try_call(cache, pass, SwappingIfAbsent(5, &[9])) == Ok(evicting)
+        && pass.get(cache, 6) == Reply::Absent { at: 3 }
 }
 
 // What the key has after the third change.
@@ -114,19 +134,28 @@ fn a_turn_returns_the_entry_that_gives_way(rt: HostRuntime) -> Result<(), Fail> 
     Ok(())
 }
 
+#[test]
+fn an_absent_key_is_put_and_what_it_evicts_is_returned(rt: HostRuntime) -> Result<(), Fail> {
+    let one_item = with_items(1);
+    let (cache, writer, mut pass) = open_for_one(rt.alloc(), one_item)?;
+    let desk = Desk::new(writer);
+    assert!(rt; puts_absent_keys(&cache, &desk, &mut pass));
+    Ok(())
+}
+
 // Whether shards return entries, too. No other key has made a change in them.
 fn returns_entries_in_shards(shards: &Shards<1>, pass: &mut Pass<1>) -> bool
     requires { ArePassOf shards.now pass.old }
 {
     let (at, old) = (3, entry(6, 8, 2));
     let changed = Err(DeskError::Call(IfError::Changed { since: 3 }));
-    pass.try_swap(shards, 6, [7]) == Ok(first())
-        && pass.try_swap(shards, 6, [8]) == Ok(second(entry(6, 7, 1)))
-        && pass.try_swap_if(shards, 6, 2, [9]) == Ok(Replaced { at, old })
-        && pass.try_swap_if(shards, 6, 2, [10]) == changed
+    pass.try_call(shards, Swapping(6, &[7])) == Ok(first())
+        && pass.try_call(shards, Swapping(6, &[8])) == Ok(second(entry(6, 7, 1)))
+        && pass.try_call(shards, SwappingIf(6, 2, &[9])) == Ok(Replaced { at, old })
+        && pass.try_call(shards, SwappingIf(6, 2, &[10])) == changed
         && pass.try_peek(shards, 6) == Some(found())
-        && pass.try_take(shards, 6) == Ok(taken())
-        && pass.try_take(shards, 6) == Ok(Take::NotThere { at: 4 })
+        && pass.try_call(shards, Taking(6)) == Ok(taken())
+        && pass.try_call(shards, Taking(6)) == Ok(Take::NotThere { at: 4 })
 }
 
 #[test]

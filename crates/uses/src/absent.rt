@@ -3,6 +3,7 @@ ghost use Rattle.std.specs.Prelude.{◌≡◌, [], ◌∷◌, IfSome};
 ghost use Rattle.mc_cache.specs.Plain.{PutIfAbsentMeans, TurnMeans, history, seen};
 ghost use Rattle.uses.specs.Absent.{BothPutMeans};
 
+use mc_cache::calls::PuttingIfAbsent;
 use mc_cache::{AbsentError, Cache, Desk, DeskError, Put, Reader, Writer, laws};
 use std::marker::Sync;
 use std::thread::{Threads, join_mut};
@@ -26,8 +27,8 @@ fn try_both<R: Threads + Sync>(
 {
     join_mut(
         rt,
-        &mut || desk.try_put_if_absent(cache, one, 7, [70]),
-        &mut || desk.try_put_if_absent(cache, two, 7, [80]),
+        &mut || desk.try_call(cache, one, PuttingIfAbsent(7, &[70])),
+        &mut || desk.try_call(cache, two, PuttingIfAbsent(7, &[80])),
     )
 }
 

@@ -20,7 +20,7 @@ fn put_then_list(
     ensures listed { IfSome result (λ es. lookup (λ q. key == q) es.items ≡ Some (70 ∷ [])) }
 {
     laws::one_map::<1>();
-    let Ok(_put) = holder.call(shards, key, Putting(key, &[70])) else {
+    let Ok(_put) = holder.call(shards, Putting(key, &[70])) else {
         return None;
     };
     let Ok(entries) = holder.entries(alloc, shards) else {

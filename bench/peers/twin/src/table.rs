@@ -21,13 +21,13 @@ pub struct Shape {
 }
 
 impl Shape {
-    /// The fewest buckets of which `keys` keys fill at most 0.96.
+    /// As the cache's `Shape::for_items`: the fewest buckets of which `keys` keys fill at most nine tenths.
     pub fn for_keys(keys: u32) -> Shape {
         let mut buckets = 2;
-        while 384 * u64::from(buckets) < 100 * u64::from(keys) {
+        while 36 * u64::from(buckets) < 10 * u64::from(keys) {
             buckets *= 2;
         }
-        Shape { buckets, items: keys, stripes: 8192, depth: 5, tries: 8, limit: 1 << 62 }
+        Shape { buckets, items: keys, stripes: buckets.min(8192), depth: 5, tries: 8, limit: 1 << 62 }
     }
 }
 

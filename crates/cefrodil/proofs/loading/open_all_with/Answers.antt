@@ -27,5 +27,5 @@ pub returns-clause-opened : goal.returns-clause-opened
 returns-clause-opened c =
     let made = c.in-Ok-opened.ensures in let rest = c.in-Ok-opened.opened.0 in let left = c.in-Ok-opened.opened.1 in let statuses : List ℕ = c.tell_left.new.statuses in
     λ _. are_loaded c.args.shape.now c.args.shards c.args.words (length c.args.statuses.now) c.args.entries.now statuses c.fill.new.handles c.in-Ok.shape rest left.items
-    c.in-Ok.ensures.3 made.refused.0 made.refused.1 made.rest.0 (c.tell_left.auto.statuses ∙ c.tell_done.auto.statuses) c.in-Ok.ensures.1 made.loaded (c.if-not-fill.ensures refl)
+    c.in-Ok.ensures.3 made.refused.0 made.refused.1 made.rest.0 (c.tell_left.auto.statuses ∙ c.tell_done.auto.statuses) c.in-Ok.ensures.1 made.loaded (c.if-not-fill.ensures.filled refl)
     (subst (λ (ls : List (ℕ × Why)). EachIndex statuses (λ i. slice_index statuses i ≡ entry_status ls i)) c.as_slice.ensures.value c.tell_left.ensures)

@@ -14,5 +14,5 @@ returns-clause-opened c =
       sharded = shards_on rest;
       records = passes_on rest;
       of = c.in-Ok.ensures.1.0;
-      has_passes = subst (λ (w : ℕ). All (IsPassAt (shards_on rest) w (passes_on rest)) handles) c.in-Ok.ensures.0 (c.if-not-fill.ensures refl);
+      has_passes = subst (λ (w : ℕ). All (IsPassAt (shards_on rest) w (passes_on rest)) handles) c.in-Ok.ensures.0 (c.if-not-fill.ensures.filled refl);
     })

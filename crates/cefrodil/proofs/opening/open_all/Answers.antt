@@ -12,4 +12,4 @@ pub returns-clause-opened : goal.returns-clause-opened
 returns-clause-opened c =
     let made = c.in-Ok-open.ensures in
     λ _. are_opened c.args.shape.now c.args.shards c.args.words c.fill.new.handles c.in-Ok.shape c.in-Ok-open.rest c.in-Ok.ensures.2 made.refused.0 made.refused.1 made.rest.0
-    made.fresh (c.if-not-fill.ensures refl)
+    made.fresh (c.if-not-fill.ensures.filled refl)

@@ -24,6 +24,7 @@ loop-pass-preserved g c =
     record {
       many = omega (arith, was.many, fewer-given, fewer-readers);
       count = omega (arith, was.count, fewer-given, ap length pushed ∙ length_push c.loop-pass.dealt.items more);
+      rest = omega (arith, was.rest, fewer-given, fewer-readers);
       fresh = readers.0;
       given = given.0;
       dealt = All-same (AreDealt (tables ++ o ∷ [])) c.push.new.self.items (c.loop-pass.dealt.items ++ more ∷ []) pushed (All-push (AreDealt (tables ++ o ∷ [])) c.loop-pass.dealt.items more was.dealt one);

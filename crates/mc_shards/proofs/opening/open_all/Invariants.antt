@@ -1,4 +1,4 @@
-use Rattle.std.proofs.Common.{◌≡◌, length}
+use Rattle.std.proofs.Common.{◌≡◌, ◌-◌, length}
 use Rattle.std.specs.List.{All, AllZip}
 use Rattle.mc_shared.specs.Views.{layout_of}
 use Rattle.mc_shards.specs.Inside.Dealt.{AreDealt}
@@ -12,5 +12,5 @@ invariant-loop-shard g l = record {
   writers : l.writers.items ≡ new_writers l.caches.items;
   many : length l.given.items ≡ l.passes;
   dealt : All (AreDealt l.caches.items) l.given.items;
-  lists : AllZip (λ o list. All (λ r. r.of ≡ o) list.items) l.caches.items l.lists.items;
+  lists : AllZip (λ o list. (length list.items ≡ l.all - l.passes) × All (λ r. r.of ≡ o) list.items) l.caches.items l.lists.items;
 }

@@ -18,3 +18,9 @@ deal-requires g c =
         ),
       ),
     )
+
+pub returns-in-Ok-clause-rest : goal.returns-in-Ok-clause-rest
+returns-in-Ok-clause-rest g c =
+    let cache = c.in_ok-cache.cache in
+    let readers = c.in_ok-cache.readers.items in
+    omega (arith, c.in-Ok.ensures.rest, as_many_new cache c.args.all readers c.in_ok-cache.ensures.readers)

@@ -2,7 +2,7 @@ use Rattle.std.proofs.Common.{◌∙◌, ap, arith}
 use mathlib.Core.Option.{some}
 use Rattle.mc_door.specs.declared.any_side.AnySide.{AnySide}
 use Rattle.cefrodil.proofs.Filling.{given_pass, passes_more}
-use Rattle.cefrodil.proofs.opening.fill.Goals as goal
+use Rattle.cefrodil.proofs.opening.fill_each.Goals as goal
 
 pub loop-handle-preserved : goal.loop-handle-preserved
 loop-handle-preserved c =

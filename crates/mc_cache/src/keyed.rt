@@ -1,0 +1,118 @@
+//! Which key a call is about. In shards it selects the shard.
+ghost use Rattle.std.specs.Prelude.{◌≡◌};
+
+use crate::calls::{
+    Putting, PuttingIf, PuttingIfAbsent, Removing, Swapping, SwappingIf, SwappingIfAbsent, Taking,
+    TakingIf,
+};
+
+/// A call of one key.
+pub trait Keyed {
+    ghost use Rattle.std.specs.Prelude.{ℕ};
+
+    // The key that it looks up and changes.
+    ghost key_of: { Self → ℕ };
+
+    /// The key that it looks up and changes.
+    fn key(&self) -> u64
+        ensures value { result ≡ key_of self.now };
+}
+
+impl<const V: usize> Keyed for Putting<'_, V> {
+    ghost key_of = { λ c. c.0 };
+
+    #[inline(always)]
+    fn key(&self) -> u64
+        ensures value { result ≡ self.now.0 }
+    {
+        self.0
+    }
+}
+
+impl<const V: usize> Keyed for PuttingIf<'_, V> {
+    ghost key_of = { λ c. c.0 };
+
+    #[inline(always)]
+    fn key(&self) -> u64
+        ensures value { result ≡ self.now.0 }
+    {
+        self.0
+    }
+}
+
+impl<const V: usize> Keyed for PuttingIfAbsent<'_, V> {
+    ghost key_of = { λ c. c.0 };
+
+    #[inline(always)]
+    fn key(&self) -> u64
+        ensures value { result ≡ self.now.0 }
+    {
+        self.0
+    }
+}
+
+impl Keyed for Removing {
+    ghost key_of = { λ c. c.0 };
+
+    #[inline(always)]
+    fn key(&self) -> u64
+        ensures value { result ≡ self.now.0 }
+    {
+        self.0
+    }
+}
+
+impl<const V: usize> Keyed for Swapping<'_, V> {
+    ghost key_of = { λ c. c.0 };
+
+    #[inline(always)]
+    fn key(&self) -> u64
+        ensures value { result ≡ self.now.0 }
+    {
+        self.0
+    }
+}
+
+impl<const V: usize> Keyed for SwappingIf<'_, V> {
+    ghost key_of = { λ c. c.0 };
+
+    #[inline(always)]
+    fn key(&self) -> u64
+        ensures value { result ≡ self.now.0 }
+    {
+        self.0
+    }
+}
+
+impl<const V: usize> Keyed for SwappingIfAbsent<'_, V> {
+    ghost key_of = { λ c. c.0 };
+
+    #[inline(always)]
+    fn key(&self) -> u64
+        ensures value { result ≡ self.now.0 }
+    {
+        self.0
+    }
+}
+
+impl Keyed for Taking {
+    ghost key_of = { λ c. c.0 };
+
+    #[inline(always)]
+    fn key(&self) -> u64
+        ensures value { result ≡ self.now.0 }
+    {
+        self.0
+    }
+}
+
+impl Keyed for TakingIf {
+    ghost key_of = { λ c. c.0 };
+
+    #[inline(always)]
+    fn key(&self) -> u64
+        ensures value { result ≡ self.now.0 }
+    {
+        self.0
+    }
+}

@@ -1,5 +1,0 @@
-use Rattle.mc_shards.specs.Sharded.{ArePassOf}
-use Rattle.mcbench.proofs.shards.call_often.Given as goal
-
-abbrev pub invariant-loop-n : goal.invariant-loop-n
-invariant-loop-n l = ArePassOf l.shards l.pass

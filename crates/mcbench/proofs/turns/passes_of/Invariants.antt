@@ -1,9 +1,0 @@
-use Rattle.std.proofs.Common.{◌≡◌}
-use Rattle.std.specs.List.{All}
-use Rattle.mcbench.proofs.turns.passes_of.Given as goal
-
-abbrev pub invariant-loop-pass : goal.invariant-loop-pass
-invariant-loop-pass l = record {
-  readers : All (λ r. r.of ≡ l.cache) l.readers.items;
-  passes : All (λ r. r.of ≡ l.cache) l.passes.items;
-}
