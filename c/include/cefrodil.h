@@ -146,22 +146,24 @@ CEFRODIL_SAME_SIZE(sizeof(cefrodil_put_answer) == 40, "as the library lays it ou
 
 /* The status that a call returns. After any status but OK, no key and no value was changed by the call. */
 typedef enum cefrodil_status {
-    CEFRODIL_OK = 0,          /* done: found, put, removed, opened or closed */
-    CEFRODIL_ABSENT = 1,      /* the key is not there */
-    CEFRODIL_BUSY = 2,        /* changes spoiled every try of the lookup; says nothing about the table */
-    CEFRODIL_NO_PATH = 3,     /* both buckets of the key are full, and no moves of up to `depth` keys free a slot; if frequent, take more buckets */
-    CEFRODIL_ALL_RECENT = 4,  /* the table is full, and a key to evict was not found: the put looked at each item twice, and lookups had used it
-                               * again. Put again, or leave the key uncached. Frequent only if the items are few; only recency bits changed */
-    CEFRODIL_SPENT = 5,       /* the write could exceed the `limit` of the shape: open a new cache. 2^62 takes centuries */
-    CEFRODIL_CHANGED = 6,     /* the key's last put was another one, at `since` */
-    CEFRODIL_HELD = 7,        /* a try for a turn did not win, or another call takes spare handles; nothing was done */
-    CEFRODIL_CLOSED = 8,      /* the handle is not open */
-    CEFRODIL_HOLDS = 9,       /* the handle holds the turns already */
-    CEFRODIL_WIDTH = 10,      /* values of this cache have another number of words */
-    CEFRODIL_IN_USE = 11,     /* a handle that was to be opened is open already */
-    CEFRODIL_NO_MEMORY = 12,  /* out of memory */
-    CEFRODIL_BAD_WORDS = 13,  /* a value must have 1 to 8 words */
-    CEFRODIL_BAD_MIX = 14,    /* BAD_MIX to BAD_LIMIT: the first field of the shape, in this order, out of range */
+    /* .ci/calls: statuses */
+    CEFRODIL_OK = 0,           /* done: found, put, removed, opened or closed */
+    CEFRODIL_ABSENT = 1,       /* the key is not there */
+    CEFRODIL_BUSY = 2,         /* changes spoiled every try of the lookup; says nothing about the table */
+    CEFRODIL_NO_PATH = 3,      /* both buckets of the key are full, and no moves of up to `depth` keys free a slot; if frequent, take more buckets
+                                * */
+    CEFRODIL_ALL_RECENT = 4,   /* the table is full, and a key to evict was not found: the put looked at each item twice, and lookups had used it
+                                * again. Put again, or leave the key uncached. Frequent only if the items are few; only recency bits changed */
+    CEFRODIL_SPENT = 5,        /* the write could exceed the `limit` of the shape: open a new cache. 2^62 takes centuries */
+    CEFRODIL_CHANGED = 6,      /* the key's last put was another one, at `since` */
+    CEFRODIL_HELD = 7,         /* a try for a turn did not win, or another call takes spare handles; nothing was done */
+    CEFRODIL_CLOSED = 8,       /* the handle is not open */
+    CEFRODIL_HOLDS = 9,        /* the handle holds the turns already */
+    CEFRODIL_WIDTH = 10,       /* values of this cache have another number of words */
+    CEFRODIL_IN_USE = 11,      /* a handle that was to be opened is open already */
+    CEFRODIL_NO_MEMORY = 12,   /* out of memory */
+    CEFRODIL_BAD_WORDS = 13,   /* a value must have 1 to 8 words */
+    CEFRODIL_BAD_MIX = 14,     /* BAD_MIX to BAD_LIMIT: the first field of the shape, in this order, out of range */
     CEFRODIL_BAD_BUCKETS = 15,
     CEFRODIL_BAD_ITEMS = 16,
     CEFRODIL_BAD_STRIPES = 17,
@@ -175,9 +177,13 @@ typedef enum cefrodil_status {
     CEFRODIL_PRESENT = 25,     /* the key is there; its last put was at `since` */
     CEFRODIL_HOLDS_NOT = 26,   /* the handle holds no turns */
     CEFRODIL_PROCESSOR = 27    /* the processor is older than x86-64-v2: it can run no cache */
+    /* .ci/calls: end */
 } cefrodil_status;
 
 CEFRODIL_SAME_SIZE(sizeof(cefrodil_status) == 4, "as the library returns it: compile without -fshort-enums");
+
+/* Where this header has a mark of .ci/calls, a program of its repository writes it, up to the next `end`: what is no comment here. */
+/* .ci/calls: prototypes */
 
 /* The version of the archive. Compare it with CEFRODIL_VERSION. */
 uint32_t cefrodil_version(void);
@@ -288,10 +294,10 @@ CEFRODIL_CHECKED CEFRODIL_NO_NULL cefrodil_status cefrodil_put_within(cefrodil_h
 CEFRODIL_CHECKED CEFRODIL_NO_NULL cefrodil_status cefrodil_swap(cefrodil_handle *handle, uint64_t key, const uint64_t *value, size_t words,
                                                                 uint64_t *old, size_t old_words, cefrodil_reply *reply);
 CEFRODIL_CHECKED CEFRODIL_NO_NULL cefrodil_status cefrodil_swap_if(cefrodil_handle *handle, uint64_t key, uint64_t since,
-                                                                   const uint64_t *value, size_t words, uint64_t *old,
-                                                                   size_t old_words, cefrodil_reply *reply);
-CEFRODIL_CHECKED CEFRODIL_NO_NULL cefrodil_status cefrodil_take(cefrodil_handle *handle, uint64_t key, uint64_t *old,
-                                                                size_t old_words, cefrodil_reply *reply);
+                                                                   const uint64_t *value, size_t words, uint64_t *old, size_t old_words,
+                                                                   cefrodil_reply *reply);
+CEFRODIL_CHECKED CEFRODIL_NO_NULL cefrodil_status cefrodil_take(cefrodil_handle *handle, uint64_t key, uint64_t *old, size_t old_words,
+                                                                cefrodil_reply *reply);
 
 /* Like cefrodil_take, if the key's last put was at `since`, as a lookup of the key returned it. So a program that found an entry too old
  * removes that one, and no later one.
@@ -345,9 +351,12 @@ CEFRODIL_CHECKED CEFRODIL_NO_NULL cefrodil_status cefrodil_stamped_entries(cefro
  * afterwards. */
 CEFRODIL_NO_NULL cefrodil_status cefrodil_close(cefrodil_handle *handle);
 
+/* .ci/calls: end */
+
 /* cefrodil_get, cefrodil_put and cefrodil_get_or_turn for values of 1 to 8 words. An optimizing compiler calls these where `words` is a
  * constant, because they take fewer instructions. A program has no need to name them: each returns what the call without a number
  * returns. */
+/* .ci/calls: widths */
 CEFRODIL_CHECKED CEFRODIL_NO_NULL cefrodil_status cefrodil_get_1(cefrodil_handle *handle, uint64_t key, uint64_t *value,
                                                                  cefrodil_reply *reply);
 CEFRODIL_CHECKED CEFRODIL_NO_NULL cefrodil_status cefrodil_get_2(cefrodil_handle *handle, uint64_t key, uint64_t *value,
@@ -363,22 +372,6 @@ CEFRODIL_CHECKED CEFRODIL_NO_NULL cefrodil_status cefrodil_get_6(cefrodil_handle
 CEFRODIL_CHECKED CEFRODIL_NO_NULL cefrodil_status cefrodil_get_7(cefrodil_handle *handle, uint64_t key, uint64_t *value,
                                                                  cefrodil_reply *reply);
 CEFRODIL_CHECKED CEFRODIL_NO_NULL cefrodil_status cefrodil_get_8(cefrodil_handle *handle, uint64_t key, uint64_t *value,
-                                                                 cefrodil_reply *reply);
-CEFRODIL_CHECKED CEFRODIL_NO_NULL cefrodil_status cefrodil_put_1(cefrodil_handle *handle, uint64_t key, const uint64_t *value,
-                                                                 cefrodil_reply *reply);
-CEFRODIL_CHECKED CEFRODIL_NO_NULL cefrodil_status cefrodil_put_2(cefrodil_handle *handle, uint64_t key, const uint64_t *value,
-                                                                 cefrodil_reply *reply);
-CEFRODIL_CHECKED CEFRODIL_NO_NULL cefrodil_status cefrodil_put_3(cefrodil_handle *handle, uint64_t key, const uint64_t *value,
-                                                                 cefrodil_reply *reply);
-CEFRODIL_CHECKED CEFRODIL_NO_NULL cefrodil_status cefrodil_put_4(cefrodil_handle *handle, uint64_t key, const uint64_t *value,
-                                                                 cefrodil_reply *reply);
-CEFRODIL_CHECKED CEFRODIL_NO_NULL cefrodil_status cefrodil_put_5(cefrodil_handle *handle, uint64_t key, const uint64_t *value,
-                                                                 cefrodil_reply *reply);
-CEFRODIL_CHECKED CEFRODIL_NO_NULL cefrodil_status cefrodil_put_6(cefrodil_handle *handle, uint64_t key, const uint64_t *value,
-                                                                 cefrodil_reply *reply);
-CEFRODIL_CHECKED CEFRODIL_NO_NULL cefrodil_status cefrodil_put_7(cefrodil_handle *handle, uint64_t key, const uint64_t *value,
-                                                                 cefrodil_reply *reply);
-CEFRODIL_CHECKED CEFRODIL_NO_NULL cefrodil_status cefrodil_put_8(cefrodil_handle *handle, uint64_t key, const uint64_t *value,
                                                                  cefrodil_reply *reply);
 CEFRODIL_CHECKED CEFRODIL_NO_NULL cefrodil_status cefrodil_get_or_turn_1(cefrodil_handle *handle, uint64_t key, uint64_t *value,
                                                                          cefrodil_reply *reply);
@@ -396,6 +389,23 @@ CEFRODIL_CHECKED CEFRODIL_NO_NULL cefrodil_status cefrodil_get_or_turn_7(cefrodi
                                                                          cefrodil_reply *reply);
 CEFRODIL_CHECKED CEFRODIL_NO_NULL cefrodil_status cefrodil_get_or_turn_8(cefrodil_handle *handle, uint64_t key, uint64_t *value,
                                                                          cefrodil_reply *reply);
+CEFRODIL_CHECKED CEFRODIL_NO_NULL cefrodil_status cefrodil_put_1(cefrodil_handle *handle, uint64_t key, const uint64_t *value,
+                                                                 cefrodil_reply *reply);
+CEFRODIL_CHECKED CEFRODIL_NO_NULL cefrodil_status cefrodil_put_2(cefrodil_handle *handle, uint64_t key, const uint64_t *value,
+                                                                 cefrodil_reply *reply);
+CEFRODIL_CHECKED CEFRODIL_NO_NULL cefrodil_status cefrodil_put_3(cefrodil_handle *handle, uint64_t key, const uint64_t *value,
+                                                                 cefrodil_reply *reply);
+CEFRODIL_CHECKED CEFRODIL_NO_NULL cefrodil_status cefrodil_put_4(cefrodil_handle *handle, uint64_t key, const uint64_t *value,
+                                                                 cefrodil_reply *reply);
+CEFRODIL_CHECKED CEFRODIL_NO_NULL cefrodil_status cefrodil_put_5(cefrodil_handle *handle, uint64_t key, const uint64_t *value,
+                                                                 cefrodil_reply *reply);
+CEFRODIL_CHECKED CEFRODIL_NO_NULL cefrodil_status cefrodil_put_6(cefrodil_handle *handle, uint64_t key, const uint64_t *value,
+                                                                 cefrodil_reply *reply);
+CEFRODIL_CHECKED CEFRODIL_NO_NULL cefrodil_status cefrodil_put_7(cefrodil_handle *handle, uint64_t key, const uint64_t *value,
+                                                                 cefrodil_reply *reply);
+CEFRODIL_CHECKED CEFRODIL_NO_NULL cefrodil_status cefrodil_put_8(cefrodil_handle *handle, uint64_t key, const uint64_t *value,
+                                                                 cefrodil_reply *reply);
+/* .ci/calls: end */
 
 #ifdef __cplusplus
 }
@@ -430,9 +440,25 @@ CEFRODIL_CHECKED CEFRODIL_INLINE cefrodil_handle cefrodil_move(cefrodil_handle *
     return taken;
 }
 
+/* Counts the entries for a list that has no room, and makes no list. */
+CEFRODIL_CHECKED CEFRODIL_INLINE cefrodil_status cefrodil_list_without_room(cefrodil_handle *handle, uint64_t *count) {
+    const cefrodil_status status = cefrodil_len(handle, count);
+    return status == CEFRODIL_OK && *count != 0 ? CEFRODIL_BAD_COUNT : status;
+}
+
 /* The exports take no null pointer. The functions from here on take one where that is allowed, and three of them call the export for
  * the width of a value if that is a constant. The macros behind them give them the names of the exports. A program that defines
  * CEFRODIL_NO_MACROS has none of these: then no pointer may be null, and cefrodil_get_of_width and so on are called by their own names. */
+/* .ci/calls: wrappers */
+CEFRODIL_CHECKED CEFRODIL_INLINE cefrodil_status cefrodil_open_with_or_none(const cefrodil_shape *shape, uint32_t shards, size_t words,
+                                                                            const uint64_t *entries, size_t entry_words, uint32_t *statuses,
+                                                                            size_t status_count, cefrodil_handle *handles, size_t count) {
+    uint64_t no_entries = 0;
+    uint32_t no_statuses = 0;
+    return cefrodil_open_with(shape, shards, words, entry_words != 0 ? entries : &no_entries, entry_words,
+                              status_count != 0 ? statuses : &no_statuses, status_count, handles, count);
+}
+
 CEFRODIL_CHECKED CEFRODIL_INLINED(nonnull(1, 3)) cefrodil_status cefrodil_get_of_width(cefrodil_handle *handle, uint64_t key, uint64_t *value,
                                                                                        size_t words, cefrodil_reply *reply) {
     cefrodil_reply unread;
@@ -450,20 +476,13 @@ CEFRODIL_CHECKED CEFRODIL_INLINED(nonnull(1, 3)) cefrodil_status cefrodil_get_of
     }
 }
 
-CEFRODIL_CHECKED CEFRODIL_INLINED(nonnull) cefrodil_status cefrodil_put_of_width(cefrodil_handle *handle, uint64_t key,
-                                                                                 const uint64_t *value, size_t words,
-                                                                                 cefrodil_reply *reply) {
-    switch (CEFRODIL_KNOWN(words) ? words : 0) {
-    case 1: return cefrodil_put_1(handle, key, value, reply);
-    case 2: return cefrodil_put_2(handle, key, value, reply);
-    case 3: return cefrodil_put_3(handle, key, value, reply);
-    case 4: return cefrodil_put_4(handle, key, value, reply);
-    case 5: return cefrodil_put_5(handle, key, value, reply);
-    case 6: return cefrodil_put_6(handle, key, value, reply);
-    case 7: return cefrodil_put_7(handle, key, value, reply);
-    case 8: return cefrodil_put_8(handle, key, value, reply);
-    default: return cefrodil_put(handle, key, value, words, reply);
-    }
+CEFRODIL_CHECKED CEFRODIL_INLINE cefrodil_status cefrodil_get_many_or_none(cefrodil_handle *handle, const uint64_t *keys, size_t key_count,
+                                                                           uint64_t *values, size_t value_words, cefrodil_answer *answers,
+                                                                           size_t answer_count) {
+    uint64_t no_keys = 0, no_values = 0;
+    cefrodil_answer no_answers;
+    return cefrodil_get_many(handle, key_count != 0 ? keys : &no_keys, key_count, value_words != 0 ? values : &no_values, value_words,
+                             answer_count != 0 ? answers : &no_answers, answer_count);
 }
 
 CEFRODIL_CHECKED CEFRODIL_INLINED(nonnull) cefrodil_status cefrodil_get_or_turn_of_width(cefrodil_handle *handle, uint64_t key, uint64_t *value,
@@ -481,42 +500,28 @@ CEFRODIL_CHECKED CEFRODIL_INLINED(nonnull) cefrodil_status cefrodil_get_or_turn_
     }
 }
 
-CEFRODIL_INLINE cefrodil_status cefrodil_close_unless_null(cefrodil_handle *handle) {
-    return handle ? cefrodil_close(handle) : CEFRODIL_CLOSED;
-}
-
-CEFRODIL_CHECKED CEFRODIL_INLINE cefrodil_status cefrodil_open_with_or_none(const cefrodil_shape *shape, uint32_t shards, size_t words,
-                                                                            const uint64_t *entries, size_t entry_words,
-                                                                            uint32_t *statuses, size_t status_count,
-                                                                            cefrodil_handle *handles, size_t count) {
-    uint64_t no_entry = 0;
-    uint32_t no_status = 0;
-    return cefrodil_open_with(shape, shards, words, entry_words != 0 ? entries : &no_entry, entry_words,
-                              status_count != 0 ? statuses : &no_status, status_count, handles, count);
-}
-
-CEFRODIL_CHECKED CEFRODIL_INLINE cefrodil_status cefrodil_get_many_or_none(cefrodil_handle *handle, const uint64_t *keys, size_t key_count,
-                                                                           uint64_t *values, size_t value_words, cefrodil_answer *answers,
-                                                                           size_t answer_count) {
-    uint64_t no_key = 0, no_value = 0;
-    cefrodil_answer no_answer;
-    return cefrodil_get_many(handle, key_count != 0 ? keys : &no_key, key_count, value_words != 0 ? values : &no_value, value_words,
-                             answer_count != 0 ? answers : &no_answer, answer_count);
+CEFRODIL_CHECKED CEFRODIL_INLINED(nonnull) cefrodil_status cefrodil_put_of_width(cefrodil_handle *handle, uint64_t key, const uint64_t *value,
+                                                                                 size_t words, cefrodil_reply *reply) {
+    switch (CEFRODIL_KNOWN(words) ? words : 0) {
+    case 1: return cefrodil_put_1(handle, key, value, reply);
+    case 2: return cefrodil_put_2(handle, key, value, reply);
+    case 3: return cefrodil_put_3(handle, key, value, reply);
+    case 4: return cefrodil_put_4(handle, key, value, reply);
+    case 5: return cefrodil_put_5(handle, key, value, reply);
+    case 6: return cefrodil_put_6(handle, key, value, reply);
+    case 7: return cefrodil_put_7(handle, key, value, reply);
+    case 8: return cefrodil_put_8(handle, key, value, reply);
+    default: return cefrodil_put(handle, key, value, words, reply);
+    }
 }
 
 CEFRODIL_CHECKED CEFRODIL_INLINE cefrodil_status cefrodil_put_many_or_none(cefrodil_handle *handle, const uint64_t *keys, size_t key_count,
-                                                                           const uint64_t *values, size_t value_words,
-                                                                           cefrodil_put_answer *answers, size_t answer_count) {
-    uint64_t no_key = 0, no_value = 0;
-    cefrodil_put_answer no_answer;
-    return cefrodil_put_many(handle, key_count != 0 ? keys : &no_key, key_count, value_words != 0 ? values : &no_value, value_words,
-                             answer_count != 0 ? answers : &no_answer, answer_count);
-}
-
-/* Counts the entries for a list that has no room, and makes no list. */
-CEFRODIL_CHECKED CEFRODIL_INLINE cefrodil_status cefrodil_list_without_room(cefrodil_handle *handle, uint64_t *count) {
-    const cefrodil_status status = cefrodil_len(handle, count);
-    return status == CEFRODIL_OK && *count != 0 ? CEFRODIL_BAD_COUNT : status;
+                                                                           const uint64_t *values, size_t value_words, cefrodil_put_answer *answers,
+                                                                           size_t answer_count) {
+    uint64_t no_keys = 0, no_values = 0;
+    cefrodil_put_answer no_answers;
+    return cefrodil_put_many(handle, key_count != 0 ? keys : &no_keys, key_count, value_words != 0 ? values : &no_values, value_words,
+                             answer_count != 0 ? answers : &no_answers, answer_count);
 }
 
 CEFRODIL_CHECKED CEFRODIL_INLINE cefrodil_status cefrodil_entries_or_none(cefrodil_handle *handle, uint64_t *entries, size_t entry_words,
@@ -524,26 +529,34 @@ CEFRODIL_CHECKED CEFRODIL_INLINE cefrodil_status cefrodil_entries_or_none(cefrod
     return entry_words != 0 ? cefrodil_entries(handle, entries, entry_words, count) : cefrodil_list_without_room(handle, count);
 }
 
-CEFRODIL_CHECKED CEFRODIL_INLINE cefrodil_status cefrodil_stamped_entries_or_none(cefrodil_handle *handle, uint64_t *entries,
-                                                                                  size_t entry_words, uint64_t *count) {
+CEFRODIL_CHECKED CEFRODIL_INLINE cefrodil_status cefrodil_stamped_entries_or_none(cefrodil_handle *handle, uint64_t *entries, size_t entry_words,
+                                                                                  uint64_t *count) {
     return entry_words != 0 ? cefrodil_stamped_entries(handle, entries, entry_words, count) : cefrodil_list_without_room(handle, count);
 }
 
+CEFRODIL_INLINE cefrodil_status cefrodil_close_unless_null(cefrodil_handle *handle) {
+    return handle ? cefrodil_close(handle) : CEFRODIL_CLOSED;
+}
+/* .ci/calls: end */
+
 #ifndef CEFRODIL_NO_MACROS
-#define cefrodil_get cefrodil_get_of_width
-#define cefrodil_put cefrodil_put_of_width
-#define cefrodil_get_or_turn cefrodil_get_or_turn_of_width
-#define cefrodil_close cefrodil_close_unless_null
+/* .ci/calls: macros */
 #define cefrodil_open_with cefrodil_open_with_or_none
+#define cefrodil_get cefrodil_get_of_width
 #define cefrodil_get_many cefrodil_get_many_or_none
+#define cefrodil_get_or_turn cefrodil_get_or_turn_of_width
+#define cefrodil_put cefrodil_put_of_width
 #define cefrodil_put_many cefrodil_put_many_or_none
 #define cefrodil_entries cefrodil_entries_or_none
 #define cefrodil_stamped_entries cefrodil_stamped_entries_or_none
+#define cefrodil_close cefrodil_close_unless_null
+/* .ci/calls: end */
 #endif
 
 /* The text of a status. Both libraries have it as a call of this name, too. */
 CEFRODIL_INLINE const char *cefrodil_text(uint32_t status) {
     switch (status) {
+    /* .ci/calls: texts */
     case CEFRODIL_OK: return "ok";
     case CEFRODIL_ABSENT: return "absent";
     case CEFRODIL_BUSY: return "busy";
@@ -572,6 +585,7 @@ CEFRODIL_INLINE const char *cefrodil_text(uint32_t status) {
     case CEFRODIL_PRESENT: return "present";
     case CEFRODIL_HOLDS_NOT: return "the handle holds no turns";
     case CEFRODIL_PROCESSOR: return "the processor is older than x86-64-v2";
+    /* .ci/calls: end */
     default: return "no status";
     }
 }

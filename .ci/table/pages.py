@@ -1,0 +1,80 @@
+"""What the documents and tests have of the table, and which methods of C++ and Rust it names that are not there."""
+import re
+
+from header import names_of
+from read import read
+
+CXX_CALLS, CXX = 'c/include/cefrodil_calls.hpp', 'c/include/cefrodil.hpp'
+# Where C++ and Rust have the methods of a Handle and of a Writing: files, and where each begins and ends.
+METHODS = {
+    ('C++', 'handle'): ((CXX_CALLS, 'class Calls', 'protected:'), (CXX, 'class Handle', '\n};')),
+    ('C++', 'writing'): ((CXX, 'class Writing :', 'private:\n'),),
+    ('Rust', 'handle'): (('rust/src/handle.rs', '', None), ('rust/src/hold.rs', '', None)),
+    ('Rust', 'writing'): (('rust/src/writing.rs', '', None),),
+}
+# What each_call.c passes for a parameter. Another one is passed by its own name.
+PASSED = {'handle': 'handle', 'words': 'words', 'old_words': 'words', 'value_words': 'words', 'entry_words': 'ROOM', 'key_count': '1',
+          'answer_count': '1', 'reply': '&told.reply', 'len': '&told.len', 'moment': '&told.moment', 'capacity': '&told.capacity'}
+
+
+def row_of(row, calls):
+    """A row of USING's table, with the calls of C and the methods of C++ and Rust."""
+    handles = [f'`{call.handle}`' for call in calls if call.handle != '-']
+    writings = ['`{1}` in {0}'.format(*call.writing.split(': ')) if ': ' in call.writing else f'`{call.writing}`'
+                for call in calls if call.writing != '-']
+    return f'|{row}|{", ".join(f"`{call.name}`" for call in calls)}|{", ".join(handles)}|{", ".join(writings)}|'
+
+
+def names(calls, _):
+    rows = {}
+    for call in calls:
+        rows.setdefault(call.row, []).append(call)
+    return ['', '|call|C|a `Handle`|a `Writing`|', '|---|---|---|---|', *(row_of(row, named) for row, named in rows.items() if row), '']
+
+
+def has_method(language, text, name):
+    if language == 'Rust':
+        return re.search(rf'\bpub fn {name}\b', text)
+    return re.search(rf'\b{name}\([^;]*\) (?:&\s)?noexcept|\busing [^;]*\bCalls::{name}\b', text)
+
+
+def missing(calls):
+    """The methods of the table that C++ or Rust has not."""
+    for (language, kind), places in METHODS.items():
+        text = ''
+        for path, begin, end in places:
+            found = read(path)
+            found = found[found.index(begin):]
+            text += found[:found.index(end)] if end else found
+        for call in calls:
+            only, _, name = getattr(call, kind).rpartition(': ')
+            if name != '-' and only in ('', language) and not has_method(language, text, name):
+                yield f'{language} has no {name} of a {kind.capitalize()}'
+
+
+def passed_for(name, parameter):
+    """What each_call.c passes: a place of what is told, or what it has by this name."""
+    if name == 'count':
+        return '&told.count' if parameter else '1'
+    if parameter and parameter.type == 'PutAnswer':
+        return 'told.put_answers'
+    return PASSED.get(name) or (f'told.{name}' if parameter and parameter.way == 'mut' else name)
+
+
+def tested(calls, _):
+    """Each call of a handle: for what it can be refused beside a handle that is not open, whether it has a reply, and its arguments."""
+    lines = ['#define EACH_CALL(row) \\']
+    for call in calls:
+        if not call.parameters or call.parameters[0].name != 'handle':
+            continue
+        kinds = {parameter.name: parameter for parameter in call.parameters}
+        passed = [passed_for(name, kinds.get(name)) for name in names_of(call)]
+        facts = {'WIDTH': 'words' in passed, 'TURN': {'turn', 'write'} & {*call.marks}, 'LIMIT': 'write' in call.marks, 'REPLY': 'reply' in kinds}
+        known = ' | '.join(fact for fact, holds in facts.items() if holds) or 'NOTHING'
+        lines.append(f'    row({call.name}, {known}, ({", ".join(passed)})) \\')
+    return [*lines[:-1], lines[-1][:-2]]
+
+
+def texts(statuses, _):
+    lines = [f'    row({status.name}, {status.name.lower()}, "{status.text}") \\' for status in statuses]
+    return ['#define EACH_STATUS(row) \\', *lines[:-1], lines[-1][:-2]]
