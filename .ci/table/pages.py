@@ -15,14 +15,16 @@ METHODS = {
 # What each_call.c passes for a parameter. Another one is passed by its own name.
 PASSED = {'handle': 'handle', 'words': 'words', 'old_words': 'words', 'value_words': 'words', 'entry_words': 'ROOM', 'key_count': '1',
           'answer_count': '1', 'reply': '&told.reply', 'len': '&told.len', 'moment': '&told.moment', 'capacity': '&told.capacity'}
+# What a test in C++ passes for a parameter.
+IN_CXX = {'key': '1', 'since': '1', 'tries': '1', 'value': '{1}', 'keys': 'nullptr, 0', 'values': 'nullptr', 'answers': 'nullptr',
+          'moment': 'number', 'len': 'number', 'capacity': 'number', 'entries': 'list', 'handles': '1, handles'}
 
 
 def row_of(row, calls):
     """A row of USING's table, with the calls of C and the methods of C++ and Rust."""
-    handles = [f'`{call.handle}`' for call in calls if call.handle != '-']
-    writings = ['`{1}` in {0}'.format(*call.writing.split(': ')) if ': ' in call.writing else f'`{call.writing}`'
-                for call in calls if call.writing != '-']
-    return f'|{row}|{", ".join(f"`{call.name}`" for call in calls)}|{", ".join(handles)}|{", ".join(writings)}|'
+    columns = [[f'`{method.name}`{" in Rust" if method.in_rust_alone else ""}' for call in calls if (method := getattr(call, kind))]
+               for kind in ('handle', 'writing')]
+    return f'|{row}|{", ".join(f"`{call.name}`" for call in calls)}|{"|".join(map(", ".join, columns))}|'
 
 
 def names(calls, _):
@@ -47,9 +49,9 @@ def missing(calls):
             found = found[found.index(begin):]
             text += found[:found.index(end)] if end else found
         for call in calls:
-            only, _, name = getattr(call, kind).rpartition(': ')
-            if name != '-' and only in ('', language) and not has_method(language, text, name):
-                yield f'{language} has no {name} of a {kind.capitalize()}'
+            method = getattr(call, kind)
+            if method and not (method.in_rust_alone and language == 'C++') and not has_method(language, text, method.name):
+                yield f'{language} has no {method.name} of a {kind.capitalize()}'
 
 
 def passed_for(name, parameter):
@@ -63,7 +65,7 @@ def passed_for(name, parameter):
 
 def tested(calls, _):
     """Each call of a handle: for what it can be refused beside a handle that is not open, whether it has a reply, and its arguments."""
-    lines = ['#define EACH_CALL(row) \\']
+    rows = []
     for call in calls:
         if not call.parameters or call.parameters[0].name != 'handle':
             continue
@@ -71,10 +73,32 @@ def tested(calls, _):
         passed = [passed_for(name, kinds.get(name)) for name in names_of(call)]
         facts = {'WIDTH': 'words' in passed, 'TURN': {'turn', 'write'} & {*call.marks}, 'LIMIT': 'write' in call.marks, 'REPLY': 'reply' in kinds}
         known = ' | '.join(fact for fact, holds in facts.items() if holds) or 'NOTHING'
-        lines.append(f'    row({call.name}, {known}, ({", ".join(passed)})) \\')
-    return [*lines[:-1], lines[-1][:-2]]
+        rows.append(f'{call.name}, {known}, ({", ".join(passed)})')
+    return macro('EACH_CALL', rows)
+
+
+def macro(name, rows):
+    return [f'#define {name}(row) \\', *(f'    row({row}) \\' for row in rows[:-1]), f'    row({rows[-1]})']
+
+
+def in_cxx(call):
+    """The arguments of a method of C++. What is left out is returned."""
+    if call.name == 'hold':
+        return 'writing'
+    known = (IN_CXX.get(own.name) for own in call.parameters[1:] if not (own.way == 'mut' and own.length in ('words', 'old_words')))
+    return ', '.join(filter(None, known))
+
+
+def methods(calls, _):
+    """The methods of C++: those whose status must be looked at, and the others."""
+    rows = {True: [], False: []}
+    for kind in ('handle', 'writing'):
+        for call in calls:
+            method = getattr(call, kind)
+            if method and not method.in_rust_alone:
+                rows[method.unchecked].append(f'{kind}, {method.name}, ({in_cxx(call)})')
+    return macro('EACH_METHOD', rows[False]) + macro('EACH_UNCHECKED_METHOD', rows[True])
 
 
 def texts(statuses, _):
-    lines = [f'    row({status.name}, {status.name.lower()}, "{status.text}") \\' for status in statuses]
-    return ['#define EACH_STATUS(row) \\', *lines[:-1], lines[-1][:-2]]
+    return macro('EACH_STATUS', [f'{status.name}, {status.name.lower()}, "{status.text}"' for status in statuses])

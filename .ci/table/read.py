@@ -24,13 +24,20 @@ class Parameter(NamedTuple):
     length: Optional[str]  # the name of an array's length
 
 
+class Method(NamedTuple):
+    """What a Handle or a Writing calls it."""
+    name: str
+    in_rust_alone: bool
+    unchecked: bool
+
+
 class Call(NamedTuple):
     name: str
     parameters: list
     marks: list
     widths: Optional[str]  # the file of its exports for each width
-    handle: str
-    writing: str
+    handle: Optional[Method]
+    writing: Optional[Method]
     row: Optional[str]  # of USING's table
 
     @property
@@ -80,6 +87,13 @@ def parameter_of(text):
     return Parameter(name, bool(null), way, kind, length)
 
 
+def method_of(text):
+    found = re.fullmatch(r'-|(Rust: )?(\w+)(\*?)', text)
+    if not found:
+        raise Wrong(f'{CALLS}: no method: {text}')
+    return Method(found[2], bool(found[1]), bool(found[3])) if found[2] else None
+
+
 def call_of(cells, row):
     name, parameters, marks, handle, writing = cells
     parts = [parameter_of(part) for part in re.findall(r'\w+\??: (?:&(?:mut )?)?(?:\[[^]]*\]|\w+)', parameters)]
@@ -89,7 +103,8 @@ def call_of(cells, row):
         raise Wrong(f'{CALLS}: no marks: {" ".join(marks)}')
     if re.sub(r'\s', '', parameters).count(':') != len(parts):
         raise Wrong(f'{CALLS}: not all parameters of {name} have a type')
-    return Call(name, parts, [mark for mark in marks if mark in MARKS], widths[0] if widths else None, handle, writing, row)
+    return Call(name, parts, [mark for mark in marks if mark in MARKS], widths[0] if widths else None, method_of(handle),
+                method_of(writing), row)
 
 
 def calls():

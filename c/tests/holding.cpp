@@ -123,20 +123,8 @@ static void a_handle_asks_for_the_moment() {
     MUST(some[0].try_moment(moment) == Status::closed && moment == 50);
 }
 
-// Without turns a guard does nothing, and says so.
 static void a_guard_without_turns() {
     Writing<1> writing;
-    uint64_t number = 9;
-    std::vector<uint64_t> list{1};
-    cefrodil_put_answer answer{};
-    const std::array<uint64_t, 1> value = {7};
-    MUST(writing.get(1).status == Status::closed && writing.peek(1).status == Status::closed && writing.put(1, value).status == Status::closed);
-    MUST(writing.put_if(1, 1, value).status == Status::closed && writing.put_if_absent(1, value).status == Status::closed);
-    MUST(writing.remove(1).status == Status::closed && writing.put_many(&number, 1, &value, &answer) == Status::closed);
-    MUST(writing.swap(1, value).status == Status::closed && writing.swap_if(1, 1, value).status == Status::closed);
-    MUST(writing.take(1).status == Status::closed && writing.take_if(1, 1).status == Status::closed);
-    MUST(writing.len(number) == Status::closed && writing.moment(number) == Status::closed && writing.capacity(number) == Status::closed);
-    MUST(number == 9 && writing.entries(list) == Status::closed && list.empty() && writing.stamped_entries(list) == Status::closed);
     writing.end();
     MUST(!writing.holds() && !writing.disown().is_open());
 }
