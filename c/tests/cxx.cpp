@@ -38,7 +38,7 @@ static_assert(can_be_lent<Handle<1> &> && !can_be_lent<Handle<1>> && can_be_owne
 static_assert(noexcept(any<Handle<1>>().close()) && noexcept(any<Handle<1>>().is_open()) && noexcept(any<Handle<1>>().raw()));
 static_assert(noexcept(any<Handle<1>>().meter()) && noexcept(any<const cefrodil::Meter>().counts()));
 static_assert(noexcept(any<Writing<1>>().own(std::declval<Handle<1>>())) && noexcept(any<Writing<1>>().disown()));
-static_assert(noexcept(any<Writing<1>>().end()) && noexcept(any<Writing<1>>().holds()));
+static_assert(noexcept(any<Handle<1>>().hold_within(1, any<Writing<1>>())) && noexcept(any<Writing<1>>().end()) && noexcept(any<Writing<1>>().holds()));
 static_assert(noexcept(any<Writing<1>>().meter()) && noexcept(any<Writing<1>>().raw()));
 static_assert(std::is_nothrow_default_constructible_v<Handle<1>> && std::is_nothrow_default_constructible_v<Writing<1>>);
 static_assert(noexcept(cefrodil::shape_for_items(1)) && noexcept(cefrodil::text(Status::ok)));

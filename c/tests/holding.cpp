@@ -40,6 +40,22 @@ static void a_holder_writes_and_others_are_held() {
     MUST(one.is_open() && other.try_remove(7).status == Status::ok && one.get(7).status == Status::absent);
 }
 
+// So many tries are made, at least one, and each that does not win is counted.
+static void a_hold_is_tried_again() {
+    Writing<1> writing, another;
+    MUST(handles[0].hold(writing) == Status::ok);
+    const Meter meter = handles[1].meter();
+    for (uint32_t tries = 0; tries <= 5; tries++) {
+        const uint64_t held = meter.counts().held;
+        MUST(handles[1].hold_within(tries, another) == Status::held && !another.holds());
+        MUST(meter.counts().held == held + (tries == 0 ? 1 : tries));
+    }
+    MUST(handles[1].hold_within(3, writing) == Status::in_use);
+    writing.end();
+    const uint64_t held = meter.counts().held;
+    MUST(handles[1].hold_within(3, another) == Status::ok && another.holds() && meter.counts().held == held);
+}
+
 static void it_ends_with_its_scope() {
     {
         Writing<1> writing;
@@ -134,6 +150,7 @@ int main() {
     for (uint32_t shards : {1, 4}) {
         opens(shards);
         a_holder_writes_and_others_are_held();
+        a_hold_is_tried_again();
         it_ends_with_its_scope();
         one_takes_the_place_of_another();
         a_handle_is_owned();
