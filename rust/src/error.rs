@@ -140,6 +140,30 @@ pub enum TurnError<E> {
     Call(E),
 }
 
+/// What a try for a turn may fail with: [`Held`] or a [`TurnError`]. No other type has this trait.
+pub trait MayBeHeld: sealed::Sealed {
+    /// Whether the try did not win: then nothing was done.
+    fn is_held(&self) -> bool;
+}
+
+mod sealed {
+    pub trait Sealed {}
+    impl Sealed for super::Held {}
+    impl<E> Sealed for super::TurnError<E> {}
+}
+
+impl MayBeHeld for Held {
+    fn is_held(&self) -> bool {
+        true
+    }
+}
+
+impl<E> MayBeHeld for TurnError<E> {
+    fn is_held(&self) -> bool {
+        matches!(self, TurnError::Held)
+    }
+}
+
 // An error that is a status of the archive: from that, and with its text.
 macro_rules! statuses {
     ($error:ident $($status:ident => $variant:ident $($text:literal)?,)*) => {

@@ -1,7 +1,7 @@
 //! Without memory an opening, a list and a call for more handles are errors, which keep nothing. Each allocation is refused in turn: the
 //! archive and the crate allocate by this program's own functions. A list allocates in its turn, so a batch of another handle is held
 //! meanwhile.
-use cefrodil::{Cache, Entry, Handle, ListError, MoreError, OpenError, Put, PutError, Reply, Shape, TurnError, Why};
+use cefrodil::{Cache, Entry, Handle, Held, ListError, MoreError, OpenError, Put, PutError, Reply, Shape, TurnError, Why};
 use std::cell::{Cell, RefCell};
 use std::error::Error;
 use std::ffi::{c_int, c_void};
@@ -213,7 +213,7 @@ fn put_batch(handle: &mut Handle<1>) -> [PutInTurn; 40] {
 fn put_beside() -> bool {
     BESIDE.with_borrow_mut(|handle| {
         let Some(handle) = handle else { return false };
-        let is_held = handle.try_len() == Err(TurnError::Held);
+        let is_held = handle.try_len() == Err(Held);
         if is_held {
             TOLD.set(Some(put_batch(handle)));
         }
@@ -240,7 +240,7 @@ fn a_batch_beside_a_list_is_held() -> Tested {
 fn call_beside() -> bool {
     BESIDE.with_borrow_mut(|handle| {
         let Some(handle) = handle else { return false };
-        let is_held = handle.try_len() == Err(TurnError::Held);
+        let is_held = handle.try_len() == Err(Held);
         if is_held {
             each_call_is_held(handle);
         }
@@ -261,11 +261,11 @@ fn each_call_is_held(handle: &mut Handle<1>) {
         |handle| handle.try_swap_if(7, 1, &[71]) == Err(TurnError::Held),
         |handle| handle.try_take(7) == Err(TurnError::Held),
         |handle| handle.try_take_if(7, 1) == Err(TurnError::Held),
-        |handle| handle.try_peek(7).is_none(),
-        |handle| handle.try_len() == Err(TurnError::Held),
+        |handle| handle.try_peek(7) == Err(Held),
+        |handle| handle.try_len() == Err(Held),
         |handle| handle.try_entries() == Err(TurnError::Held),
         |handle| handle.try_stamped_entries() == Err(TurnError::Held),
-        |handle| handle.try_moment().is_err(),
+        |handle| handle.try_moment() == Err(Held),
         |handle| handle.hold().is_err(),
         |handle| {
             let mut told = [Ok(Put::Renewed { at: 0 })];

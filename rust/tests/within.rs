@@ -1,5 +1,5 @@
 //! A call is made again only while it is held, and at most as often as it may be. So is a put with many tries.
-use cefrodil::{Cache, Held, Shape, Spent, Take, TurnError};
+use cefrodil::{Cache, Handle, Held, Reply, Shape, Spent, Take, TurnError};
 use std::cell::Cell;
 use std::sync::atomic::{AtomicBool, Ordering::SeqCst};
 use std::thread;
@@ -39,6 +39,24 @@ fn a_refusal_is_returned_at_once() {
         handle.try_remove(1)
     });
     assert_eq!((told, calls), (Err(TurnError::Call(Spent)), 1));
+}
+
+// Calls that can only be held are made again, too.
+#[test]
+fn a_call_that_is_held_or_answers_is_made_again() {
+    let mut handles = Cache::<1>::open(&Shape::for_items(10, 1).unwrap(), 1, 2).unwrap();
+    let [mine, other] = &mut handles[..] else { unreachable!() };
+    let writing = other.hold().unwrap();
+    let meter = mine.meter();
+    let held = [
+        mine.within(3, |handle| handle.try_peek(1).map(|_| ())),
+        mine.within(3, |handle| handle.try_len().map(|_| ())),
+        mine.within(3, |handle| handle.try_moment().map(|_| ())),
+    ];
+    assert_eq!((held, meter.counts().held), ([Err(Held); 3], 9));
+    drop(writing);
+    assert_eq!(mine.within(3, |handle| handle.try_peek(1)), Ok(Reply::Absent { at: 0 }));
+    assert_eq!((mine.within(3, Handle::try_len), mine.within(3, Handle::try_moment)), (Ok(0), Ok(0)));
 }
 
 // The tries are counted as held, each by itself.
