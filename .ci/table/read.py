@@ -7,8 +7,8 @@ TOP = os.path.join(os.path.dirname(os.path.abspath(__file__)), '..', '..')
 CALLS, STATUSES = 'c/calls.txt', 'c/statuses.txt'
 # Types, as the table and the exports name them, with their names in C.
 IN_C = {'u64': 'uint64_t', 'u32': 'uint32_t', 'usize': 'size_t', 'Handle': 'cefrodil_handle', 'Shape': 'cefrodil_shape', 'Reply': 'cefrodil_reply',
-        'Answer': 'cefrodil_answer', 'PutAnswer': 'cefrodil_put_answer'}
-IN_RUST = {'Handle': 'RawHandle', 'Shape': 'RawShape', 'Reply': 'RawReply', 'Answer': 'RawAnswer', 'PutAnswer': 'RawPut'}
+        'Answer': 'cefrodil_answer', 'PutAnswer': 'cefrodil_put_answer', 'Status': 'cefrodil_status'}
+IN_RUST = {'Handle': 'RawHandle', 'Shape': 'RawShape', 'Reply': 'RawReply', 'Answer': 'RawAnswer', 'PutAnswer': 'RawPut', 'Status': 'u32'}
 MARKS = ('number', 'series', 'unchecked', 'list', 'turn', 'write')
 
 

@@ -210,7 +210,7 @@ CEFRODIL_CHECKED CEFRODIL_NO_NULL cefrodil_status cefrodil_open(const cefrodil_s
  * the first changes of the shards, and every handle finds the entries from its first lookup on. Other statuses are those of
  * cefrodil_open, and BAD_COUNT, right after BAD_WORDS, if `entry_words` does not match. Then `statuses` is unchanged. */
 CEFRODIL_CHECKED CEFRODIL_NO_NULL cefrodil_status cefrodil_open_with(const cefrodil_shape *shape, uint32_t shards, size_t words,
-                                                                     const uint64_t *entries, size_t entry_words, uint32_t *statuses,
+                                                                     const uint64_t *entries, size_t entry_words, cefrodil_status *statuses,
                                                                      size_t status_count, cefrodil_handle *handles, size_t count)
     CEFRODIL_OF_SERIES(cefrodil_open_with);
 
@@ -451,10 +451,10 @@ CEFRODIL_CHECKED CEFRODIL_INLINE cefrodil_status cefrodil_list_without_room(cefr
  * CEFRODIL_NO_MACROS has none of these: then no pointer may be null, and cefrodil_get_of_width and so on are called by their own names. */
 /* .ci/calls: wrappers */
 CEFRODIL_CHECKED CEFRODIL_INLINE cefrodil_status cefrodil_open_with_or_none(const cefrodil_shape *shape, uint32_t shards, size_t words,
-                                                                            const uint64_t *entries, size_t entry_words, uint32_t *statuses,
+                                                                            const uint64_t *entries, size_t entry_words, cefrodil_status *statuses,
                                                                             size_t status_count, cefrodil_handle *handles, size_t count) {
     uint64_t no_entries = 0;
-    uint32_t no_statuses = 0;
+    cefrodil_status no_statuses;
     return cefrodil_open_with(shape, shards, words, entry_words != 0 ? entries : &no_entries, entry_words,
                               status_count != 0 ? statuses : &no_statuses, status_count, handles, count);
 }

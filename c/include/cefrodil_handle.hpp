@@ -239,7 +239,7 @@ class EntryStatuses {
         raw_.resize(count_);
         told_.resize(count_);
     }
-    uint32_t *raw() noexcept { return raw_.data(); }
+    cefrodil_status *raw() noexcept { return raw_.data(); }
     size_t count() const noexcept { return count_; }
     void move_to(std::vector<Status> &statuses) noexcept {
         for (size_t i = 0; i < count_; i++) {
@@ -250,7 +250,7 @@ class EntryStatuses {
 
   private:
     size_t count_;
-    std::vector<uint32_t> raw_{};
+    std::vector<cefrodil_status> raw_{};
     std::vector<Status> told_{};
 };
 

@@ -21,7 +21,7 @@ static void close_both(void) { MUST(cefrodil_close(one) == CEFRODIL_OK && cefrod
 
 /* The first `put` of `count` entries are put, and the others have this status. */
 static void loads(cefrodil_shape shape, size_t count, size_t put, uint32_t others) {
-    uint32_t statuses[10];
+    cefrodil_status statuses[10];
     uint64_t value[1];
     for (size_t i = 0; i < 10; i++) {
         statuses[i] = 99;
@@ -41,7 +41,7 @@ static void loads(cefrodil_shape shape, size_t count, size_t put, uint32_t other
 static void twice(void) {
     const uint64_t entries[9] = {5, 50, 51, 6, 60, 61, 5, 52, 53};
     uint64_t value[2] = {0, 0};
-    uint32_t statuses[3] = {99, 99, 99};
+    cefrodil_status statuses[3] = {99, 99, 99};
     cefrodil_shape shape = shape_of(4, 2, most);
     MUST(cefrodil_open_with(&shape, 1, 2, entries, 9, statuses, 3, handles, 2) == CEFRODIL_OK);
     MUST(statuses[0] == CEFRODIL_OK && statuses[1] == CEFRODIL_OK && statuses[2] == CEFRODIL_OK);
@@ -54,7 +54,7 @@ static void widths(void) {
     cefrodil_shape shape = shape_of(4, 3, most);
     for (size_t words = 1; words <= 8; words++) {
         uint64_t entries[18], found[8] = {0};
-        uint32_t statuses[2] = {99, 99};
+        cefrodil_status statuses[2] = {99, 99};
         for (size_t i = 0; i < 18; i++) {
             entries[i] = 100 + i;
         }
@@ -72,7 +72,7 @@ static void widths(void) {
 static void refused(void) {
     cefrodil_shape shape = shape_of(3, 3, most);
     uint64_t value;
-    uint32_t statuses[9] = {99, 99, 99, 99, 99, 99, 99, 99, 99};
+    cefrodil_status statuses[9] = {99, 99, 99, 99, 99, 99, 99, 99, 99};
     shape.mix = 2;
     MUST(cefrodil_open_with(&shape, 3, 0, nine, 17, statuses, 9, handles, 0) == CEFRODIL_BAD_WORDS);
     MUST(cefrodil_open_with(&shape, 3, 9, nine, 17, statuses, 9, handles, 0) == CEFRODIL_BAD_WORDS);
@@ -100,7 +100,7 @@ static void refused(void) {
 static void listed(bool holds) {
     cefrodil_shape shape = shape_of(4, 3, most);
     uint64_t list[7] = {99, 99, 99, 99, 99, 99, 99}, count = 98;
-    uint32_t statuses[4];
+    cefrodil_status statuses[4];
     MUST(cefrodil_open_with(&shape, 1, 1, nine, 8, statuses, 4, handles, 2) == CEFRODIL_OK);
     MUST(!holds || cefrodil_hold(one) == CEFRODIL_OK);
     MUST(cefrodil_entries(one, list, 5, &count) == CEFRODIL_BAD_COUNT && count == 3 && list[0] == 99);
@@ -124,7 +124,7 @@ static void listed_widths(void) {
     cefrodil_shape shape = shape_of(4, 3, most);
     for (size_t words = 1; words <= 8; words++) {
         uint64_t entries[18], list[18] = {0}, count;
-        uint32_t statuses[2];
+        cefrodil_status statuses[2];
         for (size_t i = 0; i < 18; i++) {
             entries[i] = 100 + i;
         }

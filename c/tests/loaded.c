@@ -36,7 +36,7 @@ static void finds(cefrodil_handle *handle, size_t count, size_t put) {
 
 /* The first `put` of `count` entries are put, and the others have this status. No lookup comes before those that find them. */
 static void loads(cefrodil_shape shape, size_t count, size_t put, uint32_t others) {
-    uint32_t statuses[11];
+    cefrodil_status statuses[11];
     for (size_t i = 0; i < 11; i++) {
         statuses[i] = 99;
     }
@@ -53,7 +53,7 @@ static void loads(cefrodil_shape shape, size_t count, size_t put, uint32_t other
 static void left_between(void) {
     const uint64_t entries[8] = {0, 10, 4, 11, OTHER, 20, 4 + OTHER, 21};
     const uint32_t expected[4] = {CEFRODIL_OK, CEFRODIL_NO_ITEM, CEFRODIL_OK, CEFRODIL_NO_ITEM};
-    uint32_t statuses[4] = {99, 99, 99, 99};
+    cefrodil_status statuses[4] = {99, 99, 99, 99};
     cefrodil_shape shape = shape_of(4, 1, most);
     MUST(cefrodil_open_with(&shape, 2, 1, entries, 8, statuses, 4, handles, 2) == CEFRODIL_OK);
     for (size_t i = 0; i < 4; i++) {
@@ -68,7 +68,7 @@ static void left_between(void) {
 static void twice(void) {
     const uint64_t entries[9] = {5, 50, 51, 6, 60, 61, 5, 52, 53};
     uint64_t value[2] = {0, 0};
-    uint32_t statuses[3] = {99, 99, 99};
+    cefrodil_status statuses[3] = {99, 99, 99};
     cefrodil_shape shape = shape_of(4, 2, most);
     MUST(cefrodil_open_with(&shape, 4, 2, entries, 9, statuses, 3, handles, 2) == CEFRODIL_OK);
     MUST(statuses[0] == CEFRODIL_OK && statuses[1] == CEFRODIL_OK && statuses[2] == CEFRODIL_OK);
@@ -94,7 +94,7 @@ static void has_all(cefrodil_handle *handle, size_t words) {
  * the old cache, and writes nothing that the new one has not. */
 static void grows(size_t words) {
     static uint64_t entries[9 * KEYS], list[9 * KEYS];
-    static uint32_t statuses[KEYS];
+    static cefrodil_status statuses[KEYS];
     cefrodil_handle larger[2] = {CEFRODIL_EMPTY, CEFRODIL_EMPTY};
     uint64_t count = 98;
     cefrodil_shape shape;

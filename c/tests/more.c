@@ -13,7 +13,7 @@ static cefrodil_reply reply;
 static const uint64_t entries[18] = {1, 10, 11, 12, 13, 14, 15, 16, 17};
 
 static void opened_with_one_entry(uint32_t shards, size_t words) {
-    uint32_t status = 99;
+    cefrodil_status status = CEFRODIL_BUSY;
     MUST(cefrodil_open_with(&shape, shards, words, entries, 1 + words, &status, 1, handles, 2) == CEFRODIL_OK && status == CEFRODIL_OK);
 }
 
