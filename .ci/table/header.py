@@ -24,19 +24,18 @@ def names_of(call):
     return [name for parameter in call.parameters for name in (parameter.name, parameter.length) if name]
 
 
-def prefix_of(call, own=''):
-    checked = '' if 'unchecked' in call.marks else 'CEFRODIL_CHECKED '
-    return f'{checked}{own} cefrodil_status '
+def exported(call, name, parameters, tail):
+    mark = 'CEFRODIL_NO_NULL' if 'unchecked' in call.marks else 'CEFRODIL_CALL'
+    return filled(f'{mark} cefrodil_status cefrodil_{name}(', parameters, tail)
 
 
 def prototype(call):
     if 'number' in call.marks:
         return [f'uint32_t cefrodil_{call.name}(void);']
-    head = f'{prefix_of(call, "CEFRODIL_NO_NULL")}cefrodil_{call.name}('
     if 'series' not in call.marks:
-        return filled(head, parameters_of(call), ');')
+        return exported(call, call.name, parameters_of(call), ');')
     series = f'CEFRODIL_OF_SERIES(cefrodil_{call.name});'
-    lines = filled(head, parameters_of(call), ')')
+    lines = exported(call, call.name, parameters_of(call), ')')
     if len(lines[-1]) + 1 + len(series) <= 140:
         return lines[:-1] + [f'{lines[-1]} {series}']
     return [*lines, '    ' + series]
@@ -63,14 +62,14 @@ def at_widths(calls, _):
     lines = []
     for call in calls:
         for width in WIDTHS if call.widths else ():
-            head = f'{prefix_of(call, "CEFRODIL_NO_NULL")}cefrodil_{call.name}_{width}('
-            lines += filled(head, parameters_of(call, call.value.length), ');')
+            lines += exported(call, f'{call.name}_{width}', parameters_of(call, call.value.length), ');')
     return lines
 
 
 def opened(call, name, own):
     """The first line of the header's own function of a call."""
-    return filled(f'{prefix_of(call, own)}cefrodil_{name}(', parameters_of(call), ') {', WIDEST)
+    checked = '' if 'unchecked' in call.marks else 'CEFRODIL_CHECKED '
+    return filled(f'{checked}{own} cefrodil_status cefrodil_{name}(', parameters_of(call), ') {', WIDEST)
 
 
 def wrapper_name(call):
