@@ -18,6 +18,8 @@ PASSED = {'handle': 'handle', 'words': 'words', 'old_words': 'words', 'value_wor
 # What a test in C++ passes for a parameter.
 IN_CXX = {'key': '1', 'since': '1', 'tries': '1', 'value': '{1}', 'keys': 'nullptr, 0', 'values': 'nullptr', 'answers': 'nullptr',
           'moment': 'number', 'len': 'number', 'capacity': 'number', 'entries': 'list', 'handles': '1, handles'}
+# What a test in Rust passes.
+IN_RUST = {'key': '7', 'since': '1', 'tries': '3', 'value': '&[71]'}
 
 
 def row_of(row, calls):
@@ -98,6 +100,16 @@ def methods(calls, _):
             if method and not method.in_rust_alone:
                 rows[method.unchecked].append(f'{kind}, {method.name}, ({in_cxx(call)})')
     return macro('EACH_METHOD', rows[False]) + macro('EACH_UNCHECKED_METHOD', rows[True])
+
+
+def tries(calls, _):
+    """The methods of Rust that try for a turn."""
+    lines = []
+    for call in calls:
+        if call.handle and {'turn', 'write'} & {*call.marks}:
+            passed = (IN_RUST.get(own.name) for own in call.parameters[1:] if not own.way == 'mut')
+            lines.append(f'    ("{call.handle.name}", |handle| is_held(handle.{call.handle.name}({", ".join(filter(None, passed))}))),')
+    return lines
 
 
 def texts(statuses, _):
