@@ -64,6 +64,9 @@ def statuses(table, before):
     """The statuses, each with the comment above it, which is written by hand. One without a comment has the table's."""
     comments = dict(reversed(pair) for pair in re.findall(r'((?:^/// .*\n)+)pub const (\w+): u32 = ', before, re.M))
     known = [status for status in table if status.name != 'PROCESSOR']
-    parts = [f'{comments.get(in_rattle(status.name)) or f"/// {status.says}.{chr(10)}"}pub const {in_rattle(status.name)}: u32 = {status.number};\n'
-             for status in known]
+    parts = []
+    for status in known:
+        says = status.says or status.text
+        comment = comments.get(in_rattle(status.name), f'/// {says[0].upper()}{says[1:]}.\n')
+        parts.append(f'{comment}pub const {in_rattle(status.name)}: u32 = {status.number};\n')
     return before[:before.index('\n') + 1] + '\n' + '\n'.join(parts)

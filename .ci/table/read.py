@@ -122,7 +122,9 @@ def calls():
 
 def statuses():
     found = []
-    for number, (name, text, errors, says) in enumerate(rows(STATUSES, 4)):
+    for number, (written, name, text, errors, says) in enumerate(rows(STATUSES, 5)):
+        if written != str(number):
+            raise Wrong(f'{STATUSES}: {name} has the number {written}, and comes after {number - 1}')
         pairs = [tuple(error.rstrip('*').split('::')) for error in errors.split()]
         own = {pair for pair, error in zip(pairs, errors.split()) if error.endswith('*')}
         found.append(Status(number, name, text, pairs, own, says))
