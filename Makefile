@@ -10,7 +10,10 @@ try:	## replays a script by mcstep, without proofs
 	cd crates/mcstep && rt try < stdin
 
 quick:	## the checks that take a second each
-	.ci/shelves && .ci/readme && .ci/definitions && .ci/versions && .ci/plays && .ci/edits
+	.ci/shelves && .ci/readme && .ci/definitions && .ci/versions && .ci/plays && .ci/edits && .ci/calls && .ci/prototypes
+
+calls:	## writes what each language declares of the table c/calls.txt
+	.ci/calls --write
 
 gate:	## all proofs and tests, in a clean clone of what is committed
 	rm -rf out/gate && git clone --quiet . out/gate && cd out/gate && .ci/run
@@ -39,4 +42,4 @@ bench:	## measures, and writes the tables of PERFORMANCE and README, on an idle 
 install:	## unpacks the release into PREFIX (/usr/local)
 	c/unpack $(DESTDIR)$(PREFIX)
 
-.PHONY: help try quick gate lib test-c test-rust test-server models mutants bench install
+.PHONY: help try quick calls gate lib test-c test-rust test-server models mutants bench install

@@ -44,6 +44,6 @@ GUARDED(shape_for_items, (uint32_t items, uint32_t shards, cefrodil_shape *shape
 GUARDED(open, (const cefrodil_shape *shape, uint32_t shards, size_t words, cefrodil_handle *handles, size_t count),
         (shape, shards, words, handles, count))
 GUARDED(open_with,
-        (const cefrodil_shape *shape, uint32_t shards, size_t words, const uint64_t *entries, size_t entry_words, uint32_t *statuses,
+        (const cefrodil_shape *shape, uint32_t shards, size_t words, const uint64_t *entries, size_t entry_words, cefrodil_status *statuses,
          size_t status_count, cefrodil_handle *handles, size_t count),
         (shape, shards, words, entries, entry_words, statuses, status_count, handles, count))

@@ -28,7 +28,7 @@ static uint64_t number(cefrodil_status (*call)(cefrodil_handle *, uint64_t *), c
 
 /* Opens a cache for `items` items with these entries, by a handle that holds. False if one of them finds no place in it. */
 static bool opens(cefrodil_handle *handle, uint64_t items, const uint64_t *entries, uint64_t count) {
-    uint32_t *statuses = (uint32_t *)memory((count + 1) * sizeof *statuses);
+    cefrodil_status *statuses = (cefrodil_status *)memory((count + 1) * sizeof *statuses);
     cefrodil_shape shape;
     bool all = true;
     must(cefrodil_shape_for_items((uint32_t)items, 1, &shape), "shape");

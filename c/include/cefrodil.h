@@ -58,6 +58,9 @@
 #define CEFRODIL_NO_NULL
 #endif
 
+/* An export of which both are true. */
+#define CEFRODIL_CALL CEFRODIL_CHECKED CEFRODIL_NO_NULL
+
 /* The name by which a linker finds a call that a program makes first: cefrodil_open of 0.3 is cefrodil_open_0_3 there. So what was compiled with
  * the header of another series (the version without the patch) does not link. */
 #define CEFRODIL_OF_SERIES(call) __asm__(#call "_" CEFRODIL_DIGITS(CEFRODIL_VERSION_MAJOR) "_" CEFRODIL_DIGITS(CEFRODIL_VERSION_MINOR))
@@ -146,22 +149,24 @@ CEFRODIL_SAME_SIZE(sizeof(cefrodil_put_answer) == 40, "as the library lays it ou
 
 /* The status that a call returns. After any status but OK, no key and no value was changed by the call. */
 typedef enum cefrodil_status {
-    CEFRODIL_OK = 0,          /* done: found, put, removed, opened or closed */
-    CEFRODIL_ABSENT = 1,      /* the key is not there */
-    CEFRODIL_BUSY = 2,        /* changes spoiled every try of the lookup; says nothing about the table */
-    CEFRODIL_NO_PATH = 3,     /* both buckets of the key are full, and no moves of up to `depth` keys free a slot; if frequent, take more buckets */
-    CEFRODIL_ALL_RECENT = 4,  /* the table is full, and a key to evict was not found: the put looked at each item twice, and lookups had used it
-                               * again. Put again, or leave the key uncached. Frequent only if the items are few; only recency bits changed */
-    CEFRODIL_SPENT = 5,       /* the write could exceed the `limit` of the shape: open a new cache. 2^62 takes centuries */
-    CEFRODIL_CHANGED = 6,     /* the key's last put was another one, at `since` */
-    CEFRODIL_HELD = 7,        /* a try for a turn did not win, or another call takes spare handles; nothing was done */
-    CEFRODIL_CLOSED = 8,      /* the handle is not open */
-    CEFRODIL_HOLDS = 9,       /* the handle holds the turns already */
-    CEFRODIL_WIDTH = 10,      /* values of this cache have another number of words */
-    CEFRODIL_IN_USE = 11,     /* a handle that was to be opened is open already */
-    CEFRODIL_NO_MEMORY = 12,  /* out of memory */
-    CEFRODIL_BAD_WORDS = 13,  /* a value must have 1 to 8 words */
-    CEFRODIL_BAD_MIX = 14,    /* BAD_MIX to BAD_LIMIT: the first field of the shape, in this order, out of range */
+    /* .ci/calls: statuses */
+    CEFRODIL_OK = 0,           /* done: found, put, removed, opened or closed */
+    CEFRODIL_ABSENT = 1,       /* the key is not there */
+    CEFRODIL_BUSY = 2,         /* changes spoiled every try of the lookup; says nothing about the table */
+    CEFRODIL_NO_PATH = 3,      /* both buckets of the key are full, and no moves of up to `depth` keys free a slot; if frequent, take more buckets
+                                * */
+    CEFRODIL_ALL_RECENT = 4,   /* the table is full, and a key to evict was not found: the put looked at each item twice, and lookups had used it
+                                * again. Put again, or leave the key uncached. Frequent only if the items are few; only recency bits changed */
+    CEFRODIL_SPENT = 5,        /* the write could exceed the `limit` of the shape: open a new cache. 2^62 takes centuries */
+    CEFRODIL_CHANGED = 6,      /* the key's last put was another one, at `since` */
+    CEFRODIL_HELD = 7,         /* a try for a turn did not win, or another call takes spare handles; nothing was done */
+    CEFRODIL_CLOSED = 8,       /* the handle is not open */
+    CEFRODIL_HOLDS = 9,        /* the handle holds the turns already */
+    CEFRODIL_WIDTH = 10,       /* values of this cache have another number of words */
+    CEFRODIL_IN_USE = 11,      /* a handle that was to be opened is open already */
+    CEFRODIL_NO_MEMORY = 12,   /* out of memory */
+    CEFRODIL_BAD_WORDS = 13,   /* a value must have 1 to 8 words */
+    CEFRODIL_BAD_MIX = 14,     /* BAD_MIX to BAD_LIMIT: the first field of the shape, in this order, out of range */
     CEFRODIL_BAD_BUCKETS = 15,
     CEFRODIL_BAD_ITEMS = 16,
     CEFRODIL_BAD_STRIPES = 17,
@@ -175,9 +180,13 @@ typedef enum cefrodil_status {
     CEFRODIL_PRESENT = 25,     /* the key is there; its last put was at `since` */
     CEFRODIL_HOLDS_NOT = 26,   /* the handle holds no turns */
     CEFRODIL_PROCESSOR = 27    /* the processor is older than x86-64-v2: it can run no cache */
+    /* .ci/calls: end */
 } cefrodil_status;
 
 CEFRODIL_SAME_SIZE(sizeof(cefrodil_status) == 4, "as the library returns it: compile without -fshort-enums");
+
+/* Where this header has a mark of .ci/calls, a program of its repository writes it, up to the next `end`: what is no comment here. */
+/* .ci/calls: prototypes */
 
 /* The version of the archive. Compare it with CEFRODIL_VERSION. */
 uint32_t cefrodil_version(void);
@@ -185,7 +194,7 @@ uint32_t cefrodil_version(void);
 /* Fills in the shape of each of `shards` shards that hold `items` items together. One shard has room for just these. Each of several gets its
  * mean share and five standard deviations more, because the hash gives some shards more keys than others.
  * OK, BAD_SHARDS, or BAD_ITEMS: no items, or more than 3,774,873 in a shard. Unless OK, the shape is unchanged. */
-CEFRODIL_CHECKED CEFRODIL_NO_NULL cefrodil_status cefrodil_shape_for_items(uint32_t items, uint32_t shards, cefrodil_shape *shape)
+CEFRODIL_CALL cefrodil_status cefrodil_shape_for_items(uint32_t items, uint32_t shards, cefrodil_shape *shape)
     CEFRODIL_OF_SERIES(cefrodil_shape_for_items);
 
 /* Opens a cache of `shards` shards, each a table of this shape, for values of `words` words. Each of `count` handles becomes a handle of
@@ -193,8 +202,8 @@ CEFRODIL_CHECKED CEFRODIL_NO_NULL cefrodil_status cefrodil_shape_for_items(uint3
  * OK: all these handles are open. IN_USE: one of them was open before; nothing was done. Otherwise returns the first error
  * that applies, in this order: BAD_WORDS, BAD_MIX, BAD_SHARDS, BAD_BUCKETS to BAD_LIMIT, BAD_HANDLES, NO_MEMORY. No handle is open, and
  * nothing leaks. */
-CEFRODIL_CHECKED CEFRODIL_NO_NULL cefrodil_status cefrodil_open(const cefrodil_shape *shape, uint32_t shards, size_t words,
-                                                                cefrodil_handle *handles, size_t count) CEFRODIL_OF_SERIES(cefrodil_open);
+CEFRODIL_CALL cefrodil_status cefrodil_open(const cefrodil_shape *shape, uint32_t shards, size_t words, cefrodil_handle *handles,
+                                            size_t count) CEFRODIL_OF_SERIES(cefrodil_open);
 
 /* Opens a cache like cefrodil_open and puts `status_count` entries, in order, each in its key's shard. No entry evicts another. A key
  * that is listed twice is put twice. An entry is its key, then the words of its value, so `entry_words` must be `status_count` times
@@ -203,44 +212,40 @@ CEFRODIL_CHECKED CEFRODIL_NO_NULL cefrodil_status cefrodil_open(const cefrodil_s
  * moves lead to an empty slot for its key; NO_ITEM, if every item is in use. So a full table gives NO_PATH or NO_ITEM. These puts are
  * the first changes of the shards, and every handle finds the entries from its first lookup on. Other statuses are those of
  * cefrodil_open, and BAD_COUNT, right after BAD_WORDS, if `entry_words` does not match. Then `statuses` is unchanged. */
-CEFRODIL_CHECKED CEFRODIL_NO_NULL cefrodil_status cefrodil_open_with(const cefrodil_shape *shape, uint32_t shards, size_t words,
-                                                                     const uint64_t *entries, size_t entry_words, uint32_t *statuses,
-                                                                     size_t status_count, cefrodil_handle *handles, size_t count)
-    CEFRODIL_OF_SERIES(cefrodil_open_with);
+CEFRODIL_CALL cefrodil_status cefrodil_open_with(const cefrodil_shape *shape, uint32_t shards, size_t words, const uint64_t *entries,
+                                                 size_t entry_words, cefrodil_status *statuses, size_t status_count,
+                                                 cefrodil_handle *handles, size_t count) CEFRODIL_OF_SERIES(cefrodil_open_with);
 
 /* Opens `count` more handles of the cache that `handle` is of. It needs no turn, so `handle` or another handle may hold them. A cache is
  * opened with 64 spare handles, or as many as 1,024 in all allow. A spare handle that was given out is used up, also after it is closed.
  * OK: they are open. IN_USE: one of `handles` was open before. CLOSED: `handle` is not open. BAD_HANDLES: `count` is 0, or more than there
  * are to spare. HELD: another call takes spare handles at the same moment. NO_MEMORY: some spare handles may be used up. Unless OK, none of
  * `handles` was opened. */
-CEFRODIL_CHECKED CEFRODIL_NO_NULL cefrodil_status cefrodil_more(cefrodil_handle *handle, cefrodil_handle *handles, size_t count);
+CEFRODIL_CALL cefrodil_status cefrodil_more(cefrodil_handle *handle, cefrodil_handle *handles, size_t count);
 
 /* Looks a key up. By a handle that holds the turns it is never busy.
  * OK: `value`, `at` and `since` are set. ABSENT: `at` is set. BUSY: ask again, or treat it as a miss. If a thread stops in the middle of
  * a change, lookups in the stripe that it changes are busy until it continues.
  * CLOSED, WIDTH. `value` is written only with OK. `reply` may be null. */
-CEFRODIL_CHECKED CEFRODIL_NO_NULL cefrodil_status cefrodil_get(cefrodil_handle *handle, uint64_t key, uint64_t *value, size_t words,
-                                                               cefrodil_reply *reply);
+CEFRODIL_CALL cefrodil_status cefrodil_get(cefrodil_handle *handle, uint64_t key, uint64_t *value, size_t words, cefrodil_reply *reply);
 
 /* Looks `key_count` keys up. Equivalent to calling cefrodil_get for each key in order. `values` has one value after the other,
  * so `value_words` must be `key_count` times the words of a value.
  * OK: answer i is that of key i; value i was written if its status is OK, and is unchanged otherwise.
  * CLOSED; BAD_COUNT: `answer_count` is not `key_count`; WIDTH: `value_words` does not match. With these nothing is written. */
-CEFRODIL_CHECKED CEFRODIL_NO_NULL cefrodil_status cefrodil_get_many(cefrodil_handle *handle, const uint64_t *keys, size_t key_count,
-                                                                    uint64_t *values, size_t value_words, cefrodil_answer *answers,
-                                                                    size_t answer_count);
+CEFRODIL_CALL cefrodil_status cefrodil_get_many(cefrodil_handle *handle, const uint64_t *keys, size_t key_count, uint64_t *values,
+                                                size_t value_words, cefrodil_answer *answers, size_t answer_count);
 
 /* Like cefrodil_get. If the lookup is busy, it tries once for the turn of the key's shard. With the turn nothing disturbs the lookup, so it
  * is not busy. BUSY: that try did not win. */
-CEFRODIL_CHECKED CEFRODIL_NO_NULL cefrodil_status cefrodil_get_or_turn(cefrodil_handle *handle, uint64_t key, uint64_t *value, size_t words,
-                                                                       cefrodil_reply *reply);
+CEFRODIL_CALL cefrodil_status cefrodil_get_or_turn(cefrodil_handle *handle, uint64_t key, uint64_t *value, size_t words,
+                                                   cefrodil_reply *reply);
 
 /* Looks a key up in a turn, for which it tries once. It doesn't count as a use of the key, so it is for reports and decisions, not for
  * reads.
  * OK, ABSENT: as for cefrodil_get. The answer was true during the turn. HELD: the try did not win. CLOSED, WIDTH. Unless OK, `value` is
  * unchanged. */
-CEFRODIL_CHECKED CEFRODIL_NO_NULL cefrodil_status cefrodil_peek(cefrodil_handle *handle, uint64_t key, uint64_t *value, size_t words,
-                                                                cefrodil_reply *reply);
+CEFRODIL_CALL cefrodil_status cefrodil_peek(cefrodil_handle *handle, uint64_t key, uint64_t *value, size_t words, cefrodil_reply *reply);
 
 /* Each write tries once for the turn of its key's shard, unless the handle holds the turns. HELD: the try did not win, and nothing was
  * changed but the reply, so a value that should be removed is still there. Try again, or note the key.
@@ -248,80 +253,77 @@ CEFRODIL_CHECKED CEFRODIL_NO_NULL cefrodil_status cefrodil_peek(cefrodil_handle 
  * Puts a key with this value. A new key evicts another one if its shard is full, which has `items` keys then.
  * OK: `at`, `put` and `moves` are set, and with PUT_EVICTED `evicted`. NO_PATH or ALL_RECENT: the key is absent, and was not put. SPENT: it
  * was not put, and an earlier value stays. HELD, CLOSED, WIDTH. */
-CEFRODIL_CHECKED CEFRODIL_NO_NULL cefrodil_status cefrodil_put(cefrodil_handle *handle, uint64_t key, const uint64_t *value, size_t words,
-                                                               cefrodil_reply *reply);
+CEFRODIL_CALL cefrodil_status cefrodil_put(cefrodil_handle *handle, uint64_t key, const uint64_t *value, size_t words,
+                                           cefrodil_reply *reply);
 
 /* Overwrites the value of a key if its last put was at `since`, as a lookup of the key returned it.
  * OK: `at` is set, and `put` is PUT_RENEWED. ABSENT: `at` is set. CHANGED: `since` is that of the key's last put.
  * SPENT, HELD, CLOSED, WIDTH. */
-CEFRODIL_CHECKED CEFRODIL_NO_NULL cefrodil_status cefrodil_put_if(cefrodil_handle *handle, uint64_t key, uint64_t since,
-                                                                  const uint64_t *value, size_t words, cefrodil_reply *reply);
+CEFRODIL_CALL cefrodil_status cefrodil_put_if(cefrodil_handle *handle, uint64_t key, uint64_t since, const uint64_t *value, size_t words,
+                                              cefrodil_reply *reply);
 
 /* Puts a key only if it is absent. Evicts as cefrodil_put does.
  * OK: as in cefrodil_put; `put` is never PUT_RENEWED. PRESENT: `since` is that of the key's last put, and the key counts as used.
  * NO_PATH, ALL_RECENT or SPENT: the key is absent, and was not put. HELD, CLOSED, WIDTH. */
-CEFRODIL_CHECKED CEFRODIL_NO_NULL cefrodil_status cefrodil_put_if_absent(cefrodil_handle *handle, uint64_t key, const uint64_t *value,
-                                                                         size_t words, cefrodil_reply *reply);
+CEFRODIL_CALL cefrodil_status cefrodil_put_if_absent(cefrodil_handle *handle, uint64_t key, const uint64_t *value, size_t words,
+                                                     cefrodil_reply *reply);
 
 /* Removes a key.
  * OK and ABSENT: `at` is set. SPENT, HELD, CLOSED. */
-CEFRODIL_CHECKED CEFRODIL_NO_NULL cefrodil_status cefrodil_remove(cefrodil_handle *handle, uint64_t key, cefrodil_reply *reply);
+CEFRODIL_CALL cefrodil_status cefrodil_remove(cefrodil_handle *handle, uint64_t key, cefrodil_reply *reply);
 
 /* Puts `key_count` keys. Equivalent to calling cefrodil_put for each key in order, so it tries once for each key. If you put held keys
  * again, their puts come last. `values` has one value after the other, so `value_words` must be `key_count` times the words of a value.
  * OK: answer i is that of key i. CLOSED; BAD_COUNT: `answer_count` is not `key_count`; WIDTH: `value_words` does not match. With these
  * nothing was done, and nothing is written. */
-CEFRODIL_CHECKED CEFRODIL_NO_NULL cefrodil_status cefrodil_put_many(cefrodil_handle *handle, const uint64_t *keys, size_t key_count,
-                                                                    const uint64_t *values, size_t value_words,
-                                                                    cefrodil_put_answer *answers, size_t answer_count);
+CEFRODIL_CALL cefrodil_status cefrodil_put_many(cefrodil_handle *handle, const uint64_t *keys, size_t key_count, const uint64_t *values,
+                                                size_t value_words, cefrodil_put_answer *answers, size_t answer_count);
 
 /* Like cefrodil_put, but tries up to `tries` times for the turn, at least once, one try after the other without a pause. HELD: none of
  * them won. */
-CEFRODIL_CHECKED CEFRODIL_NO_NULL cefrodil_status cefrodil_put_within(cefrodil_handle *handle, uint32_t tries, uint64_t key,
-                                                                      const uint64_t *value, size_t words, cefrodil_reply *reply);
+CEFRODIL_CALL cefrodil_status cefrodil_put_within(cefrodil_handle *handle, uint32_t tries, uint64_t key, const uint64_t *value,
+                                                  size_t words, cefrodil_reply *reply);
 
 /* Like cefrodil_put, cefrodil_put_if and cefrodil_remove, and they also return the entry that gives way: the key's earlier one, or that
  * of the key that was evicted. So a program that keeps objects behind the cache knows which to free. `old` has `old_words` words.
  * OK: as for cefrodil_put, cefrodil_put_if and cefrodil_remove. If an entry gave way, `old` is its value, and `since` the `at` of its last
  * put. If a new key evicted none, `old` is unchanged, and `since` is 0. WIDTH: `words` or `old_words` does not match.
  * Other statuses are theirs. Unless OK, `old` is unchanged. */
-CEFRODIL_CHECKED CEFRODIL_NO_NULL cefrodil_status cefrodil_swap(cefrodil_handle *handle, uint64_t key, const uint64_t *value, size_t words,
-                                                                uint64_t *old, size_t old_words, cefrodil_reply *reply);
-CEFRODIL_CHECKED CEFRODIL_NO_NULL cefrodil_status cefrodil_swap_if(cefrodil_handle *handle, uint64_t key, uint64_t since,
-                                                                   const uint64_t *value, size_t words, uint64_t *old,
-                                                                   size_t old_words, cefrodil_reply *reply);
-CEFRODIL_CHECKED CEFRODIL_NO_NULL cefrodil_status cefrodil_take(cefrodil_handle *handle, uint64_t key, uint64_t *old,
-                                                                size_t old_words, cefrodil_reply *reply);
+CEFRODIL_CALL cefrodil_status cefrodil_swap(cefrodil_handle *handle, uint64_t key, const uint64_t *value, size_t words, uint64_t *old,
+                                            size_t old_words, cefrodil_reply *reply);
+CEFRODIL_CALL cefrodil_status cefrodil_swap_if(cefrodil_handle *handle, uint64_t key, uint64_t since, const uint64_t *value, size_t words,
+                                               uint64_t *old, size_t old_words, cefrodil_reply *reply);
+CEFRODIL_CALL cefrodil_status cefrodil_take(cefrodil_handle *handle, uint64_t key, uint64_t *old, size_t old_words, cefrodil_reply *reply);
 
 /* Like cefrodil_take, if the key's last put was at `since`, as a lookup of the key returned it. So a program that found an entry too old
  * removes that one, and no later one.
  * OK: as for cefrodil_take. CHANGED: `since` is that of the key's last put. Otherwise ABSENT, SPENT, HELD, CLOSED, WIDTH. */
-CEFRODIL_CHECKED CEFRODIL_NO_NULL cefrodil_status cefrodil_take_if(cefrodil_handle *handle, uint64_t key, uint64_t since, uint64_t *old,
-                                                                   size_t old_words, cefrodil_reply *reply);
+CEFRODIL_CALL cefrodil_status cefrodil_take_if(cefrodil_handle *handle, uint64_t key, uint64_t since, uint64_t *old, size_t old_words,
+                                               cefrodil_reply *reply);
 
 /* Takes the turn of every shard and holds them: nobody else writes until cefrodil_release or cefrodil_close. It takes no memory. Meanwhile
  * the writes of this handle are never HELD, its lookups never BUSY, and each list and number that it asks for is of one moment of all
  * shards. Other handles look up as before, and their writes are HELD.
  * OK: it holds. HELD: one of the tries did not win; it holds none. CLOSED. HOLDS: it holds already. */
-CEFRODIL_CHECKED CEFRODIL_NO_NULL cefrodil_status cefrodil_hold(cefrodil_handle *handle);
+CEFRODIL_CALL cefrodil_status cefrodil_hold(cefrodil_handle *handle);
 
 /* Gives the turn of every shard back. The handle has seen all that it wrote.
  * OK. CLOSED. HOLDS_NOT: it holds none. */
-CEFRODIL_CHECKED CEFRODIL_NO_NULL cefrodil_status cefrodil_release(cefrodil_handle *handle);
+CEFRODIL_CALL cefrodil_status cefrodil_release(cefrodil_handle *handle);
 
 /* The number of changes to all shards at one moment, or 2^64 - 1 if there were more. A handle that doesn't hold the turns tries once for
  * every turn, as cefrodil_hold does, and gives them back.
  * OK: the number is set. HELD: one of the tries did not win. CLOSED. Unless OK, the number is unchanged. */
-CEFRODIL_CHECKED CEFRODIL_NO_NULL cefrodil_status cefrodil_moment(cefrodil_handle *handle, uint64_t *moment);
+CEFRODIL_CALL cefrodil_status cefrodil_moment(cefrodil_handle *handle, uint64_t *moment);
 
 /* The number of keys. It does not look through the tables. A handle that doesn't hold the turns tries once for the turn of each shard in
  * order, and adds up numbers of several moments.
  * OK: `len` is set. HELD: a try did not win. CLOSED. Unless OK, `len` is unchanged. */
-CEFRODIL_CHECKED CEFRODIL_NO_NULL cefrodil_status cefrodil_len(cefrodil_handle *handle, uint64_t *len);
+CEFRODIL_CALL cefrodil_status cefrodil_len(cefrodil_handle *handle, uint64_t *len);
 
 /* The number of keys that the cache holds at most: the `items` of its shape, times the shards.
  * OK: the number is set. CLOSED: it is unchanged. */
-CEFRODIL_CHECKED CEFRODIL_NO_NULL cefrodil_status cefrodil_capacity(cefrodil_handle *handle, uint64_t *capacity);
+CEFRODIL_CALL cefrodil_status cefrodil_capacity(cefrodil_handle *handle, uint64_t *capacity);
 
 /* Lists each key with its value. A handle that doesn't hold the turns tries once for the turn of each shard in order, so it lists each
  * shard at a moment of its own. An entry is its key, then the words of its value, as cefrodil_open_with takes it. Other handles may look
@@ -330,72 +332,50 @@ CEFRODIL_CHECKED CEFRODIL_NO_NULL cefrodil_status cefrodil_capacity(cefrodil_han
  * OK: the first `count` entries of `entries` are written. BAD_COUNT: there are `count` entries, and `entry_words` is less than
  * `count` times (1 + the words of a value). HELD: a try did not win. CLOSED, NO_MEMORY. Unless OK, `entries` is unchanged. With
  * other statuses than OK and BAD_COUNT, `count` is unchanged too. */
-CEFRODIL_CHECKED CEFRODIL_NO_NULL cefrodil_status cefrodil_entries(cefrodil_handle *handle, uint64_t *entries, size_t entry_words,
-                                                                   uint64_t *count);
+CEFRODIL_CALL cefrodil_status cefrodil_entries(cefrodil_handle *handle, uint64_t *entries, size_t entry_words, uint64_t *count);
 
 /* Lists each entry with its stamp, at one moment of all shards. A handle that doesn't hold the turns tries once for every turn, as
  * cefrodil_moment does. An entry is its key, then the words of its value, then its stamp: the `since` of the key. So it has 2 + the words
  * of a value. A stamp counts the changes of the key's shard.
  * Returns what cefrodil_entries returns, also for 0 as `entry_words`. */
-CEFRODIL_CHECKED CEFRODIL_NO_NULL cefrodil_status cefrodil_stamped_entries(cefrodil_handle *handle, uint64_t *entries, size_t entry_words,
-                                                                           uint64_t *count);
+CEFRODIL_CALL cefrodil_status cefrodil_stamped_entries(cefrodil_handle *handle, uint64_t *entries, size_t entry_words, uint64_t *count);
 
 /* Closes a handle, in any thread. One that holds the turns gives them back. Closing the last handle frees the cache.
  * OK, or CLOSED if it was not open, or null. In a forked child, CLOSED if the parent opened it: then nothing is freed. The handle is closed
  * afterwards. */
 CEFRODIL_NO_NULL cefrodil_status cefrodil_close(cefrodil_handle *handle);
 
+/* .ci/calls: end */
+
 /* cefrodil_get, cefrodil_put and cefrodil_get_or_turn for values of 1 to 8 words. An optimizing compiler calls these where `words` is a
  * constant, because they take fewer instructions. A program has no need to name them: each returns what the call without a number
  * returns. */
-CEFRODIL_CHECKED CEFRODIL_NO_NULL cefrodil_status cefrodil_get_1(cefrodil_handle *handle, uint64_t key, uint64_t *value,
-                                                                 cefrodil_reply *reply);
-CEFRODIL_CHECKED CEFRODIL_NO_NULL cefrodil_status cefrodil_get_2(cefrodil_handle *handle, uint64_t key, uint64_t *value,
-                                                                 cefrodil_reply *reply);
-CEFRODIL_CHECKED CEFRODIL_NO_NULL cefrodil_status cefrodil_get_3(cefrodil_handle *handle, uint64_t key, uint64_t *value,
-                                                                 cefrodil_reply *reply);
-CEFRODIL_CHECKED CEFRODIL_NO_NULL cefrodil_status cefrodil_get_4(cefrodil_handle *handle, uint64_t key, uint64_t *value,
-                                                                 cefrodil_reply *reply);
-CEFRODIL_CHECKED CEFRODIL_NO_NULL cefrodil_status cefrodil_get_5(cefrodil_handle *handle, uint64_t key, uint64_t *value,
-                                                                 cefrodil_reply *reply);
-CEFRODIL_CHECKED CEFRODIL_NO_NULL cefrodil_status cefrodil_get_6(cefrodil_handle *handle, uint64_t key, uint64_t *value,
-                                                                 cefrodil_reply *reply);
-CEFRODIL_CHECKED CEFRODIL_NO_NULL cefrodil_status cefrodil_get_7(cefrodil_handle *handle, uint64_t key, uint64_t *value,
-                                                                 cefrodil_reply *reply);
-CEFRODIL_CHECKED CEFRODIL_NO_NULL cefrodil_status cefrodil_get_8(cefrodil_handle *handle, uint64_t key, uint64_t *value,
-                                                                 cefrodil_reply *reply);
-CEFRODIL_CHECKED CEFRODIL_NO_NULL cefrodil_status cefrodil_put_1(cefrodil_handle *handle, uint64_t key, const uint64_t *value,
-                                                                 cefrodil_reply *reply);
-CEFRODIL_CHECKED CEFRODIL_NO_NULL cefrodil_status cefrodil_put_2(cefrodil_handle *handle, uint64_t key, const uint64_t *value,
-                                                                 cefrodil_reply *reply);
-CEFRODIL_CHECKED CEFRODIL_NO_NULL cefrodil_status cefrodil_put_3(cefrodil_handle *handle, uint64_t key, const uint64_t *value,
-                                                                 cefrodil_reply *reply);
-CEFRODIL_CHECKED CEFRODIL_NO_NULL cefrodil_status cefrodil_put_4(cefrodil_handle *handle, uint64_t key, const uint64_t *value,
-                                                                 cefrodil_reply *reply);
-CEFRODIL_CHECKED CEFRODIL_NO_NULL cefrodil_status cefrodil_put_5(cefrodil_handle *handle, uint64_t key, const uint64_t *value,
-                                                                 cefrodil_reply *reply);
-CEFRODIL_CHECKED CEFRODIL_NO_NULL cefrodil_status cefrodil_put_6(cefrodil_handle *handle, uint64_t key, const uint64_t *value,
-                                                                 cefrodil_reply *reply);
-CEFRODIL_CHECKED CEFRODIL_NO_NULL cefrodil_status cefrodil_put_7(cefrodil_handle *handle, uint64_t key, const uint64_t *value,
-                                                                 cefrodil_reply *reply);
-CEFRODIL_CHECKED CEFRODIL_NO_NULL cefrodil_status cefrodil_put_8(cefrodil_handle *handle, uint64_t key, const uint64_t *value,
-                                                                 cefrodil_reply *reply);
-CEFRODIL_CHECKED CEFRODIL_NO_NULL cefrodil_status cefrodil_get_or_turn_1(cefrodil_handle *handle, uint64_t key, uint64_t *value,
-                                                                         cefrodil_reply *reply);
-CEFRODIL_CHECKED CEFRODIL_NO_NULL cefrodil_status cefrodil_get_or_turn_2(cefrodil_handle *handle, uint64_t key, uint64_t *value,
-                                                                         cefrodil_reply *reply);
-CEFRODIL_CHECKED CEFRODIL_NO_NULL cefrodil_status cefrodil_get_or_turn_3(cefrodil_handle *handle, uint64_t key, uint64_t *value,
-                                                                         cefrodil_reply *reply);
-CEFRODIL_CHECKED CEFRODIL_NO_NULL cefrodil_status cefrodil_get_or_turn_4(cefrodil_handle *handle, uint64_t key, uint64_t *value,
-                                                                         cefrodil_reply *reply);
-CEFRODIL_CHECKED CEFRODIL_NO_NULL cefrodil_status cefrodil_get_or_turn_5(cefrodil_handle *handle, uint64_t key, uint64_t *value,
-                                                                         cefrodil_reply *reply);
-CEFRODIL_CHECKED CEFRODIL_NO_NULL cefrodil_status cefrodil_get_or_turn_6(cefrodil_handle *handle, uint64_t key, uint64_t *value,
-                                                                         cefrodil_reply *reply);
-CEFRODIL_CHECKED CEFRODIL_NO_NULL cefrodil_status cefrodil_get_or_turn_7(cefrodil_handle *handle, uint64_t key, uint64_t *value,
-                                                                         cefrodil_reply *reply);
-CEFRODIL_CHECKED CEFRODIL_NO_NULL cefrodil_status cefrodil_get_or_turn_8(cefrodil_handle *handle, uint64_t key, uint64_t *value,
-                                                                         cefrodil_reply *reply);
+/* .ci/calls: widths */
+CEFRODIL_CALL cefrodil_status cefrodil_get_1(cefrodil_handle *handle, uint64_t key, uint64_t *value, cefrodil_reply *reply);
+CEFRODIL_CALL cefrodil_status cefrodil_get_2(cefrodil_handle *handle, uint64_t key, uint64_t *value, cefrodil_reply *reply);
+CEFRODIL_CALL cefrodil_status cefrodil_get_3(cefrodil_handle *handle, uint64_t key, uint64_t *value, cefrodil_reply *reply);
+CEFRODIL_CALL cefrodil_status cefrodil_get_4(cefrodil_handle *handle, uint64_t key, uint64_t *value, cefrodil_reply *reply);
+CEFRODIL_CALL cefrodil_status cefrodil_get_5(cefrodil_handle *handle, uint64_t key, uint64_t *value, cefrodil_reply *reply);
+CEFRODIL_CALL cefrodil_status cefrodil_get_6(cefrodil_handle *handle, uint64_t key, uint64_t *value, cefrodil_reply *reply);
+CEFRODIL_CALL cefrodil_status cefrodil_get_7(cefrodil_handle *handle, uint64_t key, uint64_t *value, cefrodil_reply *reply);
+CEFRODIL_CALL cefrodil_status cefrodil_get_8(cefrodil_handle *handle, uint64_t key, uint64_t *value, cefrodil_reply *reply);
+CEFRODIL_CALL cefrodil_status cefrodil_get_or_turn_1(cefrodil_handle *handle, uint64_t key, uint64_t *value, cefrodil_reply *reply);
+CEFRODIL_CALL cefrodil_status cefrodil_get_or_turn_2(cefrodil_handle *handle, uint64_t key, uint64_t *value, cefrodil_reply *reply);
+CEFRODIL_CALL cefrodil_status cefrodil_get_or_turn_3(cefrodil_handle *handle, uint64_t key, uint64_t *value, cefrodil_reply *reply);
+CEFRODIL_CALL cefrodil_status cefrodil_get_or_turn_4(cefrodil_handle *handle, uint64_t key, uint64_t *value, cefrodil_reply *reply);
+CEFRODIL_CALL cefrodil_status cefrodil_get_or_turn_5(cefrodil_handle *handle, uint64_t key, uint64_t *value, cefrodil_reply *reply);
+CEFRODIL_CALL cefrodil_status cefrodil_get_or_turn_6(cefrodil_handle *handle, uint64_t key, uint64_t *value, cefrodil_reply *reply);
+CEFRODIL_CALL cefrodil_status cefrodil_get_or_turn_7(cefrodil_handle *handle, uint64_t key, uint64_t *value, cefrodil_reply *reply);
+CEFRODIL_CALL cefrodil_status cefrodil_get_or_turn_8(cefrodil_handle *handle, uint64_t key, uint64_t *value, cefrodil_reply *reply);
+CEFRODIL_CALL cefrodil_status cefrodil_put_1(cefrodil_handle *handle, uint64_t key, const uint64_t *value, cefrodil_reply *reply);
+CEFRODIL_CALL cefrodil_status cefrodil_put_2(cefrodil_handle *handle, uint64_t key, const uint64_t *value, cefrodil_reply *reply);
+CEFRODIL_CALL cefrodil_status cefrodil_put_3(cefrodil_handle *handle, uint64_t key, const uint64_t *value, cefrodil_reply *reply);
+CEFRODIL_CALL cefrodil_status cefrodil_put_4(cefrodil_handle *handle, uint64_t key, const uint64_t *value, cefrodil_reply *reply);
+CEFRODIL_CALL cefrodil_status cefrodil_put_5(cefrodil_handle *handle, uint64_t key, const uint64_t *value, cefrodil_reply *reply);
+CEFRODIL_CALL cefrodil_status cefrodil_put_6(cefrodil_handle *handle, uint64_t key, const uint64_t *value, cefrodil_reply *reply);
+CEFRODIL_CALL cefrodil_status cefrodil_put_7(cefrodil_handle *handle, uint64_t key, const uint64_t *value, cefrodil_reply *reply);
+CEFRODIL_CALL cefrodil_status cefrodil_put_8(cefrodil_handle *handle, uint64_t key, const uint64_t *value, cefrodil_reply *reply);
+/* .ci/calls: end */
 
 #ifdef __cplusplus
 }
@@ -430,9 +410,25 @@ CEFRODIL_CHECKED CEFRODIL_INLINE cefrodil_handle cefrodil_move(cefrodil_handle *
     return taken;
 }
 
+/* Counts the entries for a list that has no room, and makes no list. */
+CEFRODIL_CHECKED CEFRODIL_INLINE cefrodil_status cefrodil_list_without_room(cefrodil_handle *handle, uint64_t *count) {
+    const cefrodil_status status = cefrodil_len(handle, count);
+    return status == CEFRODIL_OK && *count != 0 ? CEFRODIL_BAD_COUNT : status;
+}
+
 /* The exports take no null pointer. The functions from here on take one where that is allowed, and three of them call the export for
  * the width of a value if that is a constant. The macros behind them give them the names of the exports. A program that defines
  * CEFRODIL_NO_MACROS has none of these: then no pointer may be null, and cefrodil_get_of_width and so on are called by their own names. */
+/* .ci/calls: wrappers */
+CEFRODIL_CHECKED CEFRODIL_INLINE cefrodil_status cefrodil_open_with_or_none(const cefrodil_shape *shape, uint32_t shards, size_t words,
+                                                                            const uint64_t *entries, size_t entry_words, cefrodil_status *statuses,
+                                                                            size_t status_count, cefrodil_handle *handles, size_t count) {
+    uint64_t no_entries = 0;
+    cefrodil_status no_statuses;
+    return cefrodil_open_with(shape, shards, words, entry_words != 0 ? entries : &no_entries, entry_words,
+                              status_count != 0 ? statuses : &no_statuses, status_count, handles, count);
+}
+
 CEFRODIL_CHECKED CEFRODIL_INLINED(nonnull(1, 3)) cefrodil_status cefrodil_get_of_width(cefrodil_handle *handle, uint64_t key, uint64_t *value,
                                                                                        size_t words, cefrodil_reply *reply) {
     cefrodil_reply unread;
@@ -450,20 +446,13 @@ CEFRODIL_CHECKED CEFRODIL_INLINED(nonnull(1, 3)) cefrodil_status cefrodil_get_of
     }
 }
 
-CEFRODIL_CHECKED CEFRODIL_INLINED(nonnull) cefrodil_status cefrodil_put_of_width(cefrodil_handle *handle, uint64_t key,
-                                                                                 const uint64_t *value, size_t words,
-                                                                                 cefrodil_reply *reply) {
-    switch (CEFRODIL_KNOWN(words) ? words : 0) {
-    case 1: return cefrodil_put_1(handle, key, value, reply);
-    case 2: return cefrodil_put_2(handle, key, value, reply);
-    case 3: return cefrodil_put_3(handle, key, value, reply);
-    case 4: return cefrodil_put_4(handle, key, value, reply);
-    case 5: return cefrodil_put_5(handle, key, value, reply);
-    case 6: return cefrodil_put_6(handle, key, value, reply);
-    case 7: return cefrodil_put_7(handle, key, value, reply);
-    case 8: return cefrodil_put_8(handle, key, value, reply);
-    default: return cefrodil_put(handle, key, value, words, reply);
-    }
+CEFRODIL_CHECKED CEFRODIL_INLINE cefrodil_status cefrodil_get_many_or_none(cefrodil_handle *handle, const uint64_t *keys, size_t key_count,
+                                                                           uint64_t *values, size_t value_words, cefrodil_answer *answers,
+                                                                           size_t answer_count) {
+    uint64_t no_keys = 0, no_values = 0;
+    cefrodil_answer no_answers;
+    return cefrodil_get_many(handle, key_count != 0 ? keys : &no_keys, key_count, value_words != 0 ? values : &no_values, value_words,
+                             answer_count != 0 ? answers : &no_answers, answer_count);
 }
 
 CEFRODIL_CHECKED CEFRODIL_INLINED(nonnull) cefrodil_status cefrodil_get_or_turn_of_width(cefrodil_handle *handle, uint64_t key, uint64_t *value,
@@ -481,42 +470,28 @@ CEFRODIL_CHECKED CEFRODIL_INLINED(nonnull) cefrodil_status cefrodil_get_or_turn_
     }
 }
 
-CEFRODIL_INLINE cefrodil_status cefrodil_close_unless_null(cefrodil_handle *handle) {
-    return handle ? cefrodil_close(handle) : CEFRODIL_CLOSED;
-}
-
-CEFRODIL_CHECKED CEFRODIL_INLINE cefrodil_status cefrodil_open_with_or_none(const cefrodil_shape *shape, uint32_t shards, size_t words,
-                                                                            const uint64_t *entries, size_t entry_words,
-                                                                            uint32_t *statuses, size_t status_count,
-                                                                            cefrodil_handle *handles, size_t count) {
-    uint64_t no_entry = 0;
-    uint32_t no_status = 0;
-    return cefrodil_open_with(shape, shards, words, entry_words != 0 ? entries : &no_entry, entry_words,
-                              status_count != 0 ? statuses : &no_status, status_count, handles, count);
-}
-
-CEFRODIL_CHECKED CEFRODIL_INLINE cefrodil_status cefrodil_get_many_or_none(cefrodil_handle *handle, const uint64_t *keys, size_t key_count,
-                                                                           uint64_t *values, size_t value_words, cefrodil_answer *answers,
-                                                                           size_t answer_count) {
-    uint64_t no_key = 0, no_value = 0;
-    cefrodil_answer no_answer;
-    return cefrodil_get_many(handle, key_count != 0 ? keys : &no_key, key_count, value_words != 0 ? values : &no_value, value_words,
-                             answer_count != 0 ? answers : &no_answer, answer_count);
+CEFRODIL_CHECKED CEFRODIL_INLINED(nonnull) cefrodil_status cefrodil_put_of_width(cefrodil_handle *handle, uint64_t key, const uint64_t *value,
+                                                                                 size_t words, cefrodil_reply *reply) {
+    switch (CEFRODIL_KNOWN(words) ? words : 0) {
+    case 1: return cefrodil_put_1(handle, key, value, reply);
+    case 2: return cefrodil_put_2(handle, key, value, reply);
+    case 3: return cefrodil_put_3(handle, key, value, reply);
+    case 4: return cefrodil_put_4(handle, key, value, reply);
+    case 5: return cefrodil_put_5(handle, key, value, reply);
+    case 6: return cefrodil_put_6(handle, key, value, reply);
+    case 7: return cefrodil_put_7(handle, key, value, reply);
+    case 8: return cefrodil_put_8(handle, key, value, reply);
+    default: return cefrodil_put(handle, key, value, words, reply);
+    }
 }
 
 CEFRODIL_CHECKED CEFRODIL_INLINE cefrodil_status cefrodil_put_many_or_none(cefrodil_handle *handle, const uint64_t *keys, size_t key_count,
-                                                                           const uint64_t *values, size_t value_words,
-                                                                           cefrodil_put_answer *answers, size_t answer_count) {
-    uint64_t no_key = 0, no_value = 0;
-    cefrodil_put_answer no_answer;
-    return cefrodil_put_many(handle, key_count != 0 ? keys : &no_key, key_count, value_words != 0 ? values : &no_value, value_words,
-                             answer_count != 0 ? answers : &no_answer, answer_count);
-}
-
-/* Counts the entries for a list that has no room, and makes no list. */
-CEFRODIL_CHECKED CEFRODIL_INLINE cefrodil_status cefrodil_list_without_room(cefrodil_handle *handle, uint64_t *count) {
-    const cefrodil_status status = cefrodil_len(handle, count);
-    return status == CEFRODIL_OK && *count != 0 ? CEFRODIL_BAD_COUNT : status;
+                                                                           const uint64_t *values, size_t value_words, cefrodil_put_answer *answers,
+                                                                           size_t answer_count) {
+    uint64_t no_keys = 0, no_values = 0;
+    cefrodil_put_answer no_answers;
+    return cefrodil_put_many(handle, key_count != 0 ? keys : &no_keys, key_count, value_words != 0 ? values : &no_values, value_words,
+                             answer_count != 0 ? answers : &no_answers, answer_count);
 }
 
 CEFRODIL_CHECKED CEFRODIL_INLINE cefrodil_status cefrodil_entries_or_none(cefrodil_handle *handle, uint64_t *entries, size_t entry_words,
@@ -524,26 +499,34 @@ CEFRODIL_CHECKED CEFRODIL_INLINE cefrodil_status cefrodil_entries_or_none(cefrod
     return entry_words != 0 ? cefrodil_entries(handle, entries, entry_words, count) : cefrodil_list_without_room(handle, count);
 }
 
-CEFRODIL_CHECKED CEFRODIL_INLINE cefrodil_status cefrodil_stamped_entries_or_none(cefrodil_handle *handle, uint64_t *entries,
-                                                                                  size_t entry_words, uint64_t *count) {
+CEFRODIL_CHECKED CEFRODIL_INLINE cefrodil_status cefrodil_stamped_entries_or_none(cefrodil_handle *handle, uint64_t *entries, size_t entry_words,
+                                                                                  uint64_t *count) {
     return entry_words != 0 ? cefrodil_stamped_entries(handle, entries, entry_words, count) : cefrodil_list_without_room(handle, count);
 }
 
+CEFRODIL_INLINE cefrodil_status cefrodil_close_unless_null(cefrodil_handle *handle) {
+    return handle ? cefrodil_close(handle) : CEFRODIL_CLOSED;
+}
+/* .ci/calls: end */
+
 #ifndef CEFRODIL_NO_MACROS
-#define cefrodil_get cefrodil_get_of_width
-#define cefrodil_put cefrodil_put_of_width
-#define cefrodil_get_or_turn cefrodil_get_or_turn_of_width
-#define cefrodil_close cefrodil_close_unless_null
+/* .ci/calls: macros */
 #define cefrodil_open_with cefrodil_open_with_or_none
+#define cefrodil_get cefrodil_get_of_width
 #define cefrodil_get_many cefrodil_get_many_or_none
+#define cefrodil_get_or_turn cefrodil_get_or_turn_of_width
+#define cefrodil_put cefrodil_put_of_width
 #define cefrodil_put_many cefrodil_put_many_or_none
 #define cefrodil_entries cefrodil_entries_or_none
 #define cefrodil_stamped_entries cefrodil_stamped_entries_or_none
+#define cefrodil_close cefrodil_close_unless_null
+/* .ci/calls: end */
 #endif
 
 /* The text of a status. Both libraries have it as a call of this name, too. */
 CEFRODIL_INLINE const char *cefrodil_text(uint32_t status) {
     switch (status) {
+    /* .ci/calls: texts */
     case CEFRODIL_OK: return "ok";
     case CEFRODIL_ABSENT: return "absent";
     case CEFRODIL_BUSY: return "busy";
@@ -572,6 +555,7 @@ CEFRODIL_INLINE const char *cefrodil_text(uint32_t status) {
     case CEFRODIL_PRESENT: return "present";
     case CEFRODIL_HOLDS_NOT: return "the handle holds no turns";
     case CEFRODIL_PROCESSOR: return "the processor is older than x86-64-v2";
+    /* .ci/calls: end */
     default: return "no status";
     }
 }

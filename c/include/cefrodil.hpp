@@ -99,6 +99,10 @@ template <size_t Words> class Handle : public inside::Calls<Words> {
     // Takes the turn of every shard, and holds them until `writing` ends. Meanwhile this handle is closed, and has to stay where it is: so declare
     // `writing` after it. held: one of the tries did not win. in_use: `writing` holds already. Unless ok, nothing was done.
     [[nodiscard]] Status hold(Writing<Words> &writing) & noexcept { return writing.begin(*this, this); }
+    // Tries up to `tries` times, at least once, without a pause.
+    [[nodiscard]] Status hold_within(uint32_t tries, Writing<Words> &writing) & noexcept {
+        return this->within(tries, [&writing](Handle &handle) noexcept { return handle.hold(writing); });
+    }
 };
 
 // A guard that holds the turns of all shards. Nobody else writes meanwhile: its writes are never held, its lookups never busy, and each list and

@@ -19,6 +19,7 @@ namespace cefrodil {
 // The statuses of cefrodil.h, and three more. A compiler warns if nobody looks at the status of a call, except that of `close`. `Status::ok` is
 // 0, so compare a status, and never take it for a bool.
 enum class Status : uint32_t {
+    // .ci/calls: statuses
     ok = CEFRODIL_OK,
     absent = CEFRODIL_ABSENT,
     busy = CEFRODIL_BUSY,
@@ -47,6 +48,7 @@ enum class Status : uint32_t {
     present = CEFRODIL_PRESENT,
     holds_not = CEFRODIL_HOLDS_NOT,
     processor = CEFRODIL_PROCESSOR,
+    // .ci/calls: end
     // The program is linked with an archive of another version, whose structs and calls may differ. Nothing was done.
     other_version = 1000,
     // By Filler::fill (cefrodil_filler.hpp): the store may have changed since the value was read. Nothing was put. By map::find_or_compute
@@ -237,7 +239,7 @@ class EntryStatuses {
         raw_.resize(count_);
         told_.resize(count_);
     }
-    uint32_t *raw() noexcept { return raw_.data(); }
+    cefrodil_status *raw() noexcept { return raw_.data(); }
     size_t count() const noexcept { return count_; }
     void move_to(std::vector<Status> &statuses) noexcept {
         for (size_t i = 0; i < count_; i++) {
@@ -248,7 +250,7 @@ class EntryStatuses {
 
   private:
     size_t count_;
-    std::vector<uint32_t> raw_{};
+    std::vector<cefrodil_status> raw_{};
     std::vector<Status> told_{};
 };
 

@@ -34,35 +34,18 @@ template <class Given, class = void> constexpr bool can_be_owned = false;
 template <class Given> constexpr bool can_be_owned<Given, std::void_t<decltype(any<Writing<1>>().own(std::declval<Given>()))>> = true;
 static_assert(can_be_lent<Handle<1> &> && !can_be_lent<Handle<1>> && can_be_owned<Handle<1>> && !can_be_owned<Handle<1> &>);
 
-// No call throws.
-static_assert(noexcept(any<Handle<1>>().get(1)) && noexcept(any<Handle<1>>().get_many(nullptr, 0, nullptr, nullptr)));
-static_assert(noexcept(any<Handle<1>>().capacity(any<uint64_t>())) && noexcept(any<Handle<1>>().close()) && noexcept(any<Handle<1>>().is_open()));
-static_assert(noexcept(any<Handle<1>>().get_or_turn(1)) && noexcept(any<Handle<1>>().try_peek(1)));
-static_assert(noexcept(any<Handle<1>>().try_put(1, {1})) && noexcept(any<Handle<1>>().put_within(1, 1, {1})));
-static_assert(noexcept(any<Handle<1>>().try_put_many(nullptr, 0, nullptr, nullptr)) && noexcept(any<Handle<1>>().try_put_if(1, 1, {1})));
-static_assert(noexcept(any<Handle<1>>().try_put_if_absent(1, {1})) && noexcept(any<Handle<1>>().try_remove(1)));
-static_assert(noexcept(any<Handle<1>>().try_swap(1, {1})) && noexcept(any<Handle<1>>().try_swap_if(1, 1, {1})));
-static_assert(noexcept(any<Handle<1>>().try_take(1)) && noexcept(any<Handle<1>>().try_take_if(1, 1)));
-static_assert(noexcept(any<Handle<1>>().try_len(any<uint64_t>())) && noexcept(any<Handle<1>>().try_moment(any<uint64_t>())));
-static_assert(noexcept(any<Handle<1>>().hold(any<Writing<1>>())) && noexcept(any<Handle<1>>().raw()) && noexcept(any<Handle<1>>().meter()));
+// No call throws, nor do those that no call of C has.
+static_assert(noexcept(any<Handle<1>>().close()) && noexcept(any<Handle<1>>().is_open()) && noexcept(any<Handle<1>>().raw()));
+static_assert(noexcept(any<Handle<1>>().meter()) && noexcept(any<const cefrodil::Meter>().counts()));
 static_assert(noexcept(any<Writing<1>>().own(std::declval<Handle<1>>())) && noexcept(any<Writing<1>>().disown()));
-static_assert(noexcept(any<Writing<1>>().end()));
-static_assert(noexcept(any<Writing<1>>().holds()) && noexcept(any<Writing<1>>().get(1)) && noexcept(any<Writing<1>>().peek(1)));
-static_assert(noexcept(any<Writing<1>>().put(1, {1})) && noexcept(any<Writing<1>>().put_if(1, 1, {1})) && noexcept(any<Writing<1>>().remove(1)));
-static_assert(noexcept(any<Writing<1>>().put_if_absent(1, {1})) && noexcept(any<Writing<1>>().put_many(nullptr, 0, nullptr, nullptr)));
-static_assert(noexcept(any<Writing<1>>().swap(1, {1})) && noexcept(any<Writing<1>>().swap_if(1, 1, {1})));
-static_assert(noexcept(any<Writing<1>>().take(1)) && noexcept(any<Writing<1>>().take_if(1, 1)) && noexcept(any<Writing<1>>().len(any<uint64_t>())));
-static_assert(noexcept(any<Writing<1>>().moment(any<uint64_t>())) && noexcept(any<Writing<1>>().capacity(any<uint64_t>())));
-static_assert(noexcept(any<Handle<1>>().more(1, any<std::vector<Handle<1>>>())) && noexcept(any<Writing<1>>().more(1, any<std::vector<Handle<1>>>())));
-static_assert(noexcept(any<Writing<1>>().meter()) && noexcept(any<Writing<1>>().raw()) && noexcept(any<const cefrodil::Meter>().counts()));
+static_assert(noexcept(any<Handle<1>>().hold_within(1, any<Writing<1>>())) && noexcept(any<Writing<1>>().end()) && noexcept(any<Writing<1>>().holds()));
+static_assert(noexcept(any<Writing<1>>().meter()) && noexcept(any<Writing<1>>().raw()));
 static_assert(std::is_nothrow_default_constructible_v<Handle<1>> && std::is_nothrow_default_constructible_v<Writing<1>>);
 static_assert(noexcept(cefrodil::shape_for_items(1)) && noexcept(cefrodil::text(Status::ok)));
 static_assert(noexcept(cefrodil::to_words(1)) && noexcept(cefrodil::from_words<int>({1})));
-// Openings and lists take memory, and don't throw either.
+// Openings take memory, and don't throw either.
 static_assert(noexcept(cefrodil::open(any<cefrodil_shape>(), 4, 1, any<std::vector<Handle<1>>>())));
 static_assert(noexcept(cefrodil::open_with(any<cefrodil_shape>(), 4, 1, any<Words>(), any<std::vector<Handle<1>>>(), any<std::vector<Status>>())));
-static_assert(noexcept(any<Handle<1>>().try_entries(any<Words>())) && noexcept(any<Handle<1>>().try_stamped_entries(any<Words>())));
-static_assert(noexcept(any<Writing<1>>().entries(any<Words>())) && noexcept(any<Writing<1>>().stamped_entries(any<Words>())));
 
 // One handle writes for good, and others look up.
 static void one_writes(const cefrodil_shape &shape) {

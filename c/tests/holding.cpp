@@ -40,6 +40,22 @@ static void a_holder_writes_and_others_are_held() {
     MUST(one.is_open() && other.try_remove(7).status == Status::ok && one.get(7).status == Status::absent);
 }
 
+// So many tries are made, at least one, and each that does not win is counted.
+static void a_hold_is_tried_again() {
+    Writing<1> writing, another;
+    MUST(handles[0].hold(writing) == Status::ok);
+    const Meter meter = handles[1].meter();
+    for (uint32_t tries = 0; tries <= 5; tries++) {
+        const uint64_t held = meter.counts().held;
+        MUST(handles[1].hold_within(tries, another) == Status::held && !another.holds());
+        MUST(meter.counts().held == held + (tries == 0 ? 1 : tries));
+    }
+    MUST(handles[1].hold_within(3, writing) == Status::in_use);
+    writing.end();
+    const uint64_t held = meter.counts().held;
+    MUST(handles[1].hold_within(3, another) == Status::ok && another.holds() && meter.counts().held == held);
+}
+
 static void it_ends_with_its_scope() {
     {
         Writing<1> writing;
@@ -123,20 +139,8 @@ static void a_handle_asks_for_the_moment() {
     MUST(some[0].try_moment(moment) == Status::closed && moment == 50);
 }
 
-// Without turns a guard does nothing, and says so.
 static void a_guard_without_turns() {
     Writing<1> writing;
-    uint64_t number = 9;
-    std::vector<uint64_t> list{1};
-    cefrodil_put_answer answer{};
-    const std::array<uint64_t, 1> value = {7};
-    MUST(writing.get(1).status == Status::closed && writing.peek(1).status == Status::closed && writing.put(1, value).status == Status::closed);
-    MUST(writing.put_if(1, 1, value).status == Status::closed && writing.put_if_absent(1, value).status == Status::closed);
-    MUST(writing.remove(1).status == Status::closed && writing.put_many(&number, 1, &value, &answer) == Status::closed);
-    MUST(writing.swap(1, value).status == Status::closed && writing.swap_if(1, 1, value).status == Status::closed);
-    MUST(writing.take(1).status == Status::closed && writing.take_if(1, 1).status == Status::closed);
-    MUST(writing.len(number) == Status::closed && writing.moment(number) == Status::closed && writing.capacity(number) == Status::closed);
-    MUST(number == 9 && writing.entries(list) == Status::closed && list.empty() && writing.stamped_entries(list) == Status::closed);
     writing.end();
     MUST(!writing.holds() && !writing.disown().is_open());
 }
@@ -146,6 +150,7 @@ int main() {
     for (uint32_t shards : {1, 4}) {
         opens(shards);
         a_holder_writes_and_others_are_held();
+        a_hold_is_tried_again();
         it_ends_with_its_scope();
         one_takes_the_place_of_another();
         a_handle_is_owned();

@@ -58,7 +58,7 @@ static const struct how plain = {1, false}, loaded = {1, true}, in_shards = {4, 
 
 /* Three entries of 1 to 8 words, and their statuses. */
 static const uint64_t entries[27];
-static uint32_t statuses[3];
+static cefrodil_status statuses[3];
 
 static uint32_t open_one(const cefrodil_shape *shape, size_t words, struct how how) {
     statuses[0] = statuses[1] = statuses[2] = 99;

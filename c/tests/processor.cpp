@@ -15,11 +15,11 @@ static void in_c() {
     cefrodil_handle handles[2] = {CEFRODIL_EMPTY, CEFRODIL_EMPTY}, of_shards = CEFRODIL_EMPTY, loaded = CEFRODIL_EMPTY;
     cefrodil_shape chosen = shape;
     const uint64_t entry[2] = {1, 10};
-    uint32_t told = 99;
+    cefrodil_status told = CEFRODIL_BUSY;
     MUST(is(cefrodil_shape_for_items(1000, 4, &chosen)) && (chosen.items == shape.items) != runs);
     MUST(is(cefrodil_open(&shape, 1, 1, handles, 2)) && handles[0].live_ == runs && handles[1].live_ == runs);
     MUST(is(cefrodil_open(&shape, 4, 1, &of_shards, 1)) && of_shards.live_ == runs);
-    MUST(is(cefrodil_open_with(&shape, 4, 1, entry, 2, &told, 1, &loaded, 1)) && loaded.live_ == runs && told == (runs ? 0 : 99));
+    MUST(is(cefrodil_open_with(&shape, 4, 1, entry, 2, &told, 1, &loaded, 1)) && loaded.live_ == runs && told == (runs ? CEFRODIL_OK : CEFRODIL_BUSY));
     // It comes before what else an opening refuses.
     MUST((cefrodil_open(&shape, 1, 9, handles, 2) == CEFRODIL_PROCESSOR) != runs);
     for (cefrodil_handle *handle : {&handles[0], &handles[1], &of_shards, &loaded}) {

@@ -38,18 +38,13 @@ static inline __attribute__((always_inline)) void serves(size_t words, size_t wr
     MUST(cefrodil_get(one, 5, found, words, NULL) == CEFRODIL_OK && is_found(found, second, words));
 
     MUST(cefrodil_put(one, 5, first, wrong, &reply) == CEFRODIL_WIDTH && reply.at == 0);
-    MUST(cefrodil_put(one, 5, first, unknown(wrong), &reply) == CEFRODIL_WIDTH && reply.at == 0);
     MUST(cefrodil_get(other, 5, found, wrong, &reply) == CEFRODIL_WIDTH && reply.at == 0 && is_found(found, second, words));
-    MUST(cefrodil_get(other, 5, found, unknown(wrong), &reply) == CEFRODIL_WIDTH && is_found(found, second, words));
     MUST(cefrodil_get_or_turn(other, 5, found, wrong, &reply) == CEFRODIL_WIDTH && reply.since == 0 && is_found(found, second, words));
-    MUST(cefrodil_get_or_turn(other, 5, found, unknown(wrong), &reply) == CEFRODIL_WIDTH && is_found(found, second, words));
     MUST(cefrodil_get(one, 5, found, words, &reply) == CEFRODIL_OK && reply.at == 2);
 
     MUST(cefrodil_get_or_turn(&none, 5, found, words, &reply) == CEFRODIL_CLOSED);
-    MUST(cefrodil_get_or_turn(&none, 5, found, unknown(words), &reply) == CEFRODIL_CLOSED);
-    MUST(cefrodil_put(&none, 5, first, words, &reply) == CEFRODIL_CLOSED && cefrodil_put(&none, 5, first, unknown(words), &reply) == CEFRODIL_CLOSED);
-    MUST(cefrodil_get(&none, 5, found, words, &reply) == CEFRODIL_CLOSED);
-    MUST(cefrodil_get(&none, 5, found, unknown(words), &reply) == CEFRODIL_CLOSED && is_found(found, second, words));
+    MUST(cefrodil_put(&none, 5, first, words, &reply) == CEFRODIL_CLOSED);
+    MUST(cefrodil_get(&none, 5, found, words, &reply) == CEFRODIL_CLOSED && is_found(found, second, words));
 }
 
 static void opened(size_t words) {
@@ -71,7 +66,7 @@ static inline __attribute__((always_inline)) void serves_in_each_way(size_t word
     opened(words);
     MUST(cefrodil_hold(other) == CEFRODIL_OK);
     const uint64_t value[8] = {1, 2, 3, 4, 5, 6, 7, 8};
-    MUST(cefrodil_put(one, 5, value, words, &reply) == CEFRODIL_HELD && cefrodil_put(one, 5, value, unknown(words), &reply) == CEFRODIL_HELD);
+    MUST(cefrodil_put(one, 5, value, words, &reply) == CEFRODIL_HELD);
     close_both();
 }
 

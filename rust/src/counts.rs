@@ -1,6 +1,6 @@
 //! What the calls by the handles of a cache came to: counted by handle, and added up.
 use crate::memory::{room, NoMemory, Shared};
-use crate::raw::{self, RawAnswer, RawReply};
+use crate::raw::{self, RawAnswer, RawPut, RawReply};
 use std::fmt::{self, Debug, Formatter, Write};
 use std::iter::successors;
 use std::mem;
@@ -200,6 +200,13 @@ impl Counter {
     pub fn tried(&self, status: u32) {
         if let (Some((line, _)), raw::HELD) = (&self.0, status) {
             line.add(HELD, 1);
+        }
+    }
+
+    /// Counts the answers of a call that puts many keys.
+    pub fn wrote_all(&self, answers: &[RawPut]) {
+        for answer in answers {
+            self.wrote(answer.status, &answer.reply);
         }
     }
 

@@ -2,6 +2,7 @@
 use crate::handle::Handle;
 use crate::memory::NoMemory;
 use crate::raw;
+use crate::reply::not_told;
 use std::error::Error;
 use std::fmt::{self, Display, Formatter};
 
@@ -139,36 +140,85 @@ pub enum TurnError<E> {
     Call(E),
 }
 
-impl OpenError {
-    pub(crate) fn of(status: u32) -> OpenError {
-        match status {
-            raw::PROCESSOR => OpenError::Processor,
-            raw::BAD_SHARDS => OpenError::Shards,
-            raw::BAD_BUCKETS => OpenError::Buckets,
-            raw::BAD_ITEMS => OpenError::Items,
-            raw::BAD_STRIPES => OpenError::Stripes,
-            raw::BAD_DEPTH => OpenError::Depth,
-            raw::BAD_TRIES => OpenError::Tries,
-            raw::BAD_LIMIT => OpenError::Limit,
-            raw::BAD_HANDLES => OpenError::Handles,
-            raw::NO_MEMORY => OpenError::NoMemory,
-            // The width is from 1 to 8 by the type, the mix by its own, and the handles were empty.
-            other => unreachable!("an opening gives no status {other}"),
-        }
+/// What a try for a turn may fail with: [`Held`] or a [`TurnError`]. No other type has this trait.
+pub trait MayBeHeld: sealed::Sealed {
+    /// Whether the try did not win: then nothing was done.
+    fn is_held(&self) -> bool;
+}
+
+mod sealed {
+    pub trait Sealed {}
+    impl Sealed for super::Held {}
+    impl<E> Sealed for super::TurnError<E> {}
+}
+
+impl MayBeHeld for Held {
+    fn is_held(&self) -> bool {
+        true
     }
 }
 
-impl MoreError {
-    pub(crate) fn of(status: u32) -> MoreError {
-        match status {
-            raw::HELD => MoreError::Held,
-            raw::BAD_HANDLES => MoreError::Handles,
-            raw::NO_MEMORY => MoreError::NoMemory,
-            // The handle is open, and the others are empty.
-            other => unreachable!("a call for more handles gives no status {other}"),
-        }
+impl<E> MayBeHeld for TurnError<E> {
+    fn is_held(&self) -> bool {
+        matches!(self, TurnError::Held)
     }
 }
+
+// An error that is a status of the archive: from that, and with its text.
+macro_rules! statuses {
+    ($error:ident $($status:ident => $variant:ident $($text:literal)?,)*) => {
+        impl $error {
+            pub(crate) fn of(status: u32) -> $error {
+                match status {
+                    $(raw::$status => $error::$variant,)*
+                    // By the types, values have 1 to 8 words, mixes are known, and handles are open or empty as they should be.
+                    other => not_told(other),
+                }
+            }
+
+            #[allow(unreachable_patterns)]
+            fn text(self) -> &'static str {
+                match self {
+                    $($($error::$variant => $text,)?)*
+                    _ => unreachable!("an error with a text of its own"),
+                }
+            }
+        }
+    };
+}
+
+// .ci/calls: errors
+statuses! { ListError
+    NO_MEMORY => NoMemory "no memory",
+}
+statuses! { MoreError
+    HELD => Held "held",
+    NO_MEMORY => NoMemory "no memory",
+    BAD_HANDLES => Handles "handles must be from 1 to 1024, and no more than there are to spare",
+}
+statuses! { OpenError
+    NO_MEMORY => NoMemory "no memory",
+    BAD_BUCKETS => Buckets "buckets must be a power of two from 2 to 1048576",
+    BAD_ITEMS => Items "items must be from 1 to four times the buckets",
+    BAD_STRIPES => Stripes "stripes must be a power of two from 1 to 65536",
+    BAD_DEPTH => Depth "depth must be from 0 to 8",
+    BAD_TRIES => Tries "tries must be from 1 to 64",
+    BAD_LIMIT => Limit "limit must be from 0 to 4611686018427387904",
+    BAD_HANDLES => Handles,
+    BAD_SHARDS => Shards "shards must be a power of two from 1 to 256",
+    PROCESSOR => Processor "the processor is older than x86-64-v2",
+}
+statuses! { PutError
+    NO_PATH => NoPath "no path",
+    ALL_RECENT => AllRecent "all recent",
+    SPENT => Spent "spent",
+}
+statuses! { Why
+    NO_PATH => NoPath "no path",
+    SPENT => Spent "spent",
+    NO_ITEM => NoItem "no item",
+}
+// .ci/calls: end
 
 impl From<NoMemory> for MoreError {
     fn from(_: NoMemory) -> MoreError {
@@ -194,18 +244,6 @@ impl<E> From<Held> for TurnError<E> {
     }
 }
 
-impl Why {
-    pub(crate) fn of(status: u32) -> Option<Why> {
-        match status {
-            raw::OK => None,
-            raw::NO_PATH => Some(Why::NoPath),
-            raw::NO_ITEM => Some(Why::NoItem),
-            raw::SPENT => Some(Why::Spent),
-            other => unreachable!("an entry has no status {other}"),
-        }
-    }
-}
-
 // A version as it is written: 200 is 0.2.0.
 fn dotted(version: u32) -> String {
     format!("{}.{}.{}", version / 10_000, version / 100 % 100, version % 100)
@@ -213,53 +251,30 @@ fn dotted(version: u32) -> String {
 
 impl Display for OpenError {
     fn fmt(&self, text: &mut Formatter) -> fmt::Result {
-        text.write_str(match *self {
+        match *self {
             OpenError::Version { archive, crate_version } => {
-                return write!(text, "libcefrodil.a has version {}, and the crate {}", dotted(archive), dotted(crate_version));
+                write!(text, "libcefrodil.a has version {}, and the crate {}", dotted(archive), dotted(crate_version))
             }
-            OpenError::Processor => "the processor is older than x86-64-v2",
-            OpenError::Shards => "shards must be a power of two from 1 to 256",
-            OpenError::Buckets => "buckets must be a power of two from 2 to 1048576",
-            OpenError::Items => "items must be from 1 to four times the buckets",
-            OpenError::Stripes => "stripes must be a power of two from 1 to 65536",
-            OpenError::Depth => "depth must be from 0 to 8",
-            OpenError::Tries => "tries must be from 1 to 64",
-            OpenError::Limit => "limit must be from 0 to 4611686018427387904",
-            OpenError::Handles => "handles must be from 1 to 1024",
-            OpenError::NoMemory => "no memory",
-        })
+            OpenError::Handles => text.write_str("handles must be from 1 to 1024"),
+            other => text.write_str(other.text()),
+        }
     }
 }
 
-impl Display for MoreError {
-    fn fmt(&self, text: &mut Formatter) -> fmt::Result {
-        text.write_str(match self {
-            MoreError::Held => "held",
-            MoreError::Handles => "handles must be from 1 to 1024, and no more than there are to spare",
-            MoreError::NoMemory => "no memory",
-        })
-    }
+// Errors that have the texts of their statuses.
+macro_rules! has_text {
+    ($($error:ident)*) => {
+        $(
+            impl Display for $error {
+                fn fmt(&self, text: &mut Formatter) -> fmt::Result {
+                    text.write_str(self.text())
+                }
+            }
+        )*
+    };
 }
 
-impl Display for PutError {
-    fn fmt(&self, text: &mut Formatter) -> fmt::Result {
-        text.write_str(match self {
-            PutError::NoPath => "no path",
-            PutError::AllRecent => "all recent",
-            PutError::Spent => "spent",
-        })
-    }
-}
-
-impl Display for Why {
-    fn fmt(&self, text: &mut Formatter) -> fmt::Result {
-        text.write_str(match self {
-            Why::NoPath => "no path",
-            Why::NoItem => "no item",
-            Why::Spent => "spent",
-        })
-    }
-}
+has_text!(MoreError PutError Why ListError);
 
 impl Display for PutIfError {
     fn fmt(&self, text: &mut Formatter) -> fmt::Result {
@@ -283,14 +298,6 @@ impl Display for PutIfAbsentError {
 impl Display for Spent {
     fn fmt(&self, text: &mut Formatter) -> fmt::Result {
         text.write_str("spent")
-    }
-}
-
-impl Display for ListError {
-    fn fmt(&self, text: &mut Formatter) -> fmt::Result {
-        text.write_str(match self {
-            ListError::NoMemory => "no memory",
-        })
     }
 }
 

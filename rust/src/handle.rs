@@ -90,13 +90,16 @@ impl<const WORDS: usize> Handle<WORDS> {
     }
 
     /// Tries once for the turn, and with it looks the key up as [`get`](Handle::get) does, but marks nothing: it doesn't count as a use of the
-    /// key. `None`: the try did not win.
-    #[must_use]
-    pub fn try_peek(&mut self, key: u64) -> Option<Reply<WORDS>> {
+    /// key.
+    ///
+    /// # Errors
+    ///
+    /// [`Held`]: the try did not win.
+    pub fn try_peek(&mut self, key: u64) -> Result<Reply<WORDS>, Held> {
         let mut value = [0; WORDS];
         match self.0.peek(key, &mut value) {
-            (raw::HELD, _) => None,
-            told => Some(Reply::of(told, value)),
+            (raw::HELD, _) => Err(Held),
+            told => Ok(Reply::of(told, value)),
         }
     }
 
@@ -204,11 +207,11 @@ impl<const WORDS: usize> Handle<WORDS> {
     ///
     /// # Errors
     ///
-    /// [`TurnError::Held`]: a try for a turn did not win.
-    pub fn try_len(&mut self) -> Result<usize, TurnError<ListError>> {
+    /// [`Held`]: a try for a turn did not win.
+    pub fn try_len(&mut self) -> Result<usize, Held> {
         match self.0.len() {
-            (raw::OK, len) => Ok(len as usize),
-            (status, _) => Err(reply::no_list(status)),
+            (raw::HELD, _) => Err(Held),
+            told => Ok(reply::number(told) as usize),
         }
     }
 

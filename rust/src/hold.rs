@@ -32,7 +32,7 @@ impl<const WORDS: usize> Handle<WORDS> {
     /// # Ok::<(), Box<dyn std::error::Error>>(())
     /// ```
     ///
-    /// While other threads write, it may take many tries. The borrow checker allows such a loop only where the `Writing` is used:
+    /// While other threads write, it may take many tries: see [`hold_within`](Handle::hold_within). To do something else between two tries:
     ///
     /// ```
     /// use cefrodil::{Cache, Held, Shape};
@@ -50,6 +50,38 @@ impl<const WORDS: usize> Handle<WORDS> {
     pub fn hold(&mut self) -> Result<Writing<'_, WORDS>, Held> {
         self.holds()?;
         Ok(Writing(Holder::Lent(&mut self.0)))
+    }
+
+    /// Like [`hold`](Handle::hold), with up to `tries` tries, at least one, one after the other without a pause. A function that returns what
+    /// `hold` returns can't make it again in a loop: the borrow checker takes the first `Writing` to last as long as the last one.
+    ///
+    /// # Errors
+    ///
+    /// [`Held`]: none of the tries got every turn. It holds none.
+    ///
+    /// # Examples
+    ///
+    /// ```
+    /// use cefrodil::{Cache, Handle, Held, Shape, Writing};
+    ///
+    /// fn hold(handle: &mut Handle<1>) -> Result<Writing<'_, 1>, Held> {
+    ///     handle.hold_within(1000)
+    /// }
+    ///
+    /// let mut handles = Cache::<1>::open(&Shape::for_items(1000, 4)?, 4, 2)?;
+    /// let [mine, other] = &mut handles[..] else { unreachable!() };
+    /// hold(mine)?.put(7, &[70])?;
+    /// let _writing = hold(other)?;
+    /// assert_eq!(hold(mine).unwrap_err(), Held);
+    /// # Ok::<(), Box<dyn std::error::Error>>(())
+    /// ```
+    pub fn hold_within(&mut self, tries: u32) -> Result<Writing<'_, WORDS>, Held> {
+        for _ in 1..tries {
+            if self.holds().is_ok() {
+                return Ok(Writing(Holder::Lent(&mut self.0)));
+            }
+        }
+        self.hold()
     }
 
     /// Like [`hold`](Handle::hold), for as long as the program likes. [`Writing::into_handle`] ends it. Dropping what this returns gives the

@@ -33,7 +33,9 @@ mod writing;
 pub use audit::AuditLog;
 pub use cache::{Cache, Opened};
 pub use counts::{prometheus, Counts, Meter};
-pub use error::{Held, ListError, MoreError, NotHeld, OpenError, PutError, PutIfAbsentError, PutIfError, Spent, TurnError, Why};
+pub use error::{
+    Held, ListError, MayBeHeld, MoreError, NotHeld, OpenError, PutError, PutIfAbsentError, PutIfError, Spent, TurnError, Why,
+};
 pub use filler::{FillError, Filler, Ticket, Tickets};
 pub use handle::Handle;
 pub use open_handle::version;

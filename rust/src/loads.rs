@@ -27,7 +27,8 @@ impl Loads {
     /// The index of each entry that was left out, and the reason.
     pub fn left(&self) -> Result<Vec<(usize, Why)>, OpenError> {
         let mut left = room(self.statuses.iter().filter(|status| **status != raw::OK).count())?;
-        left.extend(self.statuses.iter().enumerate().filter_map(|(index, status)| Some((index, Why::of(*status)?))));
+        let statuses = self.statuses.iter().enumerate().filter(|(_, status)| **status != raw::OK);
+        left.extend(statuses.map(|(index, status)| (index, Why::of(*status))));
         Ok(left)
     }
 }

@@ -13,16 +13,6 @@ use std::ptr;
 
 pub mod openings;
 
-// A call for values of this width, by the export for it. Another width has none.
-macro_rules! of_width {
-    ($words:expr, ($handle:expr, $key:expr, $value:expr, $reply:expr), $any:path, { $($number:literal $one:ident),* }) => {
-        match $words {
-            $($number => raw::$one($handle, $key, $value, $reply),)*
-            _ => $any($handle, $key, $value, $words, $reply),
-        }
-    };
-}
-
 /// A handle, open or empty, and its counter. Dropping it closes it.
 pub struct OpenHandle {
     raw: RawHandle,
@@ -89,198 +79,174 @@ impl OpenHandle {
     pub fn meter(&self) -> Meter {
         self.counter.meter()
     }
+}
 
+// SAFETY, of each call here: by `&mut`, no other call uses the handle. Every pointer is of a borrow that lasts for the call. The length of an array
+// is passed with it, or is the width that the call's name says.
+#[rustfmt::skip]
+impl OpenHandle {
+    // .ci/calls: calls
     #[inline]
     pub fn get<const WORDS: usize>(&mut self, key: u64, value: &mut [u64; WORDS]) -> (u32, RawReply) {
         let mut reply = RawReply::default();
-        let (handle, words, told) = (&mut self.raw, value.as_mut_ptr(), &mut reply);
-        // SAFETY: every pointer is a borrow that lasts for the call, and `value` has as many words as the export's name or the call says.
-        let status = unsafe {
-            of_width!(WORDS, (handle, key, words, told), raw::cefrodil_get, {
-                1 cefrodil_get_1, 2 cefrodil_get_2, 3 cefrodil_get_3, 4 cefrodil_get_4,
-                5 cefrodil_get_5, 6 cefrodil_get_6, 7 cefrodil_get_7, 8 cefrodil_get_8
-            })
-        };
+        let status = unsafe { raw::get_of_width!(WORDS, &mut self.raw, key, value.as_mut_ptr(), &mut reply) };
         self.counter.looked(status);
         (status, reply)
     }
 
     pub fn get_many(&mut self, keys: &[u64], values: &mut [u64], answers: &mut [RawAnswer]) -> u32 {
-        let (value_words, answer_count) = (values.len(), answers.len());
-        // SAFETY: as in `get`; the lengths of the three arrays are passed with them.
-        let status = unsafe {
-            raw::cefrodil_get_many(
-                &mut self.raw,
-                keys.as_ptr(),
-                keys.len(),
-                values.as_mut_ptr(),
-                value_words,
-                answers.as_mut_ptr(),
-                answer_count,
-            )
-        };
-        if status == raw::OK {
-            self.counter.looked_up(answers);
-        }
+        let key_count = keys.len();
+        let value_words = values.len();
+        let answer_count = answers.len();
+        let status = unsafe { raw::cefrodil_get_many(&mut self.raw, keys.as_ptr(), key_count, values.as_mut_ptr(), value_words, answers.as_mut_ptr(), answer_count) };
+        if status == raw::OK { self.counter.looked_up(answers); }
         status
     }
 
+    #[inline]
     pub fn get_or_turn<const WORDS: usize>(&mut self, key: u64, value: &mut [u64; WORDS]) -> (u32, RawReply) {
         let mut reply = RawReply::default();
-        let (handle, words, told) = (&mut self.raw, value.as_mut_ptr(), &mut reply);
-        // SAFETY: as in `get`.
-        let status = unsafe {
-            of_width!(WORDS, (handle, key, words, told), raw::cefrodil_get_or_turn, {
-                1 cefrodil_get_or_turn_1, 2 cefrodil_get_or_turn_2, 3 cefrodil_get_or_turn_3, 4 cefrodil_get_or_turn_4,
-                5 cefrodil_get_or_turn_5, 6 cefrodil_get_or_turn_6, 7 cefrodil_get_or_turn_7, 8 cefrodil_get_or_turn_8
-            })
-        };
+        let status = unsafe { raw::get_or_turn_of_width!(WORDS, &mut self.raw, key, value.as_mut_ptr(), &mut reply) };
         self.counter.looked(status);
         (status, reply)
     }
 
-    // It is no use of the key, so it isn't counted as a lookup.
     pub fn peek(&mut self, key: u64, value: &mut [u64]) -> (u32, RawReply) {
         let mut reply = RawReply::default();
-        // SAFETY: as in `get`.
-        let status = unsafe { raw::cefrodil_peek(&mut self.raw, key, value.as_mut_ptr(), value.len(), &mut reply) };
+        let words = value.len();
+        let status = unsafe { raw::cefrodil_peek(&mut self.raw, key, value.as_mut_ptr(), words, &mut reply) };
         self.counter.tried(status);
         (status, reply)
     }
 
-    // A write by this call of the archive, which is counted.
-    fn write(&mut self, call: impl FnOnce(*mut RawHandle, *mut RawReply) -> u32) -> (u32, RawReply) {
+    pub fn put<const WORDS: usize>(&mut self, key: u64, value: &[u64; WORDS]) -> (u32, RawReply) {
         let mut reply = RawReply::default();
-        let status = call(&mut self.raw, &mut reply);
+        let status = unsafe { raw::put_of_width!(WORDS, &mut self.raw, key, value.as_ptr(), &mut reply) };
         self.counter.wrote(status, &reply);
         (status, reply)
     }
 
-    pub fn put<const WORDS: usize>(&mut self, key: u64, value: &[u64; WORDS]) -> (u32, RawReply) {
-        let words = value.as_ptr();
-        // SAFETY: as in `get`.
-        self.write(|handle, reply| unsafe {
-            of_width!(WORDS, (handle, key, words, reply), raw::cefrodil_put, {
-                1 cefrodil_put_1, 2 cefrodil_put_2, 3 cefrodil_put_3, 4 cefrodil_put_4,
-                5 cefrodil_put_5, 6 cefrodil_put_6, 7 cefrodil_put_7, 8 cefrodil_put_8
-            })
-        })
-    }
-
-    pub fn put_many(&mut self, keys: &[u64], values: &[u64], answers: &mut [RawPut]) -> u32 {
-        let answer_count = answers.len();
-        // SAFETY: as in `get`; the lengths of the three arrays are passed with them.
-        let status = unsafe {
-            raw::cefrodil_put_many(
-                &mut self.raw,
-                keys.as_ptr(),
-                keys.len(),
-                values.as_ptr(),
-                values.len(),
-                answers.as_mut_ptr(),
-                answer_count,
-            )
-        };
-        if status == raw::OK {
-            for answer in answers {
-                self.counter.wrote(answer.status, &answer.reply);
-            }
-        }
-        status
-    }
-
     pub fn put_if(&mut self, key: u64, since: u64, value: &[u64]) -> (u32, RawReply) {
-        // SAFETY: as in `get`.
-        self.write(|handle, reply| unsafe { raw::cefrodil_put_if(handle, key, since, value.as_ptr(), value.len(), reply) })
+        let mut reply = RawReply::default();
+        let words = value.len();
+        let status = unsafe { raw::cefrodil_put_if(&mut self.raw, key, since, value.as_ptr(), words, &mut reply) };
+        self.counter.wrote(status, &reply);
+        (status, reply)
     }
 
     pub fn put_if_absent(&mut self, key: u64, value: &[u64]) -> (u32, RawReply) {
-        // SAFETY: as in `get`.
-        self.write(|handle, reply| unsafe { raw::cefrodil_put_if_absent(handle, key, value.as_ptr(), value.len(), reply) })
+        let mut reply = RawReply::default();
+        let words = value.len();
+        let status = unsafe { raw::cefrodil_put_if_absent(&mut self.raw, key, value.as_ptr(), words, &mut reply) };
+        self.counter.wrote(status, &reply);
+        (status, reply)
     }
 
     pub fn remove(&mut self, key: u64) -> (u32, RawReply) {
-        // SAFETY: as in `get`.
-        self.write(|handle, reply| unsafe { raw::cefrodil_remove(handle, key, reply) })
+        let mut reply = RawReply::default();
+        let status = unsafe { raw::cefrodil_remove(&mut self.raw, key, &mut reply) };
+        self.counter.wrote(status, &reply);
+        (status, reply)
+    }
+
+    pub fn put_many(&mut self, keys: &[u64], values: &[u64], answers: &mut [RawPut]) -> u32 {
+        let key_count = keys.len();
+        let value_words = values.len();
+        let answer_count = answers.len();
+        let status = unsafe { raw::cefrodil_put_many(&mut self.raw, keys.as_ptr(), key_count, values.as_ptr(), value_words, answers.as_mut_ptr(), answer_count) };
+        if status == raw::OK { self.counter.wrote_all(answers); }
+        status
     }
 
     pub fn put_within(&mut self, tries: u32, key: u64, value: &[u64]) -> (u32, RawReply) {
-        // SAFETY: as in `get`.
-        self.write(|handle, reply| unsafe { raw::cefrodil_put_within(handle, tries, key, value.as_ptr(), value.len(), reply) })
+        let mut reply = RawReply::default();
+        let words = value.len();
+        let status = unsafe { raw::cefrodil_put_within(&mut self.raw, tries, key, value.as_ptr(), words, &mut reply) };
+        self.counter.wrote(status, &reply);
+        (status, reply)
     }
 
     pub fn swap(&mut self, key: u64, value: &[u64], old: &mut [u64]) -> (u32, RawReply) {
-        let (value_words, old_words) = (value.len(), old.len());
-        // SAFETY: as in `get`; the lengths of the two arrays are passed with them.
-        self.write(|handle, reply| unsafe {
-            raw::cefrodil_swap(handle, key, value.as_ptr(), value_words, old.as_mut_ptr(), old_words, reply)
-        })
+        let mut reply = RawReply::default();
+        let words = value.len();
+        let old_words = old.len();
+        let status = unsafe { raw::cefrodil_swap(&mut self.raw, key, value.as_ptr(), words, old.as_mut_ptr(), old_words, &mut reply) };
+        self.counter.wrote(status, &reply);
+        (status, reply)
     }
 
     pub fn swap_if(&mut self, key: u64, since: u64, value: &[u64], old: &mut [u64]) -> (u32, RawReply) {
-        let (value_words, old_words) = (value.len(), old.len());
-        // SAFETY: as in `swap`.
-        self.write(|handle, reply| unsafe {
-            raw::cefrodil_swap_if(handle, key, since, value.as_ptr(), value_words, old.as_mut_ptr(), old_words, reply)
-        })
+        let mut reply = RawReply::default();
+        let words = value.len();
+        let old_words = old.len();
+        let status = unsafe { raw::cefrodil_swap_if(&mut self.raw, key, since, value.as_ptr(), words, old.as_mut_ptr(), old_words, &mut reply) };
+        self.counter.wrote(status, &reply);
+        (status, reply)
     }
 
     pub fn take(&mut self, key: u64, old: &mut [u64]) -> (u32, RawReply) {
-        // SAFETY: as in `get`.
-        self.write(|handle, reply| unsafe { raw::cefrodil_take(handle, key, old.as_mut_ptr(), old.len(), reply) })
+        let mut reply = RawReply::default();
+        let old_words = old.len();
+        let status = unsafe { raw::cefrodil_take(&mut self.raw, key, old.as_mut_ptr(), old_words, &mut reply) };
+        self.counter.wrote(status, &reply);
+        (status, reply)
     }
 
     pub fn take_if(&mut self, key: u64, since: u64, old: &mut [u64]) -> (u32, RawReply) {
-        // SAFETY: as in `get`.
-        self.write(|handle, reply| unsafe { raw::cefrodil_take_if(handle, key, since, old.as_mut_ptr(), old.len(), reply) })
+        let mut reply = RawReply::default();
+        let old_words = old.len();
+        let status = unsafe { raw::cefrodil_take_if(&mut self.raw, key, since, old.as_mut_ptr(), old_words, &mut reply) };
+        self.counter.wrote(status, &reply);
+        (status, reply)
     }
 
     pub fn hold(&mut self) -> u32 {
-        // SAFETY: as in `get`.
         let status = unsafe { raw::cefrodil_hold(&mut self.raw) };
         self.counter.tried(status);
         status
     }
 
-    pub fn release(&mut self) {
-        // SAFETY: as in `get`. If the handle holds nothing, the call returns a status.
-        unsafe { raw::cefrodil_release(&mut self.raw) };
+    pub fn release(&mut self) -> u32 {
+        let status = unsafe { raw::cefrodil_release(&mut self.raw) };
+        self.counter.tried(status);
+        status
     }
 
     pub fn moment(&mut self) -> (u32, u64) {
-        self.number(raw::cefrodil_moment)
+        let mut moment = 0;
+        let status = unsafe { raw::cefrodil_moment(&mut self.raw, &mut moment) };
+        self.counter.tried(status);
+        (status, moment)
     }
 
     pub fn len(&mut self) -> (u32, u64) {
-        self.number(raw::cefrodil_len)
+        let mut len = 0;
+        let status = unsafe { raw::cefrodil_len(&mut self.raw, &mut len) };
+        self.counter.tried(status);
+        (status, len)
     }
 
     pub fn capacity(&mut self) -> (u32, u64) {
-        self.number(raw::cefrodil_capacity)
-    }
-
-    // One of the three calls that write a number.
-    fn number(&mut self, call: unsafe extern "C" fn(*mut RawHandle, *mut u64) -> u32) -> (u32, u64) {
-        let mut number = 0;
-        // SAFETY: as in `get`.
-        let status = unsafe { call(&mut self.raw, &mut number) };
+        let mut capacity = 0;
+        let status = unsafe { raw::cefrodil_capacity(&mut self.raw, &mut capacity) };
         self.counter.tried(status);
-        (status, number)
+        (status, capacity)
     }
 
     pub fn entries(&mut self, entries: &mut [u64]) -> (u32, u64) {
         let mut count = 0;
-        // SAFETY: as in `get`.
-        let status = unsafe { raw::cefrodil_entries(&mut self.raw, entries.as_mut_ptr(), entries.len(), &mut count) };
+        let entry_words = entries.len();
+        let status = unsafe { raw::cefrodil_entries(&mut self.raw, entries.as_mut_ptr(), entry_words, &mut count) };
         self.counter.tried(status);
         (status, count)
     }
 
     pub fn stamped_entries(&mut self, entries: &mut [u64]) -> (u32, u64) {
         let mut count = 0;
-        // SAFETY: as in `get`.
-        let status = unsafe { raw::cefrodil_stamped_entries(&mut self.raw, entries.as_mut_ptr(), entries.len(), &mut count) };
+        let entry_words = entries.len();
+        let status = unsafe { raw::cefrodil_stamped_entries(&mut self.raw, entries.as_mut_ptr(), entry_words, &mut count) };
         self.counter.tried(status);
         (status, count)
     }
+    // .ci/calls: end
 }

@@ -1,4 +1,5 @@
 //! The exports of the archive, as `cefrodil.h` declares them.
+#![allow(dead_code)] // A status that no call of this crate gets has its name here, too.
 use std::ffi::c_void;
 
 /// A handle, open or empty. It begins zeroed; after that only the archive writes it.
@@ -46,6 +47,7 @@ pub struct RawPut {
     pub unused: u32,
 }
 
+// .ci/calls: statuses
 pub const OK: u32 = 0;
 pub const ABSENT: u32 = 1;
 pub const BUSY: u32 = 2;
@@ -54,8 +56,13 @@ pub const ALL_RECENT: u32 = 4;
 pub const SPENT: u32 = 5;
 pub const CHANGED: u32 = 6;
 pub const HELD: u32 = 7;
+pub const CLOSED: u32 = 8;
 pub const HOLDS: u32 = 9;
+pub const WIDTH: u32 = 10;
+pub const IN_USE: u32 = 11;
 pub const NO_MEMORY: u32 = 12;
+pub const BAD_WORDS: u32 = 13;
+pub const BAD_MIX: u32 = 14;
 pub const BAD_BUCKETS: u32 = 15;
 pub const BAD_ITEMS: u32 = 16;
 pub const BAD_STRIPES: u32 = 17;
@@ -63,10 +70,13 @@ pub const BAD_DEPTH: u32 = 18;
 pub const BAD_TRIES: u32 = 19;
 pub const BAD_LIMIT: u32 = 20;
 pub const BAD_HANDLES: u32 = 21;
+pub const BAD_COUNT: u32 = 22;
 pub const NO_ITEM: u32 = 23;
 pub const BAD_SHARDS: u32 = 24;
 pub const PRESENT: u32 = 25;
+pub const HOLDS_NOT: u32 = 26;
 pub const PROCESSOR: u32 = 27;
+// .ci/calls: end
 
 pub const PUT_EVICTED: u32 = 2;
 pub const PUT_RENEWED: u32 = 3;
@@ -79,6 +89,7 @@ macro_rules! of_series {
 }
 
 unsafe extern "C" {
+    // .ci/calls: declarations
     pub fn cefrodil_version() -> u32;
     #[link_name = of_series!("cefrodil_shape_for_items")]
     pub fn cefrodil_shape_for_items(items: u32, shards: u32, shape: *mut RawShape) -> u32;
@@ -198,4 +209,57 @@ unsafe extern "C" {
     pub fn cefrodil_entries(handle: *mut RawHandle, entries: *mut u64, entry_words: usize, count: *mut u64) -> u32;
     pub fn cefrodil_stamped_entries(handle: *mut RawHandle, entries: *mut u64, entry_words: usize, count: *mut u64) -> u32;
     pub fn cefrodil_close(handle: *mut RawHandle) -> u32;
+    // .ci/calls: end
 }
+
+// The calls that have an export for each width.
+// .ci/calls: widths
+macro_rules! get_of_width {
+    ($words:expr, $handle:expr, $key:expr, $value:expr, $reply:expr) => {
+        match $words {
+            1 => raw::cefrodil_get_1($handle, $key, $value, $reply),
+            2 => raw::cefrodil_get_2($handle, $key, $value, $reply),
+            3 => raw::cefrodil_get_3($handle, $key, $value, $reply),
+            4 => raw::cefrodil_get_4($handle, $key, $value, $reply),
+            5 => raw::cefrodil_get_5($handle, $key, $value, $reply),
+            6 => raw::cefrodil_get_6($handle, $key, $value, $reply),
+            7 => raw::cefrodil_get_7($handle, $key, $value, $reply),
+            8 => raw::cefrodil_get_8($handle, $key, $value, $reply),
+            _ => raw::cefrodil_get($handle, $key, $value, $words, $reply),
+        }
+    };
+}
+pub(crate) use get_of_width;
+macro_rules! get_or_turn_of_width {
+    ($words:expr, $handle:expr, $key:expr, $value:expr, $reply:expr) => {
+        match $words {
+            1 => raw::cefrodil_get_or_turn_1($handle, $key, $value, $reply),
+            2 => raw::cefrodil_get_or_turn_2($handle, $key, $value, $reply),
+            3 => raw::cefrodil_get_or_turn_3($handle, $key, $value, $reply),
+            4 => raw::cefrodil_get_or_turn_4($handle, $key, $value, $reply),
+            5 => raw::cefrodil_get_or_turn_5($handle, $key, $value, $reply),
+            6 => raw::cefrodil_get_or_turn_6($handle, $key, $value, $reply),
+            7 => raw::cefrodil_get_or_turn_7($handle, $key, $value, $reply),
+            8 => raw::cefrodil_get_or_turn_8($handle, $key, $value, $reply),
+            _ => raw::cefrodil_get_or_turn($handle, $key, $value, $words, $reply),
+        }
+    };
+}
+pub(crate) use get_or_turn_of_width;
+macro_rules! put_of_width {
+    ($words:expr, $handle:expr, $key:expr, $value:expr, $reply:expr) => {
+        match $words {
+            1 => raw::cefrodil_put_1($handle, $key, $value, $reply),
+            2 => raw::cefrodil_put_2($handle, $key, $value, $reply),
+            3 => raw::cefrodil_put_3($handle, $key, $value, $reply),
+            4 => raw::cefrodil_put_4($handle, $key, $value, $reply),
+            5 => raw::cefrodil_put_5($handle, $key, $value, $reply),
+            6 => raw::cefrodil_put_6($handle, $key, $value, $reply),
+            7 => raw::cefrodil_put_7($handle, $key, $value, $reply),
+            8 => raw::cefrodil_put_8($handle, $key, $value, $reply),
+            _ => raw::cefrodil_put($handle, $key, $value, $words, $reply),
+        }
+    };
+}
+pub(crate) use put_of_width;
+// .ci/calls: end

@@ -232,10 +232,7 @@ impl Put {
     pub(crate) fn of((status, reply): Told) -> Result<Put, PutError> {
         match status {
             raw::OK => Ok(Put::done(reply)),
-            raw::NO_PATH => Err(PutError::NoPath),
-            raw::ALL_RECENT => Err(PutError::AllRecent),
-            raw::SPENT => Err(PutError::Spent),
-            other => not_told(other),
+            status => Err(PutError::of(status)),
         }
     }
 }
@@ -345,8 +342,7 @@ fn listed<T>(each: usize, most: usize, list: impl FnOnce(&mut [u64]) -> (u32, u6
 pub(crate) fn no_list(status: u32) -> TurnError<ListError> {
     match status {
         raw::HELD => TurnError::Held,
-        raw::NO_MEMORY => TurnError::Call(ListError::NoMemory),
-        other => not_told(other),
+        status => TurnError::Call(ListError::of(status)),
     }
 }
 

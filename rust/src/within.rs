@@ -1,5 +1,5 @@
 //! Calls that are made again while another thread has the turn.
-use crate::error::TurnError;
+use crate::error::MayBeHeld;
 use crate::handle::Handle;
 
 impl<const WORDS: usize> Handle<WORDS> {
@@ -18,15 +18,11 @@ impl<const WORDS: usize> Handle<WORDS> {
     ///
     /// # Errors
     ///
-    /// What the last call returned. [`TurnError::Held`]: no try won.
-    pub fn within<T, E>(
-        &mut self,
-        tries: u32,
-        mut call: impl FnMut(&mut Self) -> Result<T, TurnError<E>>,
-    ) -> Result<T, TurnError<E>> {
+    /// What the last call returned. [`Held`](crate::Held) or [`TurnError::Held`](crate::TurnError::Held): no try won.
+    pub fn within<T, E: MayBeHeld>(&mut self, tries: u32, mut call: impl FnMut(&mut Self) -> Result<T, E>) -> Result<T, E> {
         for _ in 1..tries {
             match call(self) {
-                Err(TurnError::Held) => {}
+                Err(why) if why.is_held() => {}
                 done => return done,
             }
         }

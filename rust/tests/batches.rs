@@ -67,13 +67,13 @@ fn handles_put_many_and_peek() -> Result<(), Box<dyn Error>> {
     let mut told = [Err(TurnError::Held); MANY];
     handle.try_put_many(&entries(), &mut told);
     assert_eq!(told.into_iter().collect::<Result<Vec<_>, _>>()?, answers());
-    assert_eq!(handle.try_peek(3), Some(Reply::Found { value: [63, 126], at: 70, since: 64 }));
-    assert_eq!(handle.try_peek(60), Some(Reply::Absent { at: 70 }));
+    assert_eq!(handle.try_peek(3), Ok(Reply::Found { value: [63, 126], at: 70, since: 64 }));
+    assert_eq!(handle.try_peek(60), Ok(Reply::Absent { at: 70 }));
     let mut shards = Cache::<2>::open(&Shape::for_items(10_000, 4)?, 4, 1)?;
     shards[0].try_put_many(&entries(), &mut told);
     assert!(told.iter().all(Result::is_ok));
-    assert_eq!((0..60).filter(|key| shards[0].try_peek(*key).and_then(Reply::value).is_some()).count(), 60);
-    assert_eq!(shards[0].try_peek(3).and_then(Reply::value), Some([63, 126]));
+    assert_eq!((0..60).filter(|key| shards[0].try_peek(*key).is_ok_and(|reply| reply.value().is_some())).count(), 60);
+    assert_eq!(shards[0].try_peek(3)?.value(), Some([63, 126]));
     Ok(())
 }
 

@@ -1,7 +1,8 @@
 //! What the calls of a cache's handles came to is counted: by a handle that holds, too, and also once it is dropped. In threads no count is
 //! lost. Without the feature `counts` each count is 0.
 use cefrodil::{
-    prometheus, Cache, Counts, Handle, Meter, Mix, Put, PutError, PutIfAbsentError, PutIfError, Reply, Shape, Spent, TurnError,
+    prometheus, Cache, Counts, Handle, MayBeHeld, Meter, Mix, Put, PutError, PutIfAbsentError, PutIfError, Reply, Shape, Spent,
+    TurnError,
 };
 use std::error::Error;
 use std::sync::atomic::{AtomicBool, Ordering};
@@ -159,8 +160,8 @@ impl Told {
         }
     }
 
-    fn tried<T, E>(&mut self, tried: Result<T, TurnError<E>>) {
-        self.0[3] += u64::from(matches!(tried, Err(TurnError::Held)));
+    fn tried<T, E: MayBeHeld>(&mut self, tried: Result<T, E>) {
+        self.0[3] += u64::from(tried.is_err_and(|why| why.is_held()));
     }
 }
 
@@ -186,13 +187,13 @@ fn work(handle: &mut Handle<1>, is_held: &AtomicBool) -> Told {
         told.tried(handle.try_swap_if(key, n, &[n]));
         told.tried(handle.try_take(key));
         told.tried(handle.try_remove(key + 5));
-        told.tried(handle.try_peek(key).ok_or(TurnError::<()>::Held));
+        told.tried(handle.try_peek(key));
         let mut puts = [Err(TurnError::Held); 2];
         handle.try_put_many(&[(key, [n]), (key + 1, [n])], &mut puts);
         puts.into_iter().for_each(|put| told.put(put));
         told.tried(handle.try_len());
         told.tried(handle.try_entries());
-        told.tried(handle.try_moment().map_err(|_| TurnError::<()>::Held));
+        told.tried(handle.try_moment());
         is_held.fetch_or(told.0[3] != 0, Ordering::Relaxed);
     }
     told

@@ -3,6 +3,9 @@ use cefrodil::{Cache, Handle, Held, Put, Reply, Shape, TurnError};
 use std::mem;
 use std::sync::atomic::{AtomicBool, Ordering::SeqCst};
 use std::thread;
+use tries::TRIES;
+
+mod tries;
 
 /// Sets the flag when it is dropped.
 struct Ends<'a>(&'a AtomicBool);
@@ -27,7 +30,9 @@ fn a_holder_writes_and_others_are_held() {
         assert_eq!(other.try_put(key, &[0]), Err(TurnError::Held));
     }
     assert_eq!(other.hold().unwrap_err(), Held);
-    assert_eq!((other.try_moment(), other.try_stamped_entries()), (Err(Held), Err(TurnError::Held)));
+    for (name, is_held) in TRIES {
+        assert!(is_held(other), "{name}");
+    }
     assert_eq!(other.get(7).value(), Some([7]));
     assert!(matches!(writing.get(7), Reply::Found { value: [7], .. }));
     let mut replies = [Reply::Busy; 2];

@@ -1,12 +1,15 @@
 //! Without memory an opening, a list and a call for more handles are errors, which keep nothing. Each allocation is refused in turn: the
 //! archive and the crate allocate by this program's own functions. A list allocates in its turn, so a batch of another handle is held
 //! meanwhile.
-use cefrodil::{Cache, Entry, Handle, ListError, MoreError, OpenError, Put, PutError, Reply, Shape, TurnError, Why};
+use cefrodil::{Cache, Entry, Handle, Held, ListError, MoreError, OpenError, Put, PutError, Reply, Shape, TurnError, Why};
 use std::cell::{Cell, RefCell};
 use std::error::Error;
 use std::ffi::{c_int, c_void};
 use std::fmt::Debug;
 use std::ptr;
+use tries::{Try, TRIES};
+
+mod tries;
 
 type Tested = Result<(), Box<dyn Error>>;
 
@@ -213,7 +216,7 @@ fn put_batch(handle: &mut Handle<1>) -> [PutInTurn; 40] {
 fn put_beside() -> bool {
     BESIDE.with_borrow_mut(|handle| {
         let Some(handle) = handle else { return false };
-        let is_held = handle.try_len() == Err(TurnError::Held);
+        let is_held = handle.try_len() == Err(Held);
         if is_held {
             TOLD.set(Some(put_batch(handle)));
         }
@@ -240,7 +243,7 @@ fn a_batch_beside_a_list_is_held() -> Tested {
 fn call_beside() -> bool {
     BESIDE.with_borrow_mut(|handle| {
         let Some(handle) = handle else { return false };
-        let is_held = handle.try_len() == Err(TurnError::Held);
+        let is_held = handle.try_len() == Err(Held);
         if is_held {
             each_call_is_held(handle);
         }
@@ -250,33 +253,15 @@ fn call_beside() -> bool {
 
 fn each_call_is_held(handle: &mut Handle<1>) {
     let meter = handle.meter();
-    type Call = fn(&mut Handle<1>) -> bool;
-    let calls: [Call; 16] = [
-        |handle| handle.try_put(7, &[71]) == Err(TurnError::Held),
-        |handle| handle.put_within(3, 7, &[71]) == Err(TurnError::Held),
-        |handle| handle.try_put_if(7, 1, &[71]) == Err(TurnError::Held),
-        |handle| handle.try_put_if_absent(8, &[80]) == Err(TurnError::Held),
-        |handle| handle.try_remove(7) == Err(TurnError::Held),
-        |handle| handle.try_swap(7, &[71]) == Err(TurnError::Held),
-        |handle| handle.try_swap_if(7, 1, &[71]) == Err(TurnError::Held),
-        |handle| handle.try_take(7) == Err(TurnError::Held),
-        |handle| handle.try_take_if(7, 1) == Err(TurnError::Held),
-        |handle| handle.try_peek(7).is_none(),
-        |handle| handle.try_len() == Err(TurnError::Held),
-        |handle| handle.try_entries() == Err(TurnError::Held),
-        |handle| handle.try_stamped_entries() == Err(TurnError::Held),
-        |handle| handle.try_moment().is_err(),
-        |handle| handle.hold().is_err(),
-        |handle| {
-            let mut told = [Ok(Put::Renewed { at: 0 })];
-            handle.try_put_many(&[(7, [71])], &mut told);
-            told == [Err(TurnError::Held)]
-        },
-    ];
-    for (number, call) in calls.into_iter().enumerate() {
+    let put_many: Try = ("try_put_many", |handle| {
+        let mut told = [Ok(Put::Renewed { at: 0 })];
+        handle.try_put_many(&[(7, [71])], &mut told);
+        told == [Err(TurnError::Held)]
+    });
+    for (name, is_held) in TRIES.iter().chain([&put_many]) {
         let before = meter.counts().held;
-        assert!(call(handle), "call {number}");
-        assert_eq!(meter.counts().held, before + u64::from(cfg!(feature = "counts")), "call {number}");
+        assert!(is_held(handle), "{name}");
+        assert_eq!(meter.counts().held, before + u64::from(cfg!(feature = "counts")), "{name}");
     }
     let found = Reply::Found { value: [70], at: 1, since: 1 };
     assert_eq!(

@@ -88,7 +88,7 @@ impl<O: Held, S> Pinned<'_, O, S> {
     where
         O: Keyed<Q>,
     {
-        self.state(self.inner.slots.within(tries, || self.inner.slots.call(|handle| handle.try_peek(hash)))?, key)
+        self.state(self.inner.slots.within(tries, || self.inner.slots.call(|handle| handle.try_peek(hash)).ok())?, key)
     }
 
     /// What the reply of a first try says; if it is busy, the key is looked up again. This must have been pinned before that try.
