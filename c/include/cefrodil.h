@@ -284,15 +284,17 @@ CEFRODIL_CALL cefrodil_status cefrodil_put_many(cefrodil_handle *handle, const u
 CEFRODIL_CALL cefrodil_status cefrodil_put_within(cefrodil_handle *handle, uint32_t tries, uint64_t key, const uint64_t *value,
                                                   size_t words, cefrodil_reply *reply);
 
-/* Like cefrodil_put, cefrodil_put_if and cefrodil_remove, and they also return the entry that gives way: the key's earlier one, or that
- * of the key that was evicted. So a program that keeps objects behind the cache knows which to free. `old` has `old_words` words.
- * OK: as for cefrodil_put, cefrodil_put_if and cefrodil_remove. If an entry gave way, `old` is its value, and `since` the `at` of its last
- * put. If a new key evicted none, `old` is unchanged, and `since` is 0. WIDTH: `words` or `old_words` does not match.
- * Other statuses are theirs. Unless OK, `old` is unchanged. */
+/* Like cefrodil_put, cefrodil_put_if, cefrodil_put_if_absent and cefrodil_remove, and they also return the entry that gives way: the key's
+ * earlier one, or that of the key that was evicted. So a program that keeps objects behind the cache knows which to free. `old` has
+ * `old_words` words. OK: as for those calls. If an entry gave way, `old` is its value, and `since` the `at` of its last put. If a new key
+ * evicted none, `old` is unchanged, and `since` is 0. WIDTH: `words` or `old_words` does not match. Other statuses are theirs. Unless OK,
+ * `old` is unchanged. */
 CEFRODIL_CALL cefrodil_status cefrodil_swap(cefrodil_handle *handle, uint64_t key, const uint64_t *value, size_t words, uint64_t *old,
                                             size_t old_words, cefrodil_reply *reply);
 CEFRODIL_CALL cefrodil_status cefrodil_swap_if(cefrodil_handle *handle, uint64_t key, uint64_t since, const uint64_t *value, size_t words,
                                                uint64_t *old, size_t old_words, cefrodil_reply *reply);
+CEFRODIL_CALL cefrodil_status cefrodil_swap_if_absent(cefrodil_handle *handle, uint64_t key, const uint64_t *value, size_t words,
+                                                      uint64_t *old, size_t old_words, cefrodil_reply *reply);
 CEFRODIL_CALL cefrodil_status cefrodil_take(cefrodil_handle *handle, uint64_t key, uint64_t *old, size_t old_words, cefrodil_reply *reply);
 
 /* Like cefrodil_take, if the key's last put was at `since`, as a lookup of the key returned it. So a program that found an entry too old

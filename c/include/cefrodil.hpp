@@ -60,9 +60,10 @@ template <size_t Words> class Handle : public inside::Calls<Words> {
     [[nodiscard]] Written try_put_if(uint64_t key, uint64_t since, const Value &value) noexcept { return this->put_if(key, since, value); }
     [[nodiscard]] Written try_put_if_absent(uint64_t key, const Value &value) noexcept { return this->put_if_absent(key, value); }
     [[nodiscard]] Written try_remove(uint64_t key) noexcept { return this->remove(key); }
-    // Like try_put, try_put_if and try_remove, and they also return the entry that gives way.
+    // Like try_put, try_put_if, try_put_if_absent and try_remove, and they also return the entry that gives way.
     [[nodiscard]] Swapped<Words> try_swap(uint64_t key, const Value &value) noexcept { return this->swap(key, value); }
     [[nodiscard]] Swapped<Words> try_swap_if(uint64_t key, uint64_t since, const Value &value) noexcept { return this->swap_if(key, since, value); }
+    [[nodiscard]] Swapped<Words> try_swap_if_absent(uint64_t key, const Value &value) noexcept { return this->swap_if_absent(key, value); }
     [[nodiscard]] Swapped<Words> try_take(uint64_t key) noexcept { return this->take(key); }
     // Takes the entry whose put was at `since`, and no later one.
     [[nodiscard]] Swapped<Words> try_take_if(uint64_t key, uint64_t since) noexcept { return this->take_if(key, since); }
@@ -146,8 +147,8 @@ template <size_t Words> class Writing : private inside::Calls<Words> {
     bool holds() const noexcept { return this->is_open(); }
 
     using Calls::get, Calls::put, Calls::put_if, Calls::put_if_absent, Calls::remove;
-    // Like put, put_if and remove, and they also return the entry that gives way.
-    using Calls::swap, Calls::swap_if, Calls::take;
+    // Like put, put_if, put_if_absent and remove, and they also return the entry that gives way.
+    using Calls::swap, Calls::swap_if, Calls::swap_if_absent, Calls::take;
     // Takes the entry whose put was at `since`, and no later one.
     using Calls::take_if;
     // Equivalent to put for each key in order.

@@ -106,6 +106,12 @@ template <size_t Words> class Calls : public OpenHandle {
         const cefrodil_status status = cefrodil_swap_if(raw(), key, since, value.data(), Words, old.data(), Words, &reply);
         return swapped<Words>(wrote(status, reply), old, true);
     }
+    [[nodiscard]] Swapped<Words> swap_if_absent(uint64_t key, const Value &value) noexcept {
+        cefrodil_reply reply;
+        Value old{};
+        const cefrodil_status status = cefrodil_swap_if_absent(raw(), key, value.data(), Words, old.data(), Words, &reply);
+        return swapped<Words>(wrote(status, reply), old, reply.put == CEFRODIL_PUT_EVICTED);
+    }
     [[nodiscard]] Swapped<Words> take(uint64_t key) noexcept {
         cefrodil_reply reply;
         Value old{};

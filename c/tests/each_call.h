@@ -17,6 +17,7 @@
     row(put_within, WIDTH | TURN | LIMIT | REPLY, (handle, tries, key, value, words, &told.reply)) \
     row(swap, WIDTH | TURN | LIMIT | REPLY, (handle, key, value, words, told.old, words, &told.reply)) \
     row(swap_if, WIDTH | TURN | LIMIT | REPLY, (handle, key, since, value, words, told.old, words, &told.reply)) \
+    row(swap_if_absent, WIDTH | TURN | LIMIT | REPLY, (handle, key, value, words, told.old, words, &told.reply)) \
     row(take, WIDTH | TURN | LIMIT | REPLY, (handle, key, told.old, words, &told.reply)) \
     row(take_if, WIDTH | TURN | LIMIT | REPLY, (handle, key, since, told.old, words, &told.reply)) \
     row(hold, TURN, (handle)) \

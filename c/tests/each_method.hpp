@@ -25,6 +25,7 @@ static std::vector<cefrodil::Handle<1>> handles;
     row(handle, put_within, (1, 1, {1})) \
     row(handle, try_swap, (1, {1})) \
     row(handle, try_swap_if, (1, 1, {1})) \
+    row(handle, try_swap_if_absent, (1, {1})) \
     row(handle, try_take, (1)) \
     row(handle, try_take_if, (1, 1)) \
     row(handle, hold, (writing)) \
@@ -41,6 +42,7 @@ static std::vector<cefrodil::Handle<1>> handles;
     row(writing, put_many, (nullptr, 0, nullptr, nullptr)) \
     row(writing, swap, (1, {1})) \
     row(writing, swap_if, (1, 1, {1})) \
+    row(writing, swap_if_absent, (1, {1})) \
     row(writing, take, (1)) \
     row(writing, take_if, (1, 1)) \
     row(writing, moment, (number)) \

@@ -72,6 +72,11 @@ static void replace(void) {
     MUST(cefrodil_put(&handle, 7, &value, 1, &reply) == CEFRODIL_OK && reply.at == 4);
     MUST(cefrodil_take(&handle, 7, &old, 1, &reply) == CEFRODIL_OK && reply.at == 5 && reply.since == 4 && old == 71);
     MUST(cefrodil_take(&handle, 7, &old, 1, &reply) == CEFRODIL_ABSENT && reply.at == 5 && old == 71);
+    MUST(cefrodil_swap_if_absent(&handle, 7, &value, 1, &old, 1, &reply) == CEFRODIL_OK && reply.at == 6 && reply.since == 0 && old == 71);
+    MUST(reply.put == CEFRODIL_PUT_STORED);
+    value = 72;
+    MUST(cefrodil_swap_if_absent(&handle, 7, &value, 1, &old, 1, &reply) == CEFRODIL_PRESENT && reply.since == 6 && old == 71);
+    MUST(reply.put == CEFRODIL_PUT_NOTHING);
     /* One of the two widths is wrong. */
     MUST(cefrodil_swap(&handle, 7, &value, 1, &old, 2, &reply) == CEFRODIL_WIDTH && cefrodil_swap(&handle, 7, &value, 2, &old, 1, &reply) == CEFRODIL_WIDTH);
     MUST(old == 71 && cefrodil_close(&handle) == CEFRODIL_OK);

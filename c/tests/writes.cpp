@@ -12,6 +12,7 @@ struct ByWriting {
     Written remove(uint64_t key) { return writing.remove(key); }
     Swapped<1> swap(uint64_t key, uint64_t value) { return writing.swap(key, {value}); }
     Swapped<1> swap_if(uint64_t key, uint64_t since, uint64_t value) { return writing.swap_if(key, since, {value}); }
+    Swapped<1> swap_if_absent(uint64_t key, uint64_t value) { return writing.swap_if_absent(key, {value}); }
     Swapped<1> take(uint64_t key) { return writing.take(key); }
     Swapped<1> take_if(uint64_t key, uint64_t since) { return writing.take_if(key, since); }
     Answer<1> peek(uint64_t key) { return writing.peek(key); }
@@ -26,6 +27,7 @@ struct ByHandle {
     Written remove(uint64_t key) { return handle.try_remove(key); }
     Swapped<1> swap(uint64_t key, uint64_t value) { return handle.try_swap(key, {value}); }
     Swapped<1> swap_if(uint64_t key, uint64_t since, uint64_t value) { return handle.try_swap_if(key, since, {value}); }
+    Swapped<1> swap_if_absent(uint64_t key, uint64_t value) { return handle.try_swap_if_absent(key, {value}); }
     Swapped<1> take(uint64_t key) { return handle.try_take(key); }
     Swapped<1> take_if(uint64_t key, uint64_t since) { return handle.try_take_if(key, since); }
     Answer<1> peek(uint64_t key) { return handle.try_peek(key); }
@@ -39,6 +41,8 @@ template <class Calls> static void a_key_that_is_there(Calls calls) {
     MUST(calls.put(1, 10).status == Status::ok);
     const Written there = calls.put_if_absent(1, 11);
     MUST(there.status == Status::present && there.since == 1 && there.at == 0 && !there.renewed && !there.evicted);
+    const Swapped<1> stays = calls.swap_if_absent(1, 11);
+    MUST(stays.status == Status::present && stays.since == 1 && stays.old_since == 0 && !stays.old);
     const Swapped<1> renewed = calls.swap(1, 12);
     MUST(renewed.status == Status::ok && renewed.old && (*renewed.old)[0] == 10 && renewed.old_since == 1);
     MUST(renewed.since == 0 && renewed.at == 2 && !renewed.evicted);

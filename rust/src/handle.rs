@@ -147,7 +147,7 @@ impl<const WORDS: usize> Handle<WORDS> {
     ///
     /// [`TurnError`]: nothing was changed.
     pub fn try_put_if_absent(&mut self, key: u64, value: &[u64; WORDS]) -> Result<Put, TurnError<PutIfAbsentError>> {
-        reply::turn(self.0.put_if_absent(key, value), reply::put_if_absent)
+        reply::turn(self.0.put_if_absent(key, value), |told| reply::if_absent(told, Put::of))
     }
 
     /// Like [`try_put`](Handle::try_put), with [`Writing::remove`](crate::Writing::remove).
@@ -179,6 +179,17 @@ impl<const WORDS: usize> Handle<WORDS> {
         let mut old = [0; WORDS];
         let told = self.0.swap_if(key, since, value, &mut old);
         reply::turn(told, |told| Replaced::of(key, old, told))
+    }
+
+    /// Like [`try_put`](Handle::try_put), with [`Writing::swap_if_absent`](crate::Writing::swap_if_absent).
+    ///
+    /// # Errors
+    ///
+    /// [`TurnError`]: no key and no value was changed.
+    pub fn try_swap_if_absent(&mut self, key: u64, value: &[u64; WORDS]) -> Result<Swapped<WORDS>, TurnError<PutIfAbsentError>> {
+        let mut old = [0; WORDS];
+        let told = self.0.swap_if_absent(key, value, &mut old);
+        reply::turn(told, |told| reply::if_absent(told, |told| Swapped::of(key, old, told)))
     }
 
     /// Like [`try_put`](Handle::try_put), with [`Writing::take`](crate::Writing::take).

@@ -184,6 +184,15 @@ impl OpenHandle {
         (status, reply)
     }
 
+    pub fn swap_if_absent(&mut self, key: u64, value: &[u64], old: &mut [u64]) -> (u32, RawReply) {
+        let mut reply = RawReply::default();
+        let words = value.len();
+        let old_words = old.len();
+        let status = unsafe { raw::cefrodil_swap_if_absent(&mut self.raw, key, value.as_ptr(), words, old.as_mut_ptr(), old_words, &mut reply) };
+        self.counter.wrote(status, &reply);
+        (status, reply)
+    }
+
     pub fn take(&mut self, key: u64, old: &mut [u64]) -> (u32, RawReply) {
         let mut reply = RawReply::default();
         let old_words = old.len();

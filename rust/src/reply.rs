@@ -259,12 +259,12 @@ pub(crate) fn put_if((status, reply): Told) -> Result<u64, PutIfError> {
     }
 }
 
-/// The answer of a put of a key that must be absent.
-pub(crate) fn put_if_absent((status, reply): Told) -> Result<Put, PutIfAbsentError> {
-    if status == raw::PRESENT {
-        return Err(PutIfAbsentError::Present { since: reply.since });
+/// The answer of a call whose key must be absent, if it was: then of `put`.
+pub(crate) fn if_absent<T>(told: Told, put: impl FnOnce(Told) -> Result<T, PutError>) -> Result<T, PutIfAbsentError> {
+    match told {
+        (raw::PRESENT, reply) => Err(PutIfAbsentError::Present { since: reply.since }),
+        told => put(told).map_err(PutIfAbsentError::Put),
     }
-    Put::of((status, reply)).map_err(PutIfAbsentError::Put)
 }
 
 impl<const WORDS: usize> Swapped<WORDS> {

@@ -117,7 +117,7 @@ impl<const WORDS: usize> Writing<'_, WORDS> {
     /// # Ok::<(), Box<dyn std::error::Error>>(())
     /// ```
     pub fn put_if_absent(&mut self, key: u64, value: &[u64; WORDS]) -> Result<Put, PutIfAbsentError> {
-        reply::put_if_absent(self.handle().put_if_absent(key, value))
+        reply::if_absent(self.handle().put_if_absent(key, value), Put::of)
     }
 
     /// Removes the key.
@@ -163,6 +163,29 @@ impl<const WORDS: usize> Writing<'_, WORDS> {
         let mut old = [0; WORDS];
         let told = self.handle().swap_if(key, since, value, &mut old);
         Replaced::of(key, old, told)
+    }
+
+    /// Puts the key only if it is absent, as [`put_if_absent`](Writing::put_if_absent) does, and returns the entry that gives way: that of the key
+    /// that is evicted.
+    ///
+    /// # Errors
+    ///
+    /// [`PutIfAbsentError`]: no key and no value was changed.
+    ///
+    /// ```
+    /// use cefrodil::{Cache, Entry, PutIfAbsentError, Shape};
+    ///
+    /// let mut handles = Cache::<1>::open(&Shape { items: 1, ..Shape::for_items(10, 1)? }, 1, 1)?;
+    /// let mut writing = handles[0].hold()?;
+    /// assert_eq!(writing.swap_if_absent(7, &[70])?.old, None);
+    /// assert_eq!(writing.swap_if_absent(7, &[71]), Err(PutIfAbsentError::Present { since: 1 }));
+    /// assert_eq!(writing.swap_if_absent(8, &[80])?.old, Some(Entry { key: 7, value: [70], since: 1 }));
+    /// # Ok::<(), Box<dyn std::error::Error>>(())
+    /// ```
+    pub fn swap_if_absent(&mut self, key: u64, value: &[u64; WORDS]) -> Result<Swapped<WORDS>, PutIfAbsentError> {
+        let mut old = [0; WORDS];
+        let told = self.handle().swap_if_absent(key, value, &mut old);
+        reply::if_absent(told, |told| Swapped::of(key, old, told))
     }
 
     /// Removes the key as [`remove`](Writing::remove) does, and returns its entry.

@@ -1,6 +1,6 @@
 //! A program keeps objects behind the cache: the value of a key is the number of its object. Each object that it makes is in the cache, or was
 //! returned to be dropped, and none twice.
-use cefrodil::{Cache, Entry, PutIfError, Reply, Shape, Take, TurnError};
+use cefrodil::{Cache, Entry, Put, PutIfAbsentError, PutIfError, Reply, Shape, Take, TurnError};
 
 const OBJECTS: u64 = 1_000;
 const KEYS: u64 = 300;
@@ -53,6 +53,8 @@ fn an_object_takes_the_place_of_the_one_that_was_seen() {
     assert_eq!(writing.take(7), Ok(Take::Taken { at: 3, old: Entry { key: 7, value: [71], since: 2 } }));
     assert_eq!(writing.take(7), Ok(Take::NotThere { at: 3 }));
     assert_eq!(writing.take_if(7, 2), Err(PutIfError::NotThere { at: 3 }));
+    assert_eq!(writing.swap_if_absent(7, &[72]).unwrap().old, None);
+    assert_eq!(writing.swap_if_absent(7, &[73]), Err(PutIfAbsentError::Present { since: 4 }));
     let mut handles = Cache::<1>::open(&shape, 1, 1).unwrap();
     let handle = &mut handles[0];
     handle.try_put(7, &[70]).unwrap();
@@ -62,4 +64,6 @@ fn an_object_takes_the_place_of_the_one_that_was_seen() {
     let taken = handle.try_take_if(7, 2).unwrap();
     assert_eq!((taken.at, taken.old), (3, Entry { key: 7, value: [71], since: 2 }));
     assert_eq!(handle.get(7), Reply::Absent { at: 3 });
+    assert_eq!(handle.try_swap_if_absent(7, &[72]).unwrap().put, Put::Stored { at: 4, moves: 0, evicted: None });
+    assert_eq!(handle.try_swap_if_absent(7, &[73]), Err(TurnError::Call(PutIfAbsentError::Present { since: 4 })));
 }

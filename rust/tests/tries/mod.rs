@@ -19,6 +19,7 @@ pub const TRIES: &[Try] = &[
     ("put_within", |handle| is_held(handle.put_within(3, 7, &[71]))),
     ("try_swap", |handle| is_held(handle.try_swap(7, &[71]))),
     ("try_swap_if", |handle| is_held(handle.try_swap_if(7, 1, &[71]))),
+    ("try_swap_if_absent", |handle| is_held(handle.try_swap_if_absent(7, &[71]))),
     ("try_take", |handle| is_held(handle.try_take(7))),
     ("try_take_if", |handle| is_held(handle.try_take_if(7, 1))),
     ("hold", |handle| is_held(handle.hold())),
