@@ -174,7 +174,7 @@ typedef enum cefrodil_status {
     CEFRODIL_BAD_TRIES = 19,
     CEFRODIL_BAD_LIMIT = 20,
     CEFRODIL_BAD_HANDLES = 21, /* there must be 1 to 1024 handles; for cefrodil_more, no more than the cache has to spare */
-    CEFRODIL_BAD_COUNT = 22,   /* counts that belong together do not match */
+    CEFRODIL_BAD_COUNT = 22,   /* counts that belong together do not match, or an array is too small for the list */
     CEFRODIL_NO_ITEM = 23,     /* every item is in use */
     CEFRODIL_BAD_SHARDS = 24,  /* the number of shards must be a power of two, 1 to 256 */
     CEFRODIL_PRESENT = 25,     /* the key is there; its last put was at `since` */
@@ -549,7 +549,7 @@ CEFRODIL_INLINE const char *cefrodil_text(uint32_t status) {
     case CEFRODIL_BAD_TRIES: return "tries must be from 1 to 64";
     case CEFRODIL_BAD_LIMIT: return "limit must be from 0 to 4611686018427387904";
     case CEFRODIL_BAD_HANDLES: return "handles must be from 1 to 1024, and no more than there are to spare";
-    case CEFRODIL_BAD_COUNT: return "counts that belong together do not fit";
+    case CEFRODIL_BAD_COUNT: return "counts do not match, or an array is too small for the list";
     case CEFRODIL_NO_ITEM: return "no item";
     case CEFRODIL_BAD_SHARDS: return "shards must be a power of two from 1 to 256";
     case CEFRODIL_PRESENT: return "present";
