@@ -147,6 +147,8 @@ CEFRODIL_SAME_SIZE(sizeof(cefrodil_reply) == 32, "as the library lays it out");
 CEFRODIL_SAME_SIZE(sizeof(cefrodil_answer) == 24, "as the library lays it out");
 CEFRODIL_SAME_SIZE(sizeof(cefrodil_put_answer) == 40, "as the library lays it out");
 
+/* In the repository a program, .ci/calls, writes the lines from each mark with its name to the next `end`. Comments above prototypes are by hand. */
+
 /* The status that a call returns. After any status but OK, no key and no value was changed by the call. */
 typedef enum cefrodil_status {
     /* .ci/calls: statuses */
@@ -185,7 +187,6 @@ typedef enum cefrodil_status {
 
 CEFRODIL_SAME_SIZE(sizeof(cefrodil_status) == 4, "as the library returns it: compile without -fshort-enums");
 
-/* Where this header has a mark of .ci/calls, a program of its repository writes it, up to the next `end`: what is no comment here. */
 /* .ci/calls: prototypes */
 
 /* The version of the archive. Compare it with CEFRODIL_VERSION. */
