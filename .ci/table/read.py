@@ -103,6 +103,8 @@ def call_of(cells, row):
         raise Wrong(f'{CALLS}: no marks: {" ".join(marks)}')
     if re.sub(r'\s', '', parameters).count(':') != len(parts):
         raise Wrong(f'{CALLS}: not all parameters of {name} have a type')
+    if 'list' in marks and not any(part.null and part.length for part in parts):
+        raise Wrong(f'{CALLS}: {name} is a list, and takes no null pointer')
     return Call(name, parts, [mark for mark in marks if mark in MARKS], widths[0] if widths else None, method_of(handle),
                 method_of(writing), row)
 

@@ -147,6 +147,8 @@ CEFRODIL_SAME_SIZE(sizeof(cefrodil_reply) == 32, "as the library lays it out");
 CEFRODIL_SAME_SIZE(sizeof(cefrodil_answer) == 24, "as the library lays it out");
 CEFRODIL_SAME_SIZE(sizeof(cefrodil_put_answer) == 40, "as the library lays it out");
 
+/* In the repository a program, .ci/calls, writes the lines from each mark with its name to the next `end`. Comments above prototypes are by hand. */
+
 /* The status that a call returns. After any status but OK, no key and no value was changed by the call. */
 typedef enum cefrodil_status {
     /* .ci/calls: statuses */
@@ -174,7 +176,7 @@ typedef enum cefrodil_status {
     CEFRODIL_BAD_TRIES = 19,
     CEFRODIL_BAD_LIMIT = 20,
     CEFRODIL_BAD_HANDLES = 21, /* there must be 1 to 1024 handles; for cefrodil_more, no more than the cache has to spare */
-    CEFRODIL_BAD_COUNT = 22,   /* counts that belong together do not match */
+    CEFRODIL_BAD_COUNT = 22,   /* counts that belong together do not match, or an array is too small for the list */
     CEFRODIL_NO_ITEM = 23,     /* every item is in use */
     CEFRODIL_BAD_SHARDS = 24,  /* the number of shards must be a power of two, 1 to 256 */
     CEFRODIL_PRESENT = 25,     /* the key is there; its last put was at `since` */
@@ -185,7 +187,6 @@ typedef enum cefrodil_status {
 
 CEFRODIL_SAME_SIZE(sizeof(cefrodil_status) == 4, "as the library returns it: compile without -fshort-enums");
 
-/* Where this header has a mark of .ci/calls, a program of its repository writes it, up to the next `end`: what is no comment here. */
 /* .ci/calls: prototypes */
 
 /* The version of the archive. Compare it with CEFRODIL_VERSION. */
@@ -551,7 +552,7 @@ CEFRODIL_INLINE const char *cefrodil_text(uint32_t status) {
     case CEFRODIL_BAD_TRIES: return "tries must be from 1 to 64";
     case CEFRODIL_BAD_LIMIT: return "limit must be from 0 to 4611686018427387904";
     case CEFRODIL_BAD_HANDLES: return "handles must be from 1 to 1024, and no more than there are to spare";
-    case CEFRODIL_BAD_COUNT: return "counts that belong together do not fit";
+    case CEFRODIL_BAD_COUNT: return "counts do not match, or an array is too small for the list";
     case CEFRODIL_NO_ITEM: return "no item";
     case CEFRODIL_BAD_SHARDS: return "shards must be a power of two from 1 to 256";
     case CEFRODIL_PRESENT: return "present";

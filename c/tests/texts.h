@@ -26,7 +26,7 @@
     row(BAD_TRIES, bad_tries, "tries must be from 1 to 64") \
     row(BAD_LIMIT, bad_limit, "limit must be from 0 to 4611686018427387904") \
     row(BAD_HANDLES, bad_handles, "handles must be from 1 to 1024, and no more than there are to spare") \
-    row(BAD_COUNT, bad_count, "counts that belong together do not fit") \
+    row(BAD_COUNT, bad_count, "counts do not match, or an array is too small for the list") \
     row(NO_ITEM, no_item, "no item") \
     row(BAD_SHARDS, bad_shards, "shards must be a power of two from 1 to 256") \
     row(PRESENT, present, "present") \

@@ -21,20 +21,18 @@ where
 
 #[test]
 fn each_fault_of_a_shape_has_its_error() {
-    for (shape, why, text) in [
-        (Shape { buckets: 3, ..SMALL }, OpenError::Buckets, "buckets must be a power of two from 2 to 1048576"),
-        (Shape { items: 17, ..SMALL }, OpenError::Items, "items must be from 1 to four times the buckets"),
-        (Shape { stripes: 3, ..SMALL }, OpenError::Stripes, "stripes must be a power of two from 1 to 65536"),
-        (Shape { depth: 9, ..SMALL }, OpenError::Depth, "depth must be from 0 to 8"),
-        (Shape { tries: 65, ..SMALL }, OpenError::Tries, "tries must be from 1 to 64"),
-        (Shape { limit: 1 << 63, ..SMALL }, OpenError::Limit, "limit must be from 0 to 4611686018427387904"),
+    for (shape, why) in [
+        (Shape { buckets: 3, ..SMALL }, OpenError::Buckets),
+        (Shape { items: 17, ..SMALL }, OpenError::Items),
+        (Shape { stripes: 3, ..SMALL }, OpenError::Stripes),
+        (Shape { depth: 9, ..SMALL }, OpenError::Depth),
+        (Shape { tries: 0, ..SMALL }, OpenError::Tries),
+        (Shape { tries: 65, ..SMALL }, OpenError::Tries),
+        (Shape { limit: 1 << 63, ..SMALL }, OpenError::Limit),
     ] {
         assert_eq!(opening_error::<1>(&shape, 1), why);
         assert_eq!(opening_error::<8>(&shape, usize::MAX), why);
-        assert_eq!(why.to_string(), text);
     }
-    let other = OpenError::Version { archive: 1_203, crate_version: 10_000 };
-    assert_eq!(other.to_string(), "libcefrodil.a has version 0.12.3, and the crate 1.0.0");
 }
 
 #[test]

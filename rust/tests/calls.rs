@@ -176,12 +176,6 @@ fn openings_are_refused() -> Result<(), OpenError> {
     assert_eq!(Shape::for_items(500, 3), Err(OpenError::Shards));
     assert_eq!(Shape::for_items(0, 8), Err(OpenError::Items));
     assert_eq!(Cache::<1>::open(&shape, 3, 0).err(), Some(OpenError::Shards));
-    assert_eq!(Cache::<1>::open(&shape, 8, 0).err(), Some(OpenError::Handles));
-    assert_eq!(Cache::<1>::open(&shape, 8, 1025).err(), Some(OpenError::Handles));
-    assert_eq!(Cache::<1>::open(&Shape { buckets: 3, ..shape }, 1, 1).err(), Some(OpenError::Buckets));
-    assert_eq!(Cache::<1>::open(&Shape { tries: 0, ..shape }, 1, 1).err(), Some(OpenError::Tries));
-    assert_eq!(OpenError::Depth.to_string(), "depth must be from 0 to 8");
-    assert_eq!(OpenError::Shards.to_string(), "shards must be a power of two from 1 to 256");
     Ok(())
 }
 

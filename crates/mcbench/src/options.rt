@@ -197,7 +197,8 @@ pub(crate) fn options_of<S: AsStr>(alloc: Global, words: &[S]) -> Result<Options
 fn by_hand(keys: u32, most_used: u32) -> Shape {
     let mut buckets = 2u32;
     for _ in 1..20u32 {
-        if u64::from(buckets) * 4 * u64::from(most_used) < u64::from(keys) * 100 {
+        let room = u64::from(buckets).saturating_mul(4 * u64::from(most_used));
+        if room < u64::from(keys) * 100 {
             buckets = buckets.saturating_mul(2);
         }
     }
