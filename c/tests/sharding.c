@@ -17,8 +17,11 @@ static void shapes(void) {
     MUST(cefrodil_shape_for_items(0, 1, &shape) == CEFRODIL_BAD_ITEMS && cefrodil_shape_for_items(0, SHARDS, &shape) == CEFRODIL_BAD_ITEMS);
     MUST(cefrodil_shape_for_items(UINT32_MAX, 1, &shape) == CEFRODIL_BAD_ITEMS && shape.buckets == 0);
     /* One shard has just these. Of several, each has its share and five deviations more: 63 and five times 8, 2 and five times 2. */
-    MUST(cefrodil_shape_for_items(20, 1, &shape) == CEFRODIL_OK && shape.items == 20 && shape.buckets == 8);
-    MUST(cefrodil_shape_for_items(KEYS, SHARDS, &shape) == CEFRODIL_OK && shape.items == 103 && shape.buckets == 32);
+    MUST(cefrodil_shape_for_items(20, 1, &shape) == CEFRODIL_OK && shape.items == 20 && shape.buckets == 16);
+    MUST(cefrodil_shape_for_items(KEYS, SHARDS, &shape) == CEFRODIL_OK && shape.items == 103 && shape.buckets == 64);
+    /* Fewer than 256 items have room for twice as many. */
+    MUST(cefrodil_shape_for_items(255, 1, &shape) == CEFRODIL_OK && shape.items == 255 && shape.buckets == 256);
+    MUST(cefrodil_shape_for_items(256, 1, &shape) == CEFRODIL_OK && shape.items == 256 && shape.buckets == 128);
     MUST(cefrodil_shape_for_items(KEYS, 256, &shape) == CEFRODIL_OK && shape.items == 12);
     /* The most items of a shard, and one more. */
     MUST(cefrodil_shape_for_items(3774873, 1, &shape) == CEFRODIL_OK && shape.items == 3774873 && shape.buckets == 1048576);

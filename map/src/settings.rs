@@ -12,9 +12,6 @@ const THREADS: usize = 64;
 const ENTRIES_OF_A_SHARD: usize = 1024;
 const MOST_SHARDS: usize = 16;
 
-/// A shard of fewer entries gets four times the buckets. Without them, up to one new key in a hundred finds no place.
-const SMALL: u32 = 256;
-
 /// The most stripes that all shards have together, but each may have `STRIPES_OF_A_SHARD`. Each stripe has a version of 8 bytes, and more of
 /// them would leave less room for entries in the processor's caches.
 const STRIPES: u32 = 4096;
@@ -74,9 +71,6 @@ impl<S> Settings<S> {
     fn shape_for(&self, capacity: usize, shards: u32) -> Result<(Shape, u32), OpenError> {
         let capacity = u32::try_from(capacity).unwrap_or(u32::MAX);
         let mut shape = Shape::for_items(capacity, shards).map_err(OpenError::of)?;
-        if shape.items < SMALL {
-            shape.buckets *= 4;
-        }
         shape.stripes = shape.stripes.min((STRIPES / shards).max(STRIPES_OF_A_SHARD));
         // The index hashes what a hasher of the user's may have spread badly.
         shape.mix = if self.once { Mix::None } else { Mix::Full };

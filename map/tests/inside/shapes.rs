@@ -43,14 +43,12 @@ fn there_are_so_many_handles() {
     assert_eq!((Settings::new(100).handles(), handles(0), handles(1), handles(usize::MAX)), (65, 1, 2, usize::MAX));
 }
 
-// Shards of fewer than 256 entries have four times the buckets that the index would choose.
+// 255 entries need as many buckets as 510 would, and 256 as many as 256.
 #[test]
 fn small_shards_have_more_buckets() {
-    for items in [1, 10, 100, 255, 256, 1_000] {
+    for (items, buckets) in [(1, 2), (10, 8), (100, 64), (255, 256), (256, 128), (1_000, 512)] {
         let (shape, shards) = Settings::new(items as usize).shape().unwrap();
-        let plain = Shape::for_items(items, 1).unwrap();
-        assert_eq!((shards, shape.items), (1, items));
-        assert_eq!(shape.buckets, if items < 256 { 4 * plain.buckets } else { plain.buckets }, "of {items}");
+        assert_eq!((shards, shape.items, shape.buckets), (1, items, buckets));
     }
 }
 
