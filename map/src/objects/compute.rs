@@ -93,8 +93,8 @@ where
 }
 
 impl<K: Eq, V: Clone, S> ObjectInner<Object<K, V>, S> {
-    // A lookup that is counted.
-    fn get<Q: Eq + ?Sized>(&self, hash: u64, key: &Q, tries: u32) -> Result<Option<V>, GetError>
+    /// A lookup that is counted.
+    pub fn get<Q: Eq + ?Sized>(&self, hash: u64, key: &Q, tries: u32) -> Result<Option<V>, GetError>
     where
         K: Borrow<Q>,
     {
@@ -103,8 +103,8 @@ impl<K: Eq, V: Clone, S> ObjectInner<Object<K, V>, S> {
         Ok(state.value().found().cloned())
     }
 
-    // A lookup that isn't.
-    fn find<Q: Eq + ?Sized>(&self, hash: u64, key: &Q, tries: u32) -> Option<V>
+    /// A lookup that isn't.
+    pub fn find<Q: Eq + ?Sized>(&self, hash: u64, key: &Q, tries: u32) -> Option<V>
     where
         K: Borrow<Q>,
     {
@@ -133,9 +133,9 @@ impl<K: Eq, V: Clone, S> ObjectInner<Object<K, V>, S> {
         Ok(self.fill(hash, object, leader, tries).unwrap_or(value))
     }
 
-    // Puts the object where its key has none, unless a write has detached the flight. If the key has another by now, returns its value.
-    // The lock under which flights are detached is held for the put alone, while no code of the caller runs.
-    fn fill(&self, hash: u64, mut object: Box<Object<K, V>>, leader: &Leader<()>, tries: u32) -> Option<V> {
+    /// Puts the object where its key has none, unless a write has detached the flight. If the key has another by now, returns its value.
+    /// The lock under which flights are detached is held for the put alone, while no code of the caller runs.
+    pub fn fill(&self, hash: u64, mut object: Box<Object<K, V>>, leader: &Leader<()>, tries: u32) -> Option<V> {
         for _ in 0..tries {
             let pinned = self.pin();
             let over = match pinned.place(hash, &object.key, tries) {
