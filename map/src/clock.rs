@@ -6,6 +6,9 @@ use std::time::{Duration, Instant};
 /// The deadline of an entry that never expires.
 pub(crate) const NEVER: u64 = u64::MAX;
 
+/// The same, of an entry whose uses are noted.
+pub(crate) const FAR: u64 = NEVER - 1;
+
 /// Counts nanoseconds since the map was opened. They suffice for 584 years.
 pub(crate) struct Clock {
     start: Instant,
@@ -31,7 +34,7 @@ impl Clock {
     /// Whether this deadline has passed.
     #[inline]
     pub fn has_passed(&self, deadline: u64) -> bool {
-        deadline != NEVER && self.now() >= deadline
+        deadline < FAR && self.now() >= deadline
     }
 
     fn now(&self) -> u64 {

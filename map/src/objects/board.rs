@@ -104,7 +104,7 @@ where
     /// finds no place, which `refused` of [`stats`](ObjectMap::stats) counts.
     pub fn publish(self, value: V) -> V {
         let ObjectLead { inner, hash, key, leader } = self;
-        let object = Object::new(key, value.clone(), inner.deadline(None));
+        let object = inner.object(key, value.clone(), None);
         inner.fill(hash, object, &leader, inner.tries.min(TASK_TRIES)).unwrap_or(value)
     }
 }

@@ -99,8 +99,9 @@ impl<K: Eq, V: Clone, S> ObjectInner<Object<K, V>, S> {
         K: Borrow<Q>,
     {
         let pinned = self.pin();
-        let state = self.count(pinned.look(hash, key, tries)).ok_or(GetError::Busy)?;
-        Ok(state.value().found().cloned())
+        let state = pinned.look(hash, key, tries);
+        self.count(&state);
+        Ok(state.ok_or(GetError::Busy)?.value().found().cloned())
     }
 
     /// A lookup that isn't.
@@ -129,7 +130,7 @@ impl<K: Eq, V: Clone, S> ObjectInner<Object<K, V>, S> {
             return Ok(value);
         }
         let value = make()?;
-        let object = Object::new(key.to_owned(), value.clone(), self.deadline(None));
+        let object = self.object(key.to_owned(), value.clone(), None);
         Ok(self.fill(hash, object, leader, tries).unwrap_or(value))
     }
 
@@ -148,7 +149,7 @@ impl<K: Eq, V: Clone, S> ObjectInner<Object<K, V>, S> {
             let put = leader.put(|| self.put_over(hash, offered.take().expect("it is put once"), over, tries))?;
             match put {
                 Ok(done) => {
-                    self.end(done);
+                    self.end(hash, done);
                     return None;
                 }
                 Err((_, Fail::Insert(_))) => break,

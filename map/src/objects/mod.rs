@@ -15,6 +15,7 @@ mod pinned;
 mod put;
 mod remove;
 mod sweep;
+mod weights;
 
 pub use board::{ObjectLead, ObjectWait};
 pub use builder::{ObjectBuilder, Reason};

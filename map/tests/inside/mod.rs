@@ -18,6 +18,8 @@ mod object_flights;
 #[cfg(feature = "objects")]
 mod object_turns;
 #[cfg(feature = "objects")]
+mod object_weights;
+#[cfg(feature = "objects")]
 mod objects;
 mod overtaken;
 mod places;

@@ -17,3 +17,4 @@ mod panics;
 mod stamps;
 mod texts;
 mod threads;
+mod weights;
