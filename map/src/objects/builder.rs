@@ -108,6 +108,16 @@ impl<K, V, S> ObjectBuilder<K, V, S> {
         self
     }
 
+    /// How long a value lives that is not used. A lookup that finds it begins the time anew, and so does a write, but not
+    /// [`peek`](ObjectMap::peek). It may have a time to live, too: it expires when one of the two times is over.
+    ///
+    /// A lookup writes only if the deadline moves by more than a sixteenth of the time. So a value expires when the time since its last use is over,
+    /// or up to a sixteenth earlier.
+    pub fn time_to_idle(mut self, idle: Duration) -> Self {
+        self.settings.idle = Some(idle);
+        self
+    }
+
     /// Who hears of each object that leaves the map, once. The thread whose call made it leave calls `listener` before that call returns. It
     /// hears nothing when the map is dropped.
     ///
@@ -185,7 +195,7 @@ impl<O: Held, S> ObjectInner<O, S> {
     ) -> Result<ObjectInner<O, S>, OpenError> {
         let count = settings.handles();
         let mut handles = Cache::open(shape, shards, count).map_err(OpenError::of)?;
-        let Settings { hasher, life, threads, .. } = settings;
+        let Settings { hasher, life, idle, threads, .. } = settings;
         let Hears { listener, freed, weights } = hears;
         Ok(ObjectInner {
             capacity: handles[0].capacity(),
@@ -196,6 +206,7 @@ impl<O: Held, S> ObjectInner<O, S> {
             clock: Clock::new(),
             hasher,
             life,
+            idle,
             tries,
             listener,
             freed,

@@ -28,6 +28,8 @@ pub(crate) struct ObjectInner<O: Held, S> {
     pub hasher: S,
     /// The time to live of what is put.
     pub life: Option<Duration>,
+    /// How long an object lives that is not used.
+    pub idle: Option<Duration>,
     pub capacity: usize,
     /// How often a call tries.
     pub tries: u32,
@@ -60,12 +62,12 @@ impl<O: Held, S> ObjectInner<O, S> {
 
     // Whether objects know of lookups that find them. Then none has the deadline `NEVER`.
     fn notes_uses(&self) -> bool {
-        self.weights.is_some()
+        self.weights.is_some() || self.idle.is_some()
     }
 
     /// Whether the object has not expired.
     pub fn is_live(&self, object: &O) -> bool {
-        !self.clock.has_passed(object.deadline())
+        !self.clock.has_passed(object.deadline().min(object.idle()))
     }
 
     /// The same for a lookup that is a use of it.
@@ -79,6 +81,10 @@ impl<O: Held, S> ObjectInner<O, S> {
         let is_live = self.is_live(object);
         if is_live && self.weights.is_some() {
             object.set_used();
+        }
+        let next = self.idle.filter(|_| is_live).and_then(|idle| self.clock.moved(object.idle(), idle));
+        if let Some(next) = next {
+            object.move_idle(next);
         }
         is_live
     }
@@ -126,7 +132,8 @@ impl<O: Held, S> ObjectInner<O, S> {
 impl<K, V, S> ObjectInner<Object<K, V>, S> {
     /// An object that is to be put.
     pub fn object(&self, key: K, value: V, life: Option<Duration>) -> Box<Object<K, V>> {
-        let mut object = Object::new(key, value, self.deadline(life));
+        let idle = self.idle.map_or(NEVER, |idle| self.clock.deadline(idle));
+        let mut object = Object::new(key, value, self.deadline(life), idle);
         if let Some(weights) = &self.weights {
             let weight = (weights.weigher)(&object);
             object.set_weight(weight);

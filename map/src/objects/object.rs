@@ -1,4 +1,5 @@
 //! What a map has on the heap for a key, and its address as the word of an entry.
+use crate::clock::NEVER;
 use std::borrow::Borrow;
 use std::ops::Deref;
 use std::sync::atomic::{AtomicU64, Ordering::Relaxed};
@@ -28,6 +29,14 @@ pub(crate) unsafe trait Held: Sized {
 
     /// Moves its deadline.
     fn set_deadline(&self, deadline: u64);
+
+    /// When it expires if it is not used.
+    fn idle(&self) -> u64 {
+        NEVER
+    }
+
+    /// Moves that, unless it is later already.
+    fn move_idle(&self, _: u64) {}
 
     /// What it weighs in a map with a bound on the sum.
     fn weight(&self) -> u64 {
@@ -60,6 +69,8 @@ pub(crate) struct Object<K, V> {
     pub key: K,
     // A renewal moves it. Relaxed: it says nothing of other memory. What moves or keeps it has the lock of the key's stripe.
     deadline: AtomicU64,
+    // When it expires if it is not used. Relaxed: as above.
+    idle: AtomicU64,
     // Its weight, which stays, and `USED`. Relaxed: both say nothing of other memory.
     weight: AtomicU64,
     pub value: V,
@@ -69,8 +80,9 @@ pub(crate) struct Object<K, V> {
 const USED: u64 = 1 << 63;
 
 impl<K, V> Object<K, V> {
-    pub fn new(key: K, value: V, deadline: u64) -> Box<Object<K, V>> {
-        Box::new(Object { key, deadline: AtomicU64::new(deadline), weight: AtomicU64::new(0), value })
+    pub fn new(key: K, value: V, deadline: u64, idle: u64) -> Box<Object<K, V>> {
+        let [deadline, idle, weight] = [deadline, idle, 0].map(AtomicU64::new);
+        Box::new(Object { key, deadline, idle, weight, value })
     }
 
     /// Before it is put.
@@ -99,6 +111,14 @@ unsafe impl<K, V> Held for Object<K, V> {
 
     fn set_deadline(&self, deadline: u64) {
         self.deadline.store(deadline, Relaxed);
+    }
+
+    fn idle(&self) -> u64 {
+        self.idle.load(Relaxed)
+    }
+
+    fn move_idle(&self, deadline: u64) {
+        self.idle.fetch_max(deadline, Relaxed);
     }
 
     fn weight(&self) -> u64 {

@@ -10,11 +10,14 @@ mod expiry;
 mod fills;
 mod flights;
 mod held;
+mod idle;
 mod moves;
 #[cfg(feature = "objects")]
 mod object_disturbed;
 #[cfg(feature = "objects")]
 mod object_flights;
+#[cfg(feature = "objects")]
+mod object_idle;
 #[cfg(feature = "objects")]
 mod object_turns;
 #[cfg(feature = "objects")]
