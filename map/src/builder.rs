@@ -88,6 +88,32 @@ impl<K: ?Sized, V, S> Builder<K, V, S> {
         self
     }
 
+    /// How long a value lives that is not used. A lookup that finds it begins the time anew, and so does a write, but not [`peek`](Map::peek).
+    /// It may have a time to live, too: it expires when one of the two times is over. Each entry keeps both deadlines, so a value has at most 40
+    /// bytes; a larger one doesn't compile. The clock is that of [`time_to_live`](Builder::time_to_live).
+    ///
+    /// A lookup writes only if the deadline moves by more than a sixteenth of the time. So a value expires when the time since its last use is over,
+    /// or up to a sixteenth earlier. A use is not noted either if another thread writes to the shard right then: the next one is.
+    ///
+    /// ```
+    /// use cefrodil_map::Map;
+    /// use std::time::Duration;
+    ///
+    /// let sessions = Map::<str, u64>::builder(10_000).time_to_idle(Duration::from_secs(900)).open()?;
+    /// sessions.insert("token", 7)?;
+    /// assert_eq!(sessions.get("token"), Some(7));
+    /// # Ok::<(), Box<dyn std::error::Error>>(())
+    /// ```
+    ///
+    /// ```compile_fail,E0080
+    /// let _ = cefrodil_map::Map::<u64, [u8; 41]>::builder(100).time_to_idle(std::time::Duration::MAX);
+    /// ```
+    pub fn time_to_idle(mut self, idle: Duration) -> Self {
+        const { assert!(Layout::Idle.width::<V>() <= MOST, "in a map with a time to idle, a value has at most 40 bytes") };
+        self.settings.idle = Some(idle);
+        self
+    }
+
     /// Puts new keys into a small table, with a tenth of the entries. A key that is found there moves to the main table. So keys that are used
     /// once evict none that are used often, and more lookups hit, most of all where many keys are used once or in scans.
     ///
@@ -113,7 +139,8 @@ impl<K: ?Sized, V: Copy + Send + Sync + 'static, S: BuildHasher> Builder<K, V, S
     /// Opens the map with shards of this shape, and calls that try so often.
     pub(crate) fn open_shaped(self, shape: &Shape, shards: u32, tries: u32) -> Result<Map<K, V, S>, OpenError> {
         const { assert!(Layout::Plain.width::<V>() <= MOST, "a value has at most 56 bytes") };
-        let width = Layout::of(self.settings.life).width::<V>();
+        let layout = Layout::of(self.settings.life, self.settings.idle);
+        let width = layout.width::<V>();
         let mut handles = AnyHandle::open(width, shape, shards, self.settings.handles()).map_err(OpenError::of)?;
         let mut capacity = handles[0].capacity();
         let slots = Arc::new(Slots::new(handles));
@@ -123,7 +150,7 @@ impl<K: ?Sized, V: Copy + Send + Sync + 'static, S: BuildHasher> Builder<K, V, S
             capacity += small[0].capacity();
             tiers = Some(Tiers::new(Arc::clone(&slots), small, capacity));
         }
-        let Settings { hasher, once, life, .. } = self.settings;
+        let Settings { hasher, once, life, idle, .. } = self.settings;
         Ok(Map::of(Inner {
             capacity,
             slots,
@@ -131,7 +158,9 @@ impl<K: ?Sized, V: Copy + Send + Sync + 'static, S: BuildHasher> Builder<K, V, S
             flights: Flights::new(),
             clock: Clock::new(),
             printer: if once { Printer::once(hasher) } else { Printer::twice(hasher) },
+            layout,
             life,
+            idle,
             tries,
         }))
     }

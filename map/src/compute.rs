@@ -80,8 +80,8 @@ impl<K: ?Sized, V: Copy + Send + Sync + 'static, S: BuildHasher> Map<K, V, S> {
 }
 
 impl<K: ?Sized, V: Copy, S: BuildHasher> Inner<K, V, S> {
-    // A lookup that isn't counted.
-    fn find(&self, print: Print, tries: u32) -> Option<V> {
+    /// A lookup that isn't counted.
+    pub fn find(&self, print: Print, tries: u32) -> Option<V> {
         match self.look(print, tries)? {
             Found::Live(entry, _) => Some(entry.value),
             Found::Expired(_) | Found::Other(_) | Found::Absent => None,
@@ -99,8 +99,8 @@ impl<K: ?Sized, V: Copy, S: BuildHasher> Inner<K, V, S> {
         Ok(leader.end(value, || self.fill(print, value, tries)))
     }
 
-    // Puts the value where the key has none. Returns the value that another thread has put meanwhile.
-    fn fill(&self, print: Print, value: V, tries: u32) -> Option<V> {
+    /// Puts the value where the key has none. Returns the value that another thread has put meanwhile.
+    pub fn fill(&self, print: Print, value: V, tries: u32) -> Option<V> {
         let mut other = None;
         let put = self.change(print, tries, None, |present| {
             other = present;

@@ -42,6 +42,8 @@ pub enum InsertError {
     AllRecent,
     /// The map was opened without a time to live, so a value can't have one. See [`Builder::time_to_live`](crate::Builder::time_to_live).
     NoTimeToLive,
+    /// The entry alone weighs more than all entries of the `ObjectMap` together may.
+    TooHeavy,
     /// The shard has made 2^62 changes of versions. Open a new map. It takes centuries to get there.
     Spent,
 }
@@ -132,6 +134,7 @@ impl ClearError {
 pub(crate) const BUSY: &str = "writes disturbed each lookup";
 pub(crate) const HELD: &str = "other threads held the shard's turn";
 pub(crate) const CONTENDED: &str = "other threads changed the key each time";
+pub(crate) const TOO_HEAVY: &str = "the entry is heavier than all entries may be";
 const NO_MEMORY: &str = "out of memory";
 pub(crate) const SPENT: &str = "the shard has made all its changes";
 
@@ -163,6 +166,7 @@ impl Display for InsertError {
             InsertError::NoPlace => "there is no place for the key",
             InsertError::AllRecent => "the shard is full, and each entry was used again",
             InsertError::NoTimeToLive => "the map was opened without a time to live",
+            InsertError::TooHeavy => TOO_HEAVY,
             InsertError::Spent => SPENT,
         })
     }

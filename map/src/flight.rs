@@ -1,18 +1,21 @@
-//! Values that are being computed: one thread computes, and others that want the same key wait for it.
+//! Values that are being computed: one thread or task computes, and others that want the same key wait for it.
 //!
 //! A computed value may be older than a write that came meanwhile. So each write first detaches the flight of its key, and a value whose
 //! flight was detached is not put. The value is put under the lock by which flights are detached. SAFETY.md says why that suffices.
 use crate::print::Print;
 use crate::slots::lock;
+use crate::wakers::Wakers;
+use std::mem;
 use std::ptr;
 use std::sync::atomic::{fence, AtomicUsize, Ordering::SeqCst};
 use std::sync::{Arc, Condvar, Mutex, MutexGuard, PoisonError};
+use std::task::{Context, Poll};
 
 const STRIPES: usize = 64;
 
 /// The flights of a map.
 pub(crate) struct Flights<V> {
-    // How many threads compute a value.
+    // How many threads and tasks compute a value.
     running: AtomicUsize,
     // By the key in the index.
     stripes: Box<[Stripe<V>]>,
@@ -21,12 +24,23 @@ pub(crate) struct Flights<V> {
 // The flights of some keys that are not detached.
 type Stripe<V> = Mutex<Vec<Arc<Flight<V>>>>;
 
-/// A value that a thread computes.
+/// A value that a thread or a task computes.
 pub(crate) struct Flight<V> {
     print: Print,
+    // The thread, or `A_TASK`.
     thread: usize,
-    outcome: Mutex<Outcome<V>>,
+    state: Mutex<State<V>>,
+    // For the threads that wait.
     ended: Condvar,
+}
+
+// No thread is this one.
+const A_TASK: usize = 0;
+
+struct State<V> {
+    outcome: Outcome<V>,
+    // Of the tasks that wait.
+    wakers: Wakers,
 }
 
 #[derive(Clone, Copy)]
@@ -37,17 +51,17 @@ enum Outcome<V> {
     None,
 }
 
-/// What a thread that wants a key's value is to do.
+/// What a thread or a task that wants a key's value is to do.
 pub(crate) enum Boarding<'a, V: Copy> {
     /// Compute it.
     First(Leader<'a, V>),
-    /// Wait for another thread.
+    /// Wait for another one.
     Other(Arc<Flight<V>>),
     /// Compute it, for itself alone: this thread is computing it already, and was called by that computation.
     Within,
 }
 
-/// The thread that computes the value of a flight. When it is dropped, the flight ends: without a value, unless `end` was called.
+/// Who computes the value of a flight. When it is dropped, the flight ends: without a value, unless `end` was called.
 pub(crate) struct Leader<'a, V: Copy> {
     flights: &'a Flights<V>,
     flight: Arc<Flight<V>>,
@@ -69,20 +83,40 @@ impl<V: Copy> Flights<V> {
         &self.stripes[print.key as usize % STRIPES]
     }
 
-    /// Joins the flight of this key, or begins one.
+    /// Joins the flight of this key, or begins one, for this thread.
     pub fn board(&self, print: Print) -> Boarding<'_, V> {
-        let thread = this_thread();
+        self.board_as(this_thread(), print)
+    }
+
+    /// The same for a task, which may go on in another thread.
+    pub fn board_task(&self, print: Print) -> Boarding<'_, V> {
+        self.board_as(A_TASK, print)
+    }
+
+    fn board_as(&self, thread: usize, print: Print) -> Boarding<'_, V> {
         let mut stripe = lock(self.stripe(print));
         if let Some(flight) = stripe.iter().find(|flight| flight.print == print) {
-            return if flight.thread == thread { Boarding::Within } else { Boarding::Other(Arc::clone(flight)) };
+            return if flight.thread == this_thread() { Boarding::Within } else { Boarding::Other(Arc::clone(flight)) };
         }
-        let flight = Arc::new(Flight { print, thread, outcome: Mutex::new(Outcome::Running), ended: Condvar::new() });
-        stripe.push(Arc::clone(&flight));
-        self.running.fetch_add(1, SeqCst);
+        let leader = self.begin(thread, print);
+        stripe.push(Arc::clone(&leader.flight));
         // Of this fence and that of `detach`, one is first. If it is this one, `detach` finds the flight. If it is that one, the computation
         // sees all that the caller did before the write.
         fence(SeqCst);
-        Boarding::First(Leader { flights: self, flight })
+        Boarding::First(leader)
+    }
+
+    /// Begins a flight that is detached, so what it computes is not put.
+    pub fn begin_alone(&self, print: Print) -> Leader<'_, V> {
+        self.begin(A_TASK, print)
+    }
+
+    // The flight is in no stripe yet.
+    fn begin(&self, thread: usize, print: Print) -> Leader<'_, V> {
+        let state = State { outcome: Outcome::Running, wakers: Wakers::default() };
+        let flight = Arc::new(Flight { print, thread, state: Mutex::new(state), ended: Condvar::new() });
+        self.running.fetch_add(1, SeqCst);
+        Leader { flights: self, flight }
     }
 
     /// Detaches the flight of this key. What its thread computes is not put. A computation that begins later sees what the caller did before.
@@ -100,7 +134,7 @@ impl<V: Copy> Flights<V> {
         self.stripes.iter().for_each(|stripe| lock(stripe).clear());
     }
 
-    /// How many threads have joined the flight of this key.
+    /// How many threads and tasks have joined the flight of this key.
     #[cfg(test)]
     pub fn passengers(&self, print: Print) -> usize {
         let stripe = lock(self.stripe(print));
@@ -118,18 +152,62 @@ impl<V: Copy> Flights<V> {
 impl<V: Copy> Flight<V> {
     /// Waits until the flight has ended. Returns its value, if it has one.
     pub fn wait(&self) -> Option<V> {
-        let running = |outcome: &mut Outcome<V>| matches!(outcome, Outcome::Running);
-        let outcome = self.ended.wait_while(lock(&self.outcome), running).unwrap_or_else(PoisonError::into_inner);
-        match *outcome {
-            Outcome::Value(value) => Some(value),
-            Outcome::Running | Outcome::None => None,
-        }
+        let state = self.ended.wait_while(lock(&self.state), |state| state.outcome.is_running());
+        state.unwrap_or_else(PoisonError::into_inner).outcome.value()
     }
 
     /// Whether `wait` would return at once.
     #[cfg(test)]
     pub fn has_outcome(&self) -> bool {
-        !matches!(*lock(&self.outcome), Outcome::Running)
+        !lock(&self.state).outcome.is_running()
+    }
+}
+
+impl<V: Copy> Outcome<V> {
+    fn is_running(&self) -> bool {
+        matches!(self, Outcome::Running)
+    }
+
+    fn value(&self) -> Option<V> {
+        match self {
+            Outcome::Value(value) => Some(*value),
+            Outcome::Running | Outcome::None => None,
+        }
+    }
+}
+
+/// A task that waits for a flight. When it is dropped, it leaves nothing there.
+pub(crate) struct Passenger<V> {
+    flight: Arc<Flight<V>>,
+    // That of its waker, once it has been polled.
+    place: Option<u64>,
+}
+
+impl<V: Copy> Passenger<V> {
+    pub fn new(flight: Arc<Flight<V>>) -> Passenger<V> {
+        Passenger { flight, place: None }
+    }
+
+    /// Whether the flight has ended, and its value, if it has one.
+    pub fn poll(&mut self, context: &Context) -> Poll<Option<V>> {
+        // No code of the executor runs under the lock. So a waker is cloned before, and dropped after it.
+        let waker = context.waker().clone();
+        let mut state = lock(&self.flight.state);
+        if !state.outcome.is_running() {
+            return Poll::Ready(state.outcome.value());
+        }
+        let replaced = state.wakers.put(&mut self.place, waker);
+        drop(state);
+        drop(replaced);
+        Poll::Pending
+    }
+}
+
+impl<V> Drop for Passenger<V> {
+    fn drop(&mut self) {
+        let Some(place) = self.place else { return };
+        let waker = lock(&self.flight.state).wakers.take(place);
+        drop(waker);
     }
 }
 
@@ -143,7 +221,7 @@ impl<V: Copy> Leader<'_, V> {
         self.leave(&mut stripe);
         drop(stripe);
         if other.is_none() {
-            *lock(&self.flight.outcome) = Outcome::Value(value);
+            lock(&self.flight.state).outcome = Outcome::Value(value);
         }
         other.unwrap_or(value)
     }
@@ -172,11 +250,13 @@ impl<V: Copy> Drop for Leader<'_, V> {
     fn drop(&mut self) {
         self.leave(&mut self.stripe());
         self.flights.running.fetch_sub(1, SeqCst);
-        let mut outcome = lock(&self.flight.outcome);
-        if let Outcome::Running = *outcome {
-            *outcome = Outcome::None;
+        let mut state = lock(&self.flight.state);
+        if state.outcome.is_running() {
+            state.outcome = Outcome::None;
         }
-        drop(outcome);
+        let wakers = mem::take(&mut state.wakers);
+        drop(state);
         self.flight.ended.notify_all();
+        wakers.wake();
     }
 }

@@ -23,8 +23,12 @@ pub(crate) struct Inner<K: ?Sized, V, S> {
     pub flights: Flights<V>,
     pub clock: Clock,
     pub printer: Printer<K, S>,
-    /// The time to live of what is put. Without one, entries have no deadline.
+    /// Which deadlines entries have.
+    pub layout: Layout,
+    /// The time to live of what is put.
     pub life: Option<Duration>,
+    /// How long an entry lives that is not used.
+    pub idle: Option<Duration>,
     pub capacity: usize,
     /// How often a call tries.
     pub tries: u32,
@@ -53,24 +57,19 @@ impl<K: ?Sized, V: Copy, S: BuildHasher> Inner<K, V, S> {
         self.tries.min(LOOKS)
     }
 
-    #[inline]
-    fn layout(&self) -> Layout {
-        Layout::of(self.life)
-    }
-
     /// The deadline of a value that is put now.
     pub fn deadline(&self, life: Option<Duration>) -> u64 {
         life.map_or(NEVER, |life| self.clock.deadline(life))
     }
 
     pub fn words(&self, print: Print, value: V, deadline: u64) -> Words {
-        Entry { check: print.check, deadline, value }.words(self.layout())
+        Entry { check: print.check, deadline, idle: self.deadline(self.idle), value }.words(self.layout)
     }
 
     /// Looks the key up. `None`: each try was busy. It isn't counted.
     pub fn look(&self, print: Print, tries: u32) -> Option<Found<V>> {
         let look =
-            |handle: &mut AnyHandle| AnyHandle::get::<V, _>(handle, print.key, self.layout(), |seen| self.found(print, seen));
+            |handle: &mut AnyHandle| AnyHandle::get::<V, _>(handle, print.key, self.layout, |seen| self.found(print, seen));
         let found = self.slots.call(look).or_else(|| self.look_again(print, tries - 1))?;
         self.look_further(print, found, tries)
     }
@@ -127,10 +126,10 @@ impl<K: ?Sized, V: Copy, S: BuildHasher> Inner<K, V, S> {
             Seen::Absent => return Some(Found::Absent),
             Seen::Busy => return None,
         };
-        let entry = Entry::of(words, self.layout());
+        let entry = Entry::of(words, self.layout);
         Some(if entry.check != print.check {
             Found::Other(since)
-        } else if self.clock.has_passed(entry.deadline) {
+        } else if self.clock.has_passed(entry.deadline.min(entry.idle)) {
             Found::Expired(since)
         } else {
             Found::Live(entry, since)
@@ -140,10 +139,16 @@ impl<K: ?Sized, V: Copy, S: BuildHasher> Inner<K, V, S> {
     /// Looks the key up, and counts that. `told` makes of the answer what the caller returns.
     #[inline]
     pub fn get<R>(&self, print: Print, tries: u32, told: impl FnOnce(Result<Option<V>, GetError>) -> R) -> R {
-        match self.layout() {
+        match self.layout {
             Layout::Plain => self.get_laid::<false, R>(print, tries, told),
             Layout::Timed => self.get_timed(print, tries, told),
+            Layout::Idle => self.get_idle(print, tries, told),
         }
+    }
+
+    #[inline(never)]
+    fn get_idle<R>(&self, print: Print, tries: u32, told: impl FnOnce(Result<Option<V>, GetError>) -> R) -> R {
+        told(self.used(print, self.look(print, tries), tries))
     }
 
     #[inline(never)]
@@ -191,10 +196,26 @@ impl<K: ?Sized, V: Copy, S: BuildHasher> Inner<K, V, S> {
         }
     }
 
-    // Counts a lookup, and moves the key if it was found in the small table.
+    // Counts a lookup, and moves the key if it was found in the small table. Then the use is noted where the key is by now.
     fn used(&self, print: Print, found: Option<Found<V>>, tries: u32) -> Result<Option<V>, GetError> {
-        self.promote(print, found.as_ref(), tries);
+        if self.promote(print, found.as_ref(), tries) && self.idle.is_some() {
+            self.note_use(print, self.look(print, tries).as_ref());
+        } else {
+            self.note_use(print, found.as_ref());
+        }
         self.counted(found)
+    }
+
+    // Moves the deadline of an entry that was used. If the key was put since, or another thread has the turn, this does nothing.
+    fn note_use(&self, print: Print, found: Option<&Found<V>>) {
+        let (Some(idle), Some(Found::Live(entry, since))) = (self.idle, found) else { return };
+        let Some(next) = self.clock.moved(entry.idle, idle) else { return };
+        let words = Entry { idle: next, ..*entry }.words(self.layout);
+        // Whoever puts the key meanwhile notes a use by that.
+        let _ = match &self.tiers {
+            Some(tiers) => tiers.put_if(print.key, *since, &words),
+            None => self.slots.call(|handle| handle.put_if(print.key, *since, &words)),
+        };
     }
 
     /// Looks up to `MANY` keys up by one call of the index, and counts each. A key that is busy is looked up again by itself.
@@ -208,7 +229,10 @@ impl<K: ?Sized, V: Copy, S: BuildHasher> Inner<K, V, S> {
             match found {
                 // The small table is looked at right after the main one, and not after other keys.
                 Some(Found::Absent) if self.tiers.is_some() => self.get(*print, self.looks(), |told| told).unwrap_or(None),
-                found => self.counted(found).unwrap_or(None),
+                found => {
+                    self.note_use(*print, found.as_ref());
+                    self.counted(found).unwrap_or(None)
+                }
             }
         }));
     }

@@ -1,6 +1,7 @@
 #![doc = include_str!("../README.md")]
 #![deny(missing_docs, missing_debug_implementations, unsafe_op_in_unsafe_fn)]
 
+mod board;
 mod builder;
 mod clear;
 mod clock;
@@ -24,17 +25,20 @@ mod stats;
 mod tiers;
 mod update;
 mod wait;
+mod wakers;
 mod words;
 
 #[cfg(test)]
 #[path = "../tests/inside/mod.rs"]
 mod inside;
 
+pub use board::{Board, Lead, Wait};
 pub use builder::Builder;
 pub use error::{ClearError, GetError, InsertError, OpenError, RemoveError, UpdateError};
 pub use map::{Inserted, Map};
 #[cfg(feature = "objects")]
 pub use objects::{
-    AbsentError, Block, Bytes, BytesBuilder, BytesMap, Head, IfError, Look, ObjectBuilder, ObjectMap, Put, Reason, Refused,
+    AbsentError, Block, Bytes, BytesBuilder, BytesMap, Head, IfError, Look, ObjectBuilder, ObjectLead, ObjectMap, ObjectWait,
+    Put, Reason, Refused,
 };
 pub use stats::Stats;

@@ -18,8 +18,8 @@ use std::time::Duration;
 /// `Hash` writes all. std's `Path` and `TypeId` don't: `/a` and `a` write the same. Nor does a type that writes a hash of its own. For such
 /// keys take an `ObjectMap`, of the feature `objects`: it compares keys.
 ///
-/// A clone is the same map. Each call borrows its key, and `K` may be unsized: `Map<str, u64>` works. A value has at most 56 bytes, or 48 in
-/// a map with a time to live; a larger one doesn't compile:
+/// A clone is the same map. Each call borrows its key, and `K` may be unsized: `Map<str, u64>` works. A value has at most 56 bytes, 48 in
+/// a map with a time to live, or 40 in one with a time to idle; a larger one doesn't compile:
 ///
 /// ```compile_fail,E0080
 /// let _ = cefrodil_map::Map::<u64, [u8; 57]>::new(100);

@@ -28,6 +28,7 @@ pub(crate) struct Settings<S> {
     /// Whether a key is hashed once for its two words: not by a hasher of the user's.
     pub once: bool,
     pub life: Option<Duration>,
+    pub idle: Option<Duration>,
     /// Whether new keys go to a small table first.
     pub small_table: bool,
 }
@@ -41,6 +42,7 @@ impl Settings<RandomState> {
             hasher: RandomState::new(),
             once: true,
             life: None,
+            idle: None,
             small_table: false,
         }
     }
@@ -48,8 +50,8 @@ impl Settings<RandomState> {
 
 impl<S> Settings<S> {
     pub fn hasher<T>(self, hasher: T) -> Settings<T> {
-        let Settings { capacity, shards, threads, life, small_table, .. } = self;
-        Settings { capacity, shards, threads, hasher, once: false, life, small_table }
+        let Settings { capacity, shards, threads, life, idle, small_table, .. } = self;
+        Settings { capacity, shards, threads, hasher, once: false, life, idle, small_table }
     }
 
     /// How many shards to open, and the shape of each. With a small table, it holds a part of the entries.
@@ -89,6 +91,7 @@ impl<S> Settings<S> {
             .field("shards", &self.shards)
             .field("threads", &self.threads)
             .field("time_to_live", &self.life)
+            .field("time_to_idle", &self.idle)
             .finish_non_exhaustive()
     }
 }

@@ -23,7 +23,7 @@ pub struct Stats {
     pub added: u64,
     /// Entries that were overwritten.
     pub renewed: u64,
-    /// Entries that gave way to a new key. If there are many, take a larger capacity.
+    /// Entries that gave way to a new key, or to the bound on weights. If there are many, take a larger capacity or bound.
     pub evicted: u64,
     /// Entries that were removed.
     pub removed: u64,

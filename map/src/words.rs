@@ -1,4 +1,4 @@
-//! How an entry lies in the words of the index: its check word, its deadline if the map has a time to live, and the bytes of its value.
+//! How an entry lies in the words of the index: its check word, its deadlines if it may expire, and the bytes of its value.
 use crate::clock::NEVER;
 use cefrodil::Reply;
 use std::arch::asm;
@@ -19,23 +19,27 @@ const BYTES_OF_A_WORD: usize = size_of::<u64>();
 pub(crate) struct Entry<V> {
     pub check: u64,
     pub deadline: u64,
+    /// When it expires if it is not used.
+    pub idle: u64,
     pub value: V,
 }
 
-/// Whether entries have a deadline.
+/// Which deadlines entries have.
 #[derive(Clone, Copy, PartialEq, Eq)]
 pub(crate) enum Layout {
     Plain,
     Timed,
+    /// Both.
+    Idle,
 }
 
 impl Layout {
-    /// That of a map with this time to live.
-    pub fn of(life: Option<Duration>) -> Layout {
-        if life.is_some() {
-            Layout::Timed
-        } else {
-            Layout::Plain
+    /// That of a map with these times to live and to idle.
+    pub fn of(life: Option<Duration>, idle: Option<Duration>) -> Layout {
+        match (life, idle) {
+            (_, Some(_)) => Layout::Idle,
+            (Some(_), None) => Layout::Timed,
+            (None, None) => Layout::Plain,
         }
     }
 
@@ -45,6 +49,7 @@ impl Layout {
         match self {
             Layout::Plain => 1,
             Layout::Timed => 2,
+            Layout::Idle => 3,
         }
     }
 
@@ -58,8 +63,10 @@ impl<V: Copy> Entry<V> {
     pub fn words(&self, layout: Layout) -> Words {
         let mut words = [0; MOST];
         words[0] = self.check;
-        if layout == Layout::Timed {
-            words[1] = self.deadline;
+        match layout {
+            Layout::Plain => {}
+            Layout::Timed => words[1] = self.deadline,
+            Layout::Idle => (words[1], words[2]) = (self.deadline, self.idle),
         }
         write(&self.value, &mut words[layout.head()..]);
         words
@@ -68,7 +75,9 @@ impl<V: Copy> Entry<V> {
     /// The words must be those of an entry of the same map: `words` made them.
     #[inline]
     pub fn of(words: &mut [u64], layout: Layout) -> Entry<V> {
-        Entry { check: check(words), deadline: deadline(words, layout), value: read(&mut words[layout.head()..]) }
+        let (check, deadline) = (check(words), deadline(words, layout));
+        let idle = if layout == Layout::Idle { words[2] } else { NEVER };
+        Entry { check, deadline, idle, value: read(&mut words[layout.head()..]) }
     }
 }
 
@@ -78,12 +87,12 @@ pub(crate) fn check(words: &[u64]) -> u64 {
     words[0]
 }
 
-/// The deadline of an entry.
+/// The deadline of an entry, whether it is used or not.
 #[inline]
 pub(crate) fn deadline(words: &[u64], layout: Layout) -> u64 {
     match layout {
         Layout::Plain => NEVER,
-        Layout::Timed => words[1],
+        Layout::Timed | Layout::Idle => words[1],
     }
 }
 

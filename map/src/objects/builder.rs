@@ -3,6 +3,7 @@ use super::epochs::Epochs;
 use super::inner::{ObjectInner, Stripe};
 use super::map::ObjectMap;
 use super::object::{Held, Object};
+use super::weights::Weights;
 use crate::clock::Clock;
 use crate::error::OpenError;
 use crate::flight::Flights;
@@ -41,6 +42,19 @@ type Call<O> = dyn Fn(&O, Reason) + Send + Sync;
 /// Who hears of each object that is freed.
 pub(crate) type Freed<O> = Box<dyn Fn(&O) + Send + Sync>;
 
+/// Who hears of objects, and what they weigh.
+pub(crate) struct Hears<O> {
+    pub listener: Option<Listener<O>>,
+    pub freed: Option<Freed<O>>,
+    pub weights: Option<Weights<O>>,
+}
+
+impl<O> Hears<O> {
+    pub fn nothing() -> Hears<O> {
+        Hears { listener: None, freed: None, weights: None }
+    }
+}
+
 /// Chooses how a map of objects is opened.
 ///
 /// ```
@@ -56,14 +70,13 @@ pub(crate) type Freed<O> = Box<dyn Fn(&O) + Send + Sync>;
 #[must_use = "a builder opens nothing before `open`"]
 pub struct ObjectBuilder<K, V, S = RandomState> {
     settings: Settings<S>,
-    listener: Option<Listener<Object<K, V>>>,
-    freed: Option<Freed<Object<K, V>>>,
+    hears: Hears<Object<K, V>>,
 }
 
 impl<K, V> ObjectBuilder<K, V> {
     /// For a map of at least this many entries.
     pub fn new(capacity: usize) -> ObjectBuilder<K, V> {
-        ObjectBuilder { settings: Settings::new(capacity), listener: None, freed: None }
+        ObjectBuilder { settings: Settings::new(capacity), hears: Hears::nothing() }
     }
 }
 
@@ -83,7 +96,7 @@ impl<K, V, S> ObjectBuilder<K, V, S> {
     /// What hashes the keys, once each. Of two keys with the same hash the map holds one, so all 64 bits must be well spread. If an enemy
     /// may choose keys, take a keyed hasher. The default is std's, which is keyed.
     pub fn hasher<T>(self, hasher: T) -> ObjectBuilder<K, V, T> {
-        ObjectBuilder { settings: self.settings.hasher(hasher), listener: self.listener, freed: self.freed }
+        ObjectBuilder { settings: self.settings.hasher(hasher), hears: self.hears }
     }
 
     /// How long a value lives, unless it is put with another time. `Duration::MAX` never ends, and `Duration::ZERO` is over at once. By
@@ -95,13 +108,23 @@ impl<K, V, S> ObjectBuilder<K, V, S> {
         self
     }
 
+    /// How long a value lives that is not used. A lookup that finds it begins the time anew, and so does a write, but not
+    /// [`peek`](ObjectMap::peek). It may have a time to live, too: it expires when one of the two times is over.
+    ///
+    /// A lookup writes only if the deadline moves by more than a sixteenth of the time. So a value expires when the time since its last use is over,
+    /// or up to a sixteenth earlier.
+    pub fn time_to_idle(mut self, idle: Duration) -> Self {
+        self.settings.idle = Some(idle);
+        self
+    }
+
     /// Who hears of each object that leaves the map, once. The thread whose call made it leave calls `listener` before that call returns. It
     /// hears nothing when the map is dropped.
     ///
     /// `listener` may call the map. A put by it may make another object leave, and then it is called again. A listener that owns a clone of
     /// the map keeps it for ever. If `listener` panics, so does the call, which has made its change.
     pub fn listener(mut self, listener: impl Fn(&K, &V, Reason) + Send + Sync + 'static) -> Self {
-        self.listener = Some(Listener(Box::new(move |object, reason| listener(&object.key, &object.value, reason))));
+        self.hears.listener = Some(Listener(Box::new(move |object, reason| listener(&object.key, &object.value, reason))));
         self
     }
 
@@ -109,7 +132,32 @@ impl<K, V, S> ObjectBuilder<K, V, S> {
     /// that have left the map and are still there. It hears in any thread, in calls that write. If `freed` panics, the panic ends there, as that
     /// of a destructor does.
     pub fn freed(mut self, freed: impl Fn(&K, &V) + Send + Sync + 'static) -> Self {
-        self.freed = Some(Box::new(move |object| freed(&object.key, &object.value)));
+        self.hears.freed = Some(Box::new(move |object| freed(&object.key, &object.value)));
+        self
+    }
+
+    /// Bounds the sum of what the entries weigh. `weigher` says what an entry weighs: its bytes, say. It is called once for each put, before it.
+    ///
+    /// ```
+    /// use cefrodil_map::ObjectMap;
+    ///
+    /// let weigher = |url: &String, page: &Vec<u8>| (url.len() + page.len()) as u64;
+    /// let pages = ObjectMap::builder(10_000).max_weight(1_000, weigher).open()?;
+    /// for number in 0..100 {
+    ///     pages.insert(format!("/{number:03}"), vec![0; 96])?;
+    /// }
+    /// assert_eq!((pages.len(), pages.weight()), (10, 1_000));
+    /// # Ok::<(), Box<dyn std::error::Error>>(())
+    /// ```
+    ///
+    /// - A put that brings the sum above `most` evicts entries before it returns, those that were put first and not used since. So the sum is above
+    ///   `most` only while a put runs. It stays above until the next put if the evicting call gets no turn for over a second, as a write that is
+    ///   refused.
+    /// - An entry that alone is heavier than `most` is refused: [`InsertError::TooHeavy`](crate::InsertError::TooHeavy). What its key had stays.
+    /// - The map is still bounded by its number of entries, too. Take a capacity for as many entries as fit by their weight.
+    /// - [`weight`](ObjectMap::weight) is the sum. Objects that have left and wait to be freed don't count.
+    pub fn max_weight(mut self, most: u64, weigher: impl Fn(&K, &V) -> u64 + Send + Sync + 'static) -> Self {
+        self.hears.weights = Some(Weights::new(most, Box::new(move |object| weigher(&object.key, &object.value))));
         self
     }
 }
@@ -132,7 +180,7 @@ where
 
     /// Opens the map with shards of this shape, and calls that try so often.
     pub(crate) fn open_shaped(self, shape: &Shape, shards: u32, tries: u32) -> Result<ObjectMap<K, V, S>, OpenError> {
-        let inner = ObjectInner::open(self.settings, (shape, shards), tries, self.listener, self.freed)?;
+        let inner = ObjectInner::open(self.settings, (shape, shards), tries, self.hears)?;
         Ok(ObjectMap { inner: Arc::new(inner) })
     }
 }
@@ -143,12 +191,12 @@ impl<O: Held, S> ObjectInner<O, S> {
         settings: Settings<S>,
         (shape, shards): (&Shape, u32),
         tries: u32,
-        listener: Option<Listener<O>>,
-        freed: Option<Freed<O>>,
+        hears: Hears<O>,
     ) -> Result<ObjectInner<O, S>, OpenError> {
         let count = settings.handles();
         let mut handles = Cache::open(shape, shards, count).map_err(OpenError::of)?;
-        let Settings { hasher, life, threads, .. } = settings;
+        let Settings { hasher, life, idle, threads, .. } = settings;
+        let Hears { listener, freed, weights } = hears;
         Ok(ObjectInner {
             capacity: handles[0].capacity(),
             slots: Arc::new(Slots::new(handles)),
@@ -158,9 +206,11 @@ impl<O: Held, S> ObjectInner<O, S> {
             clock: Clock::new(),
             hasher,
             life,
+            idle,
             tries,
             listener,
             freed,
+            weights,
             objects: PhantomData,
         })
     }

@@ -1,5 +1,5 @@
 //! The map of bytes.
-use super::builder::{Freed, Listener, Reason};
+use super::builder::{Hears, Listener, Reason};
 use super::bytes::{Any, Block, Bytes, Head};
 use super::error::{AbsentError, IfError};
 use super::inner::ObjectInner;
@@ -28,14 +28,13 @@ pub struct BytesMap<H: Head, S = RandomState> {
 #[must_use = "a builder opens nothing before `open`"]
 pub struct BytesBuilder<H, S = RandomState> {
     settings: Settings<S>,
-    listener: Option<Listener<Bytes<H>>>,
-    freed: Option<Freed<Bytes<H>>>,
+    hears: Hears<Bytes<H>>,
 }
 
 impl<H: Head> BytesMap<H> {
     /// Chooses how to open a map for at least this many entries.
     pub fn builder(capacity: usize) -> BytesBuilder<H> {
-        BytesBuilder { settings: Settings::new(capacity), listener: None, freed: None }
+        BytesBuilder { settings: Settings::new(capacity), hears: Hears::nothing() }
     }
 }
 
@@ -54,18 +53,18 @@ impl<H: Head, S> BytesBuilder<H, S> {
 
     /// What hashes the keys.
     pub fn hasher<T>(self, hasher: T) -> BytesBuilder<H, T> {
-        BytesBuilder { settings: self.settings.hasher(hasher), listener: self.listener, freed: self.freed }
+        BytesBuilder { settings: self.settings.hasher(hasher), hears: self.hears }
     }
 
     /// Who hears of what leaves the map.
     pub fn listener(mut self, listener: impl Fn(&Bytes<H>, Reason) + Send + Sync + 'static) -> Self {
-        self.listener = Some(Listener(Box::new(listener)));
+        self.hears.listener = Some(Listener(Box::new(listener)));
         self
     }
 
     /// Who hears of what is freed.
     pub fn freed(mut self, freed: impl Fn(&Bytes<H>) + Send + Sync + 'static) -> Self {
-        self.freed = Some(Box::new(freed));
+        self.hears.freed = Some(Box::new(freed));
         self
     }
 }
@@ -78,7 +77,7 @@ impl<H: Head, S: BuildHasher> BytesBuilder<H, S> {
     /// The first [`OpenError`] that applies.
     pub fn open(self) -> Result<BytesMap<H, S>, OpenError> {
         let (shape, shards) = self.settings.shape()?;
-        let inner = ObjectInner::open(self.settings, (&shape, shards), TRIES, self.listener, self.freed)?;
+        let inner = ObjectInner::open(self.settings, (&shape, shards), TRIES, self.hears)?;
         Ok(BytesMap { inner: Arc::new(inner) })
     }
 }
@@ -117,7 +116,8 @@ impl<H: Head, S> BytesMap<H, S> {
     /// Looks up what has this hash, whatever its key is.
     pub fn look_hash<R>(&self, hash: u64, look: impl FnOnce(Result<Look<&Bytes<H>>, GetError>) -> R) -> R {
         let pinned = self.inner.pin();
-        let state = self.inner.count(pinned.look(hash, &Any, self.inner.looks()));
+        let state = pinned.look(hash, &Any, self.inner.looks());
+        self.inner.count(&state);
         look(state.map(|state| state.object()).ok_or(GetError::Busy))
     }
 

@@ -65,7 +65,7 @@ impl<K: Hash + Eq, V, S: BuildHasher> ObjectInner<Object<K, V>, S> {
             let pinned = self.pin();
             let (seen, over) = pinned.place(hash, &key, self.tries).ok_or(UpdateError::Busy)?;
             let value = change(seen.map(|seen| &seen.object.value));
-            let object = Object::new(key, value, self.deadline(None));
+            let object = self.object(key, value, None);
             self.detach(hash);
             let put = match seen {
                 Some(seen) => self.put_over_seen(&pinned, hash, object, seen),
@@ -73,7 +73,7 @@ impl<K: Hash + Eq, V, S: BuildHasher> ObjectInner<Object<K, V>, S> {
             };
             drop(pinned);
             match put {
-                Ok(done) => return Ok(self.end(done)),
+                Ok(done) => return Ok(self.end(hash, done)),
                 Err((_, Fail::Insert(why))) => return Err(why.into()),
                 Err((object, _)) => key = object.key,
             }
@@ -95,7 +95,7 @@ impl<K: Hash + Eq, V, S: BuildHasher> ObjectInner<Object<K, V>, S> {
             let pinned = self.pin();
             let (Some(seen), over) = pinned.place(hash, key, self.tries).ok_or(UpdateError::Busy)? else { return Ok(None) };
             let value = change(&seen.object.value);
-            let object = Object::new(seen.object.key.clone(), value, self.deadline(anew));
+            let object = self.object(seen.object.key.clone(), value, anew);
             self.detach(hash);
             let put = match anew {
                 Some(_) => self.put_over(hash, object, over, self.tries),
@@ -103,7 +103,7 @@ impl<K: Hash + Eq, V, S: BuildHasher> ObjectInner<Object<K, V>, S> {
             };
             drop(pinned);
             match put {
-                Ok(done) => return Ok(Some(self.end(done))),
+                Ok(done) => return Ok(Some(self.end(hash, done))),
                 Err((_, Fail::Insert(why))) => return Err(why.into()),
                 Err(_) => {}
             }

@@ -93,18 +93,19 @@ where
 }
 
 impl<K: Eq, V: Clone, S> ObjectInner<Object<K, V>, S> {
-    // A lookup that is counted.
-    fn get<Q: Eq + ?Sized>(&self, hash: u64, key: &Q, tries: u32) -> Result<Option<V>, GetError>
+    /// A lookup that is counted.
+    pub fn get<Q: Eq + ?Sized>(&self, hash: u64, key: &Q, tries: u32) -> Result<Option<V>, GetError>
     where
         K: Borrow<Q>,
     {
         let pinned = self.pin();
-        let state = self.count(pinned.look(hash, key, tries)).ok_or(GetError::Busy)?;
-        Ok(state.value().found().cloned())
+        let state = pinned.look(hash, key, tries);
+        self.count(&state);
+        Ok(state.ok_or(GetError::Busy)?.value().found().cloned())
     }
 
-    // A lookup that isn't.
-    fn find<Q: Eq + ?Sized>(&self, hash: u64, key: &Q, tries: u32) -> Option<V>
+    /// A lookup that isn't.
+    pub fn find<Q: Eq + ?Sized>(&self, hash: u64, key: &Q, tries: u32) -> Option<V>
     where
         K: Borrow<Q>,
     {
@@ -129,13 +130,13 @@ impl<K: Eq, V: Clone, S> ObjectInner<Object<K, V>, S> {
             return Ok(value);
         }
         let value = make()?;
-        let object = Object::new(key.to_owned(), value.clone(), self.deadline(None));
+        let object = self.object(key.to_owned(), value.clone(), None);
         Ok(self.fill(hash, object, leader, tries).unwrap_or(value))
     }
 
-    // Puts the object where its key has none, unless a write has detached the flight. If the key has another by now, returns its value.
-    // The lock under which flights are detached is held for the put alone, while no code of the caller runs.
-    fn fill(&self, hash: u64, mut object: Box<Object<K, V>>, leader: &Leader<()>, tries: u32) -> Option<V> {
+    /// Puts the object where its key has none, unless a write has detached the flight. If the key has another by now, returns its value.
+    /// The lock under which flights are detached is held for the put alone, while no code of the caller runs.
+    pub fn fill(&self, hash: u64, mut object: Box<Object<K, V>>, leader: &Leader<()>, tries: u32) -> Option<V> {
         for _ in 0..tries {
             let pinned = self.pin();
             let over = match pinned.place(hash, &object.key, tries) {
@@ -148,7 +149,7 @@ impl<K: Eq, V: Clone, S> ObjectInner<Object<K, V>, S> {
             let put = leader.put(|| self.put_over(hash, offered.take().expect("it is put once"), over, tries))?;
             match put {
                 Ok(done) => {
-                    self.end(done);
+                    self.end(hash, done);
                     return None;
                 }
                 Err((_, Fail::Insert(_))) => break,

@@ -1,5 +1,5 @@
 //! Why a call on objects failed.
-use crate::error::{InsertError, BUSY, CONTENDED, HELD, SPENT};
+use crate::error::{InsertError, BUSY, CONTENDED, HELD, SPENT, TOO_HEAVY};
 use std::error::Error;
 use std::fmt::{self, Debug, Display, Formatter};
 
@@ -48,6 +48,8 @@ pub enum IfError {
     Busy,
     /// Other threads were writing to the key's shard at each try. Call again.
     Held,
+    /// As [`InsertError::TooHeavy`].
+    TooHeavy,
     /// As [`InsertError::Spent`].
     Spent,
 }
@@ -88,6 +90,7 @@ impl Display for IfError {
             IfError::Changed { .. } => "the key was put since",
             IfError::Busy => BUSY,
             IfError::Held => HELD,
+            IfError::TooHeavy => TOO_HEAVY,
             IfError::Spent => SPENT,
         })
     }

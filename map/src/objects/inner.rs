@@ -1,8 +1,9 @@
 //! What all clones of a map of objects share, and how an object leaves.
 use super::builder::{Freed, Listener, Reason};
 use super::epochs::Epochs;
-use super::object::{pointer, Held};
-use crate::clock::{Clock, NEVER};
+use super::object::{pointer, Held, Object};
+use super::weights::Weights;
+use crate::clock::{Clock, FAR, NEVER};
 use crate::flight::Flights;
 use crate::print::Print;
 use crate::slots::Slots;
@@ -27,11 +28,14 @@ pub(crate) struct ObjectInner<O: Held, S> {
     pub hasher: S,
     /// The time to live of what is put.
     pub life: Option<Duration>,
+    /// How long an object lives that is not used.
+    pub idle: Option<Duration>,
     pub capacity: usize,
     /// How often a call tries.
     pub tries: u32,
     pub listener: Option<Listener<O>>,
     pub freed: Option<Freed<O>>,
+    pub weights: Option<Weights<O>>,
     pub objects: PhantomData<O>,
 }
 
@@ -48,7 +52,41 @@ impl<O: Held, S> ObjectInner<O, S> {
 
     /// The deadline of a value that is put now.
     pub fn deadline(&self, life: Option<Duration>) -> u64 {
-        life.or(self.life).map_or(NEVER, |life| self.clock.deadline(life))
+        let deadline = life.or(self.life).map_or(NEVER, |life| self.clock.deadline(life));
+        if self.notes_uses() {
+            deadline.min(FAR)
+        } else {
+            deadline
+        }
+    }
+
+    // Whether objects know of lookups that find them. Then none has the deadline `NEVER`.
+    fn notes_uses(&self) -> bool {
+        self.weights.is_some() || self.idle.is_some()
+    }
+
+    /// Whether the object has not expired.
+    pub fn is_live(&self, object: &O) -> bool {
+        !self.clock.has_passed(object.deadline().min(object.idle()))
+    }
+
+    /// The same for a lookup that is a use of it.
+    #[inline]
+    pub fn is_live_and_used(&self, object: &O) -> bool {
+        object.deadline() == NEVER || self.note_use(object)
+    }
+
+    #[cold]
+    fn note_use(&self, object: &O) -> bool {
+        let is_live = self.is_live(object);
+        if is_live && self.weights.is_some() {
+            object.set_used();
+        }
+        let next = self.idle.filter(|_| is_live).and_then(|idle| self.clock.moved(object.idle(), idle));
+        if let Some(next) = next {
+            object.move_idle(next);
+        }
+        is_live
     }
 
     /// Counts a write that failed.
@@ -65,9 +103,12 @@ impl<O: Held, S> ObjectInner<O, S> {
     /// An object has left the index, by a call that returned its word. The listener hears of it, and it is retired.
     pub fn left(&self, word: u64, reason: Reason) {
         let left = Left { inner: self, word };
+        if let Some(weights) = &self.weights {
+            weights.give_back(left.object().weight());
+        }
         if let Some(listener) = &self.listener {
             let object = left.object();
-            let reason = if self.clock.has_passed(object.deadline()) { Reason::Expired } else { reason };
+            let reason = if self.is_live(object) { reason } else { Reason::Expired };
             listener.0(object, reason);
         }
     }
@@ -85,6 +126,19 @@ impl<O: Held, S> ObjectInner<O, S> {
                 contain(|| drop(O::of_word(word)));
             }
         }
+    }
+}
+
+impl<K, V, S> ObjectInner<Object<K, V>, S> {
+    /// An object that is to be put.
+    pub fn object(&self, key: K, value: V, life: Option<Duration>) -> Box<Object<K, V>> {
+        let idle = self.idle.map_or(NEVER, |idle| self.clock.deadline(idle));
+        let mut object = Object::new(key, value, self.deadline(life), idle);
+        if let Some(weights) = &self.weights {
+            let weight = (weights.weigher)(&object);
+            object.set_weight(weight);
+        }
+        object
     }
 }
 

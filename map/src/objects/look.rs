@@ -87,10 +87,7 @@ where
     where
         K: Borrow<Q>,
     {
-        match self.inner.look(key, self.inner.looks(), |object| look(&object.value)) {
-            Ok(Look::Found { result, .. }) => Some(result),
-            _ => None,
-        }
+        self.inner.find_with(key, |object| look(&object.value))
     }
 
     /// A clone of the key's value, which doesn't count as used: it is evicted as if nobody had looked. [`stats`](Self::stats) doesn't count the
@@ -177,14 +174,31 @@ where
 }
 
 impl<O: Held, S: BuildHasher> ObjectInner<O, S> {
+    // Like `look`, without the moments, so that they are not copied.
+    #[inline]
+    fn find_with<Q: Hash + ?Sized, R>(&self, key: &Q, look: impl FnOnce(&O) -> R) -> Option<R>
+    where
+        O: Keyed<Q>,
+    {
+        let hash = self.hash(key);
+        let pinned = self.pin();
+        let state = pinned.look(hash, key, self.looks());
+        self.count(&state);
+        match state {
+            Some(State::Live(seen)) => Some(look(seen.object)),
+            _ => None,
+        }
+    }
+
     fn look<Q: Hash + ?Sized, R>(&self, key: &Q, tries: u32, look: impl FnOnce(&O) -> R) -> Result<Look<R>, GetError>
     where
         O: Keyed<Q>,
     {
         let hash = self.hash(key);
         let pinned = self.pin();
-        let state = self.count(pinned.look(hash, key, tries)).ok_or(GetError::Busy)?;
-        Ok(state.object().map(look))
+        let state = pinned.look(hash, key, tries);
+        self.count(&state);
+        Ok(state.ok_or(GetError::Busy)?.object().map(look))
     }
 
     pub fn look_many<Q: Hash + ?Sized>(&self, keys: &[&Q], mut look: impl FnMut(usize, Result<Look<&O>, GetError>))
@@ -199,7 +213,8 @@ impl<O: Held, S: BuildHasher> ObjectInner<O, S> {
             self.slots.call(|handle| handle.get_many(&hashes[..keys.len()], &mut replies[..keys.len()]));
             for (index, ((key, hash), reply)) in keys.iter().zip(hashes).zip(replies).enumerate() {
                 let state = pinned.state_or_look(hash, *key, reply, self.looks());
-                look(chunk * MANY + index, self.count(state).map(State::object).ok_or(GetError::Busy));
+                self.count(&state);
+                look(chunk * MANY + index, state.map(State::object).ok_or(GetError::Busy));
             }
         }
     }
@@ -216,7 +231,7 @@ impl<O: Held, S: BuildHasher> ObjectInner<O, S> {
             let touched = self.slots.in_turn(self.tries, || {
                 self.in_stripe(hash, |handle| match handle.get_or_turn(hash) {
                     Reply::Found { since, .. } if since == seen.since => {
-                        seen.object.set_deadline(self.clock.deadline(life));
+                        seen.object.set_deadline(self.deadline(Some(life)));
                         Ok(true)
                     }
                     Reply::Found { .. } | Reply::Absent { .. } => Ok(false),
@@ -236,8 +251,8 @@ impl<O: Held, S: BuildHasher> ObjectInner<O, S> {
 impl<O: Held, S> ObjectInner<O, S> {
     /// Counts a lookup.
     #[inline]
-    pub fn count<'a>(&self, state: Option<State<'a, O>>) -> Option<State<'a, O>> {
-        match &state {
+    pub fn count(&self, state: &Option<State<O>>) {
+        match state {
             Some(State::Live(_)) => self.slots.count(Kind::Hit),
             None => self.slots.count(Kind::Busy),
             Some(missed) => {
@@ -249,6 +264,5 @@ impl<O: Held, S> ObjectInner<O, S> {
                 }
             }
         }
-        state
     }
 }

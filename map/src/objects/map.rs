@@ -78,6 +78,12 @@ impl<K, V, S> ObjectMap<K, V, S> {
         self.inner.slots.stats()
     }
 
+    /// The sum of what the entries weigh, by the weigher of [`ObjectBuilder::max_weight`]; 0 without one. It counts what is about to be put.
+    #[must_use]
+    pub fn weight(&self) -> u64 {
+        self.inner.weights.as_ref().map_or(0, |weights| weights.sum())
+    }
+
     /// Frees the objects that have left the map and that no call uses. Returns how many still wait. A program whose objects are large calls
     /// this after it has removed some.
     pub fn free_unused(&self) -> usize {

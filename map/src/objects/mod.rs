@@ -1,4 +1,5 @@
 //! Objects of any type behind the index: the map's entry is the address of an object on the heap.
+mod board;
 mod builder;
 mod bytes;
 mod bytes_map;
@@ -14,7 +15,9 @@ mod pinned;
 mod put;
 mod remove;
 mod sweep;
+mod weights;
 
+pub use board::{ObjectLead, ObjectWait};
 pub use builder::{ObjectBuilder, Reason};
 pub use bytes::{Block, Bytes, Head};
 pub use bytes_map::{BytesBuilder, BytesMap};

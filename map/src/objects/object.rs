@@ -1,5 +1,7 @@
 //! What a map has on the heap for a key, and its address as the word of an entry.
+use crate::clock::NEVER;
 use std::borrow::Borrow;
+use std::ops::Deref;
 use std::sync::atomic::{AtomicU64, Ordering::Relaxed};
 
 /// What a map has on the heap for a key.
@@ -10,7 +12,7 @@ use std::sync::atomic::{AtomicU64, Ordering::Relaxed};
 /// there until `of_word`.
 pub(crate) unsafe trait Held: Sized {
     /// What owns it before it is put, and when it is to be freed.
-    type Owner;
+    type Owner: Deref<Target = Self>;
 
     /// Its address.
     fn into_word(owner: Self::Owner) -> u64;
@@ -27,6 +29,27 @@ pub(crate) unsafe trait Held: Sized {
 
     /// Moves its deadline.
     fn set_deadline(&self, deadline: u64);
+
+    /// When it expires if it is not used.
+    fn idle(&self) -> u64 {
+        NEVER
+    }
+
+    /// Moves that, unless it is later already.
+    fn move_idle(&self, _: u64) {}
+
+    /// What it weighs in a map with a bound on the sum.
+    fn weight(&self) -> u64 {
+        0
+    }
+
+    /// A lookup has found it.
+    fn set_used(&self) {}
+
+    /// Whether a lookup has found it since this was called last.
+    fn take_used(&self) -> bool {
+        false
+    }
 }
 
 /// What may have a key of this kind.
@@ -46,12 +69,25 @@ pub(crate) struct Object<K, V> {
     pub key: K,
     // A renewal moves it. Relaxed: it says nothing of other memory. What moves or keeps it has the lock of the key's stripe.
     deadline: AtomicU64,
+    // When it expires if it is not used. Relaxed: as above.
+    idle: AtomicU64,
+    // Its weight, which stays, and `USED`. Relaxed: both say nothing of other memory.
+    weight: AtomicU64,
     pub value: V,
 }
 
+// The weights of all objects are below it.
+const USED: u64 = 1 << 63;
+
 impl<K, V> Object<K, V> {
-    pub fn new(key: K, value: V, deadline: u64) -> Box<Object<K, V>> {
-        Box::new(Object { key, deadline: AtomicU64::new(deadline), value })
+    pub fn new(key: K, value: V, deadline: u64, idle: u64) -> Box<Object<K, V>> {
+        let [deadline, idle, weight] = [deadline, idle, 0].map(AtomicU64::new);
+        Box::new(Object { key, deadline, idle, weight, value })
+    }
+
+    /// Before it is put.
+    pub fn set_weight(&mut self, weight: u64) {
+        *self.weight.get_mut() = weight.min(USED - 1);
     }
 }
 
@@ -75,6 +111,29 @@ unsafe impl<K, V> Held for Object<K, V> {
 
     fn set_deadline(&self, deadline: u64) {
         self.deadline.store(deadline, Relaxed);
+    }
+
+    fn idle(&self) -> u64 {
+        self.idle.load(Relaxed)
+    }
+
+    fn move_idle(&self, deadline: u64) {
+        self.idle.fetch_max(deadline, Relaxed);
+    }
+
+    fn weight(&self) -> u64 {
+        self.weight.load(Relaxed) & !USED
+    }
+
+    // Most lookups find it set, and write nothing that other threads read.
+    fn set_used(&self) {
+        if self.weight.load(Relaxed) & USED == 0 {
+            self.weight.fetch_or(USED, Relaxed);
+        }
+    }
+
+    fn take_used(&self) -> bool {
+        self.weight.fetch_and(!USED, Relaxed) & USED != 0
     }
 }
 

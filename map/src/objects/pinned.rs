@@ -88,7 +88,8 @@ impl<O: Held, S> Pinned<'_, O, S> {
     where
         O: Keyed<Q>,
     {
-        self.state(self.inner.slots.within(tries, || self.inner.slots.call(|handle| handle.try_peek(hash)).ok())?, key)
+        let reply = self.inner.slots.within(tries, || self.inner.slots.call(|handle| handle.try_peek(hash)).ok())?;
+        self.state(reply, key, |object| self.inner.is_live(object))
     }
 
     /// What the reply of a first try says; if it is busy, the key is looked up again. This must have been pinned before that try.
@@ -99,7 +100,7 @@ impl<O: Held, S> Pinned<'_, O, S> {
     {
         match first {
             Reply::Busy => self.look_again(hash, key, tries - 1),
-            reply => self.state(reply, key),
+            reply => self.used(reply, key),
         }
     }
 
@@ -117,7 +118,7 @@ impl<O: Held, S> Pinned<'_, O, S> {
 
     /// Whether the object has expired. The word is one that the index returned to this call.
     pub fn has_expired(&self, word: u64) -> bool {
-        self.inner.clock.has_passed(self.object(word).deadline())
+        !self.inner.is_live(self.object(word))
     }
 
     #[cold]
@@ -129,11 +130,19 @@ impl<O: Held, S> Pinned<'_, O, S> {
             Reply::Busy => None,
             reply => Some(reply),
         });
-        self.state(reply?, key)
+        self.used(reply?, key)
     }
 
     #[inline]
-    fn state<Q: ?Sized>(&self, reply: Reply<1>, key: &Q) -> Option<State<'_, O>>
+    fn used<Q: ?Sized>(&self, reply: Reply<1>, key: &Q) -> Option<State<'_, O>>
+    where
+        O: Keyed<Q>,
+    {
+        self.state(reply, key, |object| self.inner.is_live_and_used(object))
+    }
+
+    #[inline]
+    fn state<Q: ?Sized>(&self, reply: Reply<1>, key: &Q, is_live: impl FnOnce(&O) -> bool) -> Option<State<'_, O>>
     where
         O: Keyed<Q>,
     {
@@ -144,7 +153,7 @@ impl<O: Held, S> Pinned<'_, O, S> {
         };
         Some(if !seen.object.has_key(key) {
             State::Other(seen)
-        } else if self.inner.clock.has_passed(seen.object.deadline()) {
+        } else if !is_live(seen.object) {
             State::Expired(seen)
         } else {
             State::Live(seen)
@@ -154,7 +163,7 @@ impl<O: Held, S> Pinned<'_, O, S> {
     /// The object of this word if it has not expired.
     pub fn live_object(&self, word: u64) -> Option<&O> {
         let object = self.object(word);
-        (!self.inner.clock.has_passed(object.deadline())).then_some(object)
+        self.inner.is_live(object).then_some(object)
     }
 
     /// The word is one that the index returned to this call after it was pinned, or one that this call puts.

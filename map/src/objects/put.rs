@@ -5,6 +5,7 @@ use super::inner::ObjectInner;
 use super::map::ObjectMap;
 use super::object::{Held, Keyed, Object};
 use super::pinned::{Over, Pinned, Seen};
+use super::weights::Place;
 use crate::error::InsertError;
 use crate::map::Inserted;
 use cefrodil::{Handle, PutError, PutIfError, Replaced, Reply, Swapped, TurnError};
@@ -65,7 +66,7 @@ where
     pub fn put(&self, key: K, value: V, life: Option<Duration>) -> Result<Put, Refused<K, V>> {
         let inner = &self.inner;
         let hash = inner.hash(&key);
-        let object = Object::new(key, value, inner.deadline(life));
+        let object = inner.object(key, value, life);
         inner.put(hash, object).map_err(|(object, why)| inner.refuse(*object, why))
     }
 
@@ -77,7 +78,7 @@ where
     pub fn put_if_absent(&self, key: K, value: V, life: Option<Duration>) -> Result<Put, Refused<K, V, AbsentError>> {
         let inner = &self.inner;
         let hash = inner.hash(&key);
-        let object = Object::new(key, value, inner.deadline(life));
+        let object = inner.object(key, value, life);
         inner.put_new(hash, object, |object| &object.key).map_err(|(object, why)| inner.refuse(*object, why))
     }
 
@@ -90,7 +91,7 @@ where
     pub fn replace_if(&self, key: K, since: u64, value: V, life: Option<Duration>) -> Result<Put, Refused<K, V, IfError>> {
         let inner = &self.inner;
         let hash = inner.hash(&key);
-        let object = Object::new(key, value, inner.deadline(life));
+        let object = inner.object(key, value, life);
         inner.replace(hash, since, object).map_err(|(object, why)| inner.refuse(*object, why))
     }
 }
@@ -127,6 +128,7 @@ impl Fail {
             Fail::NotThere { at } => IfError::NotThere { at },
             Fail::Changed { since } => IfError::Changed { since },
             Fail::Insert(InsertError::Spent) => IfError::Spent,
+            Fail::Insert(InsertError::TooHeavy) => IfError::TooHeavy,
             Fail::Insert(_) | Fail::Present => IfError::Held,
         }
     }
@@ -137,7 +139,7 @@ impl<O: Held, S> ObjectInner<O, S> {
     pub fn put(&self, hash: u64, object: O::Owner) -> Ended<O, InsertError> {
         self.detach(hash);
         match self.put_over(hash, object, Over::Any, self.tries) {
-            Ok(done) => Ok(self.end(done)),
+            Ok(done) => Ok(self.end(hash, done)),
             Err((object, Fail::Insert(why))) => Err((object, why)),
             Err(_) => unreachable!("this put does not ask what is there"),
         }
@@ -160,7 +162,7 @@ impl<O: Held, S> ObjectInner<O, S> {
             };
             self.detach(hash);
             match self.put_over(hash, object, over, self.tries) {
-                Ok(done) => return Ok(self.end(done)),
+                Ok(done) => return Ok(self.end(hash, done)),
                 Err((back, Fail::Insert(why))) => return Err((back, why.into())),
                 Err((back, _)) => object = back,
             }
@@ -172,7 +174,7 @@ impl<O: Held, S> ObjectInner<O, S> {
     pub fn replace(&self, hash: u64, since: u64, object: O::Owner) -> Ended<O, IfError> {
         self.detach(hash);
         match self.put_over(hash, object, Over::At(since), self.tries) {
-            Ok(done) => Ok(self.end(done)),
+            Ok(done) => Ok(self.end(hash, done)),
             Err((object, why)) => Err((object, why.of_moment())),
         }
     }
@@ -201,8 +203,15 @@ impl<O: Held, S> ObjectInner<O, S> {
 
     // `put` puts the word, as the last that it does with it, unless it fails.
     fn offer(&self, object: O::Owner, put: impl FnOnce(u64) -> Result<Done, Fail>) -> Offered<O> {
+        let weight = object.weight();
+        if self.weights.as_ref().is_some_and(|weights| !weights.take(weight)) {
+            return Err((object, Fail::Insert(InsertError::TooHeavy)));
+        }
         let word = O::into_word(object);
         put(word).map_err(|why| {
+            if let Some(weights) = &self.weights {
+                weights.give_back(weight);
+            }
             // SAFETY: `into_word` made the word of this very object. A call of the index that returns an error has put nothing, and each `put`
             // here fails only if its last call did. So no other thread has seen the word.
             (unsafe { O::of_word(word) }, why)
@@ -264,10 +273,19 @@ impl<O: Held, S> ObjectInner<O, S> {
         Done { put: Put { did, at }, old: old.map(|old| (old.value[0], reason)) }
     }
 
-    /// Ends a put: what gave way is retired.
-    pub fn end(&self, Done { put, old }: Done) -> Put {
+    /// Ends a put of this key: what gave way is retired. Others give way if all weigh too much.
+    pub fn end(&self, hash: u64, Done { put, old }: Done) -> Put {
+        let weighs = self.weights.is_some();
+        let place = Place { hash, since: put.at };
+        // First: the listener may panic.
+        if weighs {
+            self.enqueue(place);
+        }
         if let Some((word, reason)) = old {
             self.left(word, reason);
+        }
+        if weighs {
+            self.evict_to_bound(place);
         }
         put
     }

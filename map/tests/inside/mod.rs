@@ -1,5 +1,6 @@
 //! Tests that need what the map doesn't show: its clock, shapes and tries, its handles and calls of the index, who waits for a value, and where its
 //! errors come from.
+mod boards;
 mod detaching;
 mod disturbed;
 #[cfg(feature = "objects")]
@@ -9,13 +10,18 @@ mod expiry;
 mod fills;
 mod flights;
 mod held;
+mod idle;
 mod moves;
 #[cfg(feature = "objects")]
 mod object_disturbed;
 #[cfg(feature = "objects")]
 mod object_flights;
 #[cfg(feature = "objects")]
+mod object_idle;
+#[cfg(feature = "objects")]
 mod object_turns;
+#[cfg(feature = "objects")]
+mod object_weights;
 #[cfg(feature = "objects")]
 mod objects;
 mod overtaken;

@@ -1,9 +1,12 @@
 //! Maps of objects.
+mod boards;
 mod bytes;
 mod collisions;
 mod each;
 #[path = "../ends/mod.rs"]
 mod ends;
+#[path = "../executor/mod.rs"]
+mod executor;
 mod fills;
 mod frees;
 mod handles;
@@ -14,3 +17,4 @@ mod panics;
 mod stamps;
 mod texts;
 mod threads;
+mod weights;
