@@ -1,5 +1,7 @@
-// A store of sessions for any number of threads: strings of any size, within a bound on their bytes. Sessions that nobody used lately leave for others.
+// A store of sessions for any number of threads: strings of any size, within a bound on their bytes. Sessions that nobody used lately leave for
+// others, and each ends when it was not used for half an hour.
 #include "cefrodil_object_map.hpp"
+#include <chrono>
 #include <cstdio>
 #include <map>
 #include <optional>
@@ -43,6 +45,7 @@ int main() {
     Sessions::Rules rules;
     rules.weigher = bytes_of;
     rules.most_weight = most;
+    rules.lives.time_to_idle = std::chrono::minutes(30);
     // Room for as many sessions as the smallest ones would be. So the bytes are the bound, and not the number.
     if (sessions.open({4000}, rules) != cefrodil::Status::ok || sessions.insert("first", {"ann", {}}).status != cefrodil::Status::ok) {
         return 1;

@@ -20,6 +20,10 @@
 // and waits to be freed weighs a sixteenth of the bound and one object more at most, while no function of `look` runs. If a thread is stopped within a
 // write, the sum may stay above the bound until a later put.
 //
+// Entries that end: `rules.lives.time_to_live = std::chrono::minutes(30)`. A put begins the time anew, also over a value, and may say another time:
+// `insert_for`. An update does not, but `update_for` does. `time_to_idle` ends what no call has found or put for so long. What has expired is absent for
+// all calls. It stays until it is overwritten or evicted, or by `erase_expired` removed; the listener then hears `Left::expired`.
+//
 // This header is plain C++ and is not proved. The index below it is. The map's own part is an argument by hand: map/SAFETY.md of Cefrodil's repository.
 // Whoever finds an object keeps it until its call ends. An object that has left the map is freed by a later call that writes, once no call can have
 // found it. So a value's destructor runs in any thread that writes, and under no lock of the map. While a function of `look` runs, all objects that
@@ -113,30 +117,25 @@ template <class K, class V, class Hash = SipHash<K>, class Equal = std::equal_to
     // Puts a key that is absent. Statuses are those of cefrodil::map, and no_memory, and too_heavy: it weighs more than the bound. Unless ok, a V that
     // was moved here is moved back.
     template <class Value = V> [[nodiscard]] Stored insert(Key key, Value &&value) {
-        return put<Value>(key, value, [&](const inside::Identity &known, Own &object) { return inner_->insert(known, key, object); });
+        return put<Value>(key, value, std::nullopt, [&](const auto &known, Own &object) { return inner_->insert(known, key, object); });
     }
     // Puts a key, whether it is there or not. Unless ok, an earlier value is still there.
     template <class Value = V> [[nodiscard]] Stored insert_or_assign(Key key, Value &&value) {
-        return put<Value>(key, value, [&](const inside::Identity &known, Own &object) { return inner_->objects.put(known.index, object); });
+        return put<Value>(key, value, std::nullopt, [&](const auto &known, Own &object) { return inner_->objects.put(known.index, object); });
+    }
+    // The same, with a time to live of its own, in any map. A time of 0 or less is over at once, and `forever` never.
+    template <class Value = V> [[nodiscard]] Stored insert_for(Key key, Value &&value, std::chrono::nanoseconds life) {
+        return put<Value>(key, value, life, [&](const auto &known, Own &object) { return inner_->insert(known, key, object); });
+    }
+    template <class Value = V> [[nodiscard]] Stored insert_or_assign_for(Key key, Value &&value, std::chrono::nanoseconds life) {
+        return put<Value>(key, value, life, [&](const auto &known, Own &object) { return inner_->objects.put(known.index, object); });
     }
     // Replaces the value of a key that is there by what the function makes of it, `V function(const V &)`. If another thread is first, it is called
     // again. absent: the key is not there. too_heavy: the new value is, and the old one stays.
-    template <class Function> [[nodiscard]] Status update(Key key, Function function) {
-        if (!inner_) {
-            return Status::closed;
-        }
-        const inside::Identity known = inner_->identities.of(key);
-        inner_->flights_of(known).outdate(known);
-        for (uint32_t repeat = 0;; repeat++) {
-            Seen seen{};
-            Changed change = inner_->renew(known, key, function, seen);
-            if (seen.status != Status::ok || !is_lost(change.status)) {
-                return inner_->objects.end(change);
-            }
-            if (repeat >= inner_->objects.turns().tries()) {
-                return Status::changed;
-            }
-        }
+    template <class Function> [[nodiscard]] Status update(Key key, Function function) { return renew(key, std::nullopt, function); }
+    // The same, and the entry lives for so long from now on. By `update` its time to live goes on.
+    template <class Function> [[nodiscard]] Status update_for(Key key, std::chrono::nanoseconds life, Function function) {
+        return renew(key, life, function);
     }
     // Removes a key. ok or absent: it is gone.
     [[nodiscard]] Status erase(Key key) {
@@ -183,6 +182,8 @@ template <class K, class V, class Hash = SipHash<K>, class Equal = std::equal_to
         std::for_each(inner_->flights.begin(), inner_->flights.end(), [](inside::Flights &flights) { flights.outdate_all(); });
         return inner_->objects.clear();
     }
+    // Removes what has expired. Until then it stays until it is overwritten or evicted, and `size` and `weight` count it. As by `clear`.
+    [[nodiscard]] Status erase_expired() { return inner_ ? inner_->objects.erase_expired() : Status::closed; }
     // Frees what has left the map and no call can use any more. Other calls do so now and then. Returns how many objects.
     size_t free_unused() noexcept { return inner_ ? inner_->objects.free_now() : 0; }
 
@@ -208,18 +209,40 @@ template <class K, class V, class Hash = SipHash<K>, class Equal = std::equal_to
         V value = function();
         Own object = inner_->objects.make(key, [&]() -> const V & { return value; });
         const Status status = flight.land([&] {
-            put = object ? inner_->objects.put_absent(known.index, object) : put;
+            put = object ? inner_->objects.put_new(known.index, object) : put;
             return put.status == Status::changed ? Status::present : put.status;
         });
         return Computed<V>{status, std::move(value), true};
     }
+    // A time to live that a call says, or that of the map.
+    using Life = std::optional<std::chrono::nanoseconds>;
+
+    // Replaces the value, until no other thread is first.
+    template <class Function> Status renew(Key key, const Life &life, Function &function) {
+        if (!inner_) {
+            return Status::closed;
+        }
+        const inside::Identity known = inner_->identities.of(key);
+        inner_->flights_of(known).outdate(known);
+        for (uint32_t repeat = 0;; repeat++) {
+            Seen seen{};
+            Changed change = inner_->renew(known, key, life, function, seen);
+            if (seen.status != Status::ok || !is_lost(change.status)) {
+                return inner_->objects.end(change);
+            }
+            if (repeat >= inner_->objects.turns().tries()) {
+                return Status::changed;
+            }
+        }
+    }
     // Makes an object, and puts it.
-    template <class Value, class Put> [[gnu::always_inline]] Stored put(Key key, std::remove_reference_t<Value> &value, Put make) {
+    template <class Value, class Put> [[gnu::always_inline]] Stored put(Key key, std::remove_reference_t<Value> &value, const Life &life, Put make) {
         if (!inner_) {
             return {Status::closed, false, false};
         }
         const inside::Identity known = inner_->identities.of(key);
-        Own object = inner_->objects.make(key, [&]() -> Value && { return std::forward<Value>(value); });
+        const auto give = [&]() -> Value && { return std::forward<Value>(value); };
+        Own object = life ? inner_->objects.make_until(key, give, inner_->objects.deadline_after(*life)) : inner_->objects.make(key, give);
         if (!object) {
             return {Status::no_memory, false, false};
         }
@@ -268,8 +291,8 @@ template <class K, class V, class Hash = SipHash<K>, class Equal = std::equal_to
             }
         }
         // Puts what the function makes of the key's value, if no other thread does meanwhile. `seen`: what it looked up.
-        template <class Function> [[gnu::always_inline]] Changed renew(const inside::Identity &known, Key key, Function &function, Seen &seen) {
-            Own object = made_of(known, key, function, seen);
+        template <class Function> [[gnu::always_inline]] Changed renew(const inside::Identity &known, Key key, const Life &life, Function &function, Seen &seen) {
+            Own object = made_of(known, key, life, function, seen);
             if (seen.status != Status::ok) {
                 return Objects::refused(seen.status);
             }
@@ -277,10 +300,15 @@ template <class K, class V, class Hash = SipHash<K>, class Equal = std::equal_to
             flights_of(known).outdate(known);
             return object ? objects.put_over(known.index, seen.since, object) : Objects::refused(Status::no_memory);
         }
-        template <class Function> [[gnu::always_inline]] Own made_of(const inside::Identity &known, Key key, Function &function, Seen &seen) {
+        template <class Function>
+        [[gnu::always_inline]] Own made_of(const inside::Identity &known, Key key, const Life &life, Function &function, Seen &seen) {
             Pinned pinned(objects);
             seen = look(pinned, known, key, objects.turns().tries());
-            return seen.status == Status::ok ? objects.make(key, [&] { return function(static_cast<const V &>(seen.object->value)); }) : Own();
+            if (seen.status != Status::ok) {
+                return Own();
+            }
+            const auto give = [&] { return function(static_cast<const V &>(seen.object->value)); };
+            return objects.make_until(key, give, life ? objects.deadline_after(*life) : Objects::deadline_of(*seen.object));
         }
 
         inside::Identities<Key, Hash> identities;

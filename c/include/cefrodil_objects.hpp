@@ -3,6 +3,7 @@
 #define CEFRODIL_OBJECTS_HPP
 
 #include "cefrodil_epochs.hpp"
+#include "cefrodil_lives.hpp"
 #include "cefrodil_map.hpp"
 #include "cefrodil_weights.hpp"
 #include <algorithm>
@@ -18,8 +19,9 @@
 
 namespace cefrodil {
 
-// Why an object left a map. evicted: another key was put, or the weights were over the bound.
-enum class Left { replaced, evicted, removed };
+// Why an object left a map. evicted: another key was put, or the weights were over the bound. expired: its time was over before one of the others
+// happened.
+enum class Left { replaced, evicted, removed, expired };
 
 // What a map of objects does beside keeping them. None of these functions throws.
 template <class K, class V> struct ObjectRules {
@@ -31,6 +33,8 @@ template <class K, class V> struct ObjectRules {
     std::function<uint64_t(const K &, const V &)> weigher = nullptr;
     // The bound on the sum of the weights, 0 to 2^48. A larger number is taken for 2^48.
     uint64_t most_weight = uint64_t(1) << 48;
+    // How long entries live.
+    Lives lives = {};
 };
 
 namespace inside {
@@ -60,7 +64,7 @@ template <class K, class V> struct Object : Retired {
 };
 
 // The same in a map with rules.
-template <class K, class V> struct RuledObject final : Object<K, V>, Weighed {
+template <class K, class V> struct RuledObject final : Object<K, V>, Weighed, Mortal {
     template <class Key, class Give> RuledObject(const Key &its_key, const Give &give) : Object<K, V>(Object<K, V>::unmade, its_key, give) {}
     // It is what it will be, and may be put.
     void end_making() noexcept { this->kind.store(Object<K, V>::ruled, std::memory_order_release); }
@@ -85,7 +89,7 @@ template <class K, class V> class Objects {
     using Own = std::unique_ptr<Each, Destroy>;
     using Rules = ObjectRules<K, V>;
 
-    Objects(size_t slots, Rules &&its_rules) : epochs_(allowed(slots)), rules_(std::move(its_rules)) {
+    Objects(size_t slots, Rules &&its_rules) : epochs_(allowed(slots)), rules_(std::move(its_rules)), clock_(rules_.lives) {
         if (rules_.weigher) {
             weights_.emplace(std::min(rules_.most_weight, Rules().most_weight));
         }
@@ -110,10 +114,10 @@ template <class K, class V> class Objects {
         return status;
     }
 
-    // What is under a number, and the moment of its put. None: the status says why.
+    // What is under a number, and the moment of its put. None: the status says why. absent: if the moment is not 0, an object is there that has expired.
     struct Seen {
         Status status;
-        const Each *object;
+        Each *object;
         uint64_t since;
     };
     // The only way to an object: none that is found while this lives is freed before it ends.
@@ -127,10 +131,16 @@ template <class K, class V> class Objects {
                 return {seen.status, nullptr, seen.since};
             }
             Each *const object = Each::found_at(word[0]);
-            if (!object->is_plain()) {
-                Ruled::of(*object).use();
+            if (!object->is_plain() && !objects_.is_used(Ruled::of(*object))) {
+                return {Status::absent, nullptr, seen.since};
             }
             return {Status::ok, object, seen.since};
+        }
+        // The moment of the put of what is under a number, if that has expired, or else 0.
+        uint64_t expired(uint64_t index) noexcept {
+            std::array<uint64_t, 1> word;
+            const inside::Seen seen = objects_.turns_.get(index, objects_.turns_.looks(), word);
+            return seen.status == Status::ok && objects_.has_expired(*Each::found_at(word[0])) ? seen.since : 0;
         }
 
       private:
@@ -148,8 +158,14 @@ template <class K, class V> class Objects {
     static Changed refused(Status status) noexcept { return {status, nullptr, Left::replaced, false, false}; }
     // Makes an object. None without memory: then the function is not called.
     template <class Key, class Give> [[gnu::always_inline]] Own make(const Key &key, const Give &give) const {
-        return is_ruled() ? make_ruled(key, give) : Own(new (std::nothrow) Each(Each::plain, key, give));
+        return is_ruled() ? make_ruled(key, give, clock_.deadline()) : Own(new (std::nothrow) Each(Each::plain, key, give));
     }
+    // The same, with a deadline of its own.
+    template <class Key, class Give> Own make_until(const Key &key, const Give &give, uint64_t deadline) const {
+        return is_ruled() || deadline != never ? make_ruled(key, give, deadline) : make(key, give);
+    }
+    uint64_t deadline_after(std::chrono::nanoseconds life) const noexcept { return clock_.deadline_after(life); }
+    static uint64_t deadline_of(Each &object) noexcept { return object.is_plain() ? never : Ruled::of(object).deadline; }
     // Puts whatever is there.
     [[gnu::always_inline]] Changed put(uint64_t index, Own &object) noexcept {
         return offered(index, object, [&] {
@@ -164,6 +180,15 @@ template <class K, class V> class Objects {
         };
         return offered(index, object, [&] { return in_stripe(index, put); });
     }
+    // The same, also over what has expired. present: something else is there.
+    Changed put_new(uint64_t index, Own &object) noexcept {
+        Changed put = put_absent(index, object);
+        if (put.status == Status::changed) {
+            const uint64_t since = Pinned(*this).expired(index);
+            put = since != 0 ? put_over(index, since, object) : put;
+        }
+        return put;
+    }
     // Puts over what was put at that moment.
     Changed put_over(uint64_t index, uint64_t since, Own &object) noexcept {
         return offered(index, object, [&] {
@@ -177,8 +202,8 @@ template <class K, class V> class Objects {
     // Ends a change: the listener hears of what gave way, and then it is retired. Then objects leave until the others are within the bound on weights,
     // and `evicted` is set if any did. Call it when the caller has no pin of its own any more.
     Status end(Changed &change) noexcept {
-        if (is_ruled()) {
-            end_ruled(change);
+        if (weights_) {
+            end_weighed(change);
         } else if (change.old != nullptr) {
             retire(change);
         }
@@ -193,6 +218,17 @@ template <class K, class V> class Objects {
         for (size_t at = 0; at < list.size() && status == Status::ok; at += 2) {
             status = end(removed([&](Slot<1> &slot) { return slot.handle.try_take(list[at]); }));
             status = status == Status::absent ? Status::ok : status;
+        }
+        return status;
+    }
+    // Removes what has expired, by such a list.
+    Status erase_expired() noexcept {
+        std::vector<uint64_t> list;
+        Status status = turns_.repeated([&](Slot<1> &slot) { return slot.handle.try_entries(list); });
+        for (size_t at = 0; at < list.size() && status == Status::ok; at += 2) {
+            const uint64_t since = Pinned(*this).expired(list[at]);
+            status = since != 0 ? end(take(list[at], since)) : status;
+            status = status == Status::absent || status == Status::changed ? Status::ok : status;
         }
         return status;
     }
@@ -233,19 +269,37 @@ template <class K, class V> class Objects {
         });
         return {taken.status, taken.old ? Each::at((*taken.old)[0]) : nullptr, Left::removed, false, false};
     }
-    bool is_ruled() const noexcept { return weights_.has_value(); }
-    template <class Key, class Give> [[gnu::cold]] [[gnu::noinline]] Own make_ruled(const Key &key, const Give &give) const {
+    bool is_ruled() const noexcept { return is_ruled_; }
+    bool has_expired(Each &object) const noexcept {
+        if (object.is_plain()) {
+            return false;
+        }
+        const Ruled &ruled = Ruled::of(object);
+        return clock_.has_passed(ruled.deadline) || clock_.has_passed(ruled.idle_deadline.load(std::memory_order_relaxed));
+    }
+    // A call has found it. Whether it has not expired: then it is used.
+    [[gnu::noinline]] bool is_used(Ruled &object) noexcept {
+        const bool is_live = !has_expired(object);
+        if (is_live) {
+            object.use();
+            object.idle_deadline.store(clock_.idle_deadline(), std::memory_order_relaxed);
+        }
+        return is_live;
+    }
+    template <class Key, class Give> [[gnu::cold]] [[gnu::noinline]] Own make_ruled(const Key &key, const Give &give, uint64_t deadline) const {
         Ruled *const made = new (std::nothrow) Ruled(key, give);
         if (made != nullptr) {
-            made->weight = rules_.weigher(made->key, made->value);
+            made->weight = weights_ ? rules_.weigher(made->key, made->value) : 0;
+            made->deadline = deadline;
+            made->idle_deadline.store(clock_.idle_deadline(), std::memory_order_relaxed);
             made->end_making();
         }
         return Own(made);
     }
     template <class Put> [[gnu::always_inline]] Changed offered(uint64_t index, Own &object, Put put) noexcept {
-        return is_ruled() ? offered_ruled(index, Ruled::of(*object), object, put) : ended(object, put());
+        return weights_ ? offered_weighed(index, Ruled::of(*object), object, put) : ended(object, put());
     }
-    template <class Put> [[gnu::cold]] [[gnu::noinline]] Changed offered_ruled(uint64_t index, Ruled &ruled, Own &object, Put &put) noexcept {
+    template <class Put> [[gnu::cold]] [[gnu::noinline]] Changed offered_weighed(uint64_t index, Ruled &ruled, Own &object, Put &put) noexcept {
         if (weights_->refuses(ruled.weight)) {
             return refused(Status::too_heavy);
         }
@@ -261,7 +315,7 @@ template <class K, class V> class Objects {
         }
         return ended(object, swapped);
     }
-    [[gnu::cold]] [[gnu::noinline]] void end_ruled(Changed &change) noexcept {
+    [[gnu::cold]] [[gnu::noinline]] void end_weighed(Changed &change) noexcept {
         if (change.old != nullptr) {
             weights_->leave(Ruled::of(*change.old));
             retire(change);
@@ -273,7 +327,7 @@ template <class K, class V> class Objects {
     }
     void retire(const Changed &change) noexcept {
         if (rules_.listener) {
-            rules_.listener(change.old->key, change.old->value, change.why);
+            rules_.listener(change.old->key, change.old->value, has_expired(*change.old) ? Left::expired : change.why);
         }
         static_cast<void>(free(epochs_.retire(*change.old)));
     }
@@ -317,7 +371,7 @@ template <class K, class V> class Objects {
             if (object->is_plain()) {
                 delete object;
             } else {
-                weights_->freed(Ruled::of(*object));
+                weights_ ? weights_->freed(Ruled::of(*object)) : void();
                 delete &Ruled::of(*object);
             }
         }
@@ -329,6 +383,8 @@ template <class K, class V> class Objects {
     Epochs epochs_;
     std::array<Stripe, 64> stripes_{};
     const Rules rules_;
+    const Clock clock_;
+    const bool is_ruled_ = rules_.weigher || clock_.has_lives();
     std::optional<Weights> weights_{};
 };
 
