@@ -47,7 +47,7 @@ template <class Parts> class EpochsOf {
         }
         Pinned(const Pinned &) = delete;
         Pinned &operator=(const Pinned &) = delete;
-        ~Pinned() {
+        [[gnu::always_inline]] ~Pinned() {
             if (slot_ == 0) {
                 epochs_.unshare(*this);
             } else if (Pin &pin = epochs_.pins_[slot_]; --pin.depth == 0) {
@@ -60,9 +60,9 @@ template <class Parts> class EpochsOf {
         friend EpochsOf;
         EpochsOf &epochs_;
         const size_t slot_;
-        // Without a slot: its number, and its place among the others.
-        uint64_t since_ = 0;
-        Pinned *next_ = nullptr, **link_ = nullptr;
+        // Without a slot: its number, and its place among the others. With one they have no value.
+        uint64_t since_;
+        Pinned *next_, **link_;
     };
 
     // Retires an object, which has left the index by a call that returned it. Returns those that may be freed now, each with the next one.
@@ -94,7 +94,8 @@ template <class Parts> class EpochsOf {
         size_t depth = 0;
     };
 
-    void share(Pinned &call) noexcept {
+    // Not compiled into the callers, which are quicker then with a slot.
+    [[gnu::cold]] [[gnu::noinline]] void share(Pinned &call) noexcept {
         const std::lock_guard<typename Parts::Mutex> guard(sharing_);
         call.since_ = retired_.load(std::memory_order_seq_cst);
         call.next_ = shared_, call.link_ = &shared_;
@@ -103,7 +104,7 @@ template <class Parts> class EpochsOf {
         }
         shared_ = &call;
     }
-    void unshare(Pinned &call) noexcept {
+    [[gnu::cold]] [[gnu::noinline]] void unshare(Pinned &call) noexcept {
         const std::lock_guard<typename Parts::Mutex> guard(sharing_);
         *call.link_ = call.next_;
         if (call.next_ != nullptr) {

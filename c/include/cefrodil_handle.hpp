@@ -55,7 +55,9 @@ enum class Status : uint32_t {
     // (cefrodil_map.hpp): the key was changed while its value was computed.
     stale = 1001,
     // By map::open alone: the kernel gave no random numbers. Nothing is open.
-    no_random = 1002
+    no_random = 1002,
+    // By the puts of an object_map with a bound on weights: the entry alone weighs more. Nothing was put, and an earlier value stays.
+    too_heavy = 1003
 };
 
 namespace inside {
@@ -97,6 +99,9 @@ inline const char *text(Status status) noexcept {
     }
     if (status == Status::no_random) {
         return "the kernel gave no random numbers";
+    }
+    if (status == Status::too_heavy) {
+        return "the entry weighs more than the map may hold";
     }
     return status == Status::stale ? "the store may have changed since the value was read" : cefrodil_text(static_cast<uint32_t>(status));
 }

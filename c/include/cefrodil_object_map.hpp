@@ -10,6 +10,20 @@
 //         const cefrodil::Status erased = pages.erase("home"); // neither ok nor absent: call again
 //     }
 //
+// A bound on memory: give `open` a weigher and a bound, as in map_session_store.cpp.
+//     decltype(pages)::Rules rules;
+//     rules.weigher = [](const std::string &url, const auto &page) { return url.size() + page->size(); };
+//     rules.most_weight = 1000000;
+//     const cefrodil::Status opened = pages.open({1000}, rules);
+// The map then holds 1,000 pages or more, as long as they weigh no more than the bound together. While calls put, the sum may be above the bound by
+// what they put. Those objects leave that came first, but for those that a call has found since it was last decided which ones leave. What has left
+// and waits to be freed weighs a sixteenth of the bound and one object more at most, while no function of `look` runs. If a thread is stopped within a
+// write, the sum may stay above the bound until a later put.
+//
+// Entries that end: `rules.lives.time_to_live = std::chrono::minutes(30)`. A put begins the time anew, also over a value, and may say another time:
+// `insert_for`. An update does not, but `update_for` does. `time_to_idle` ends what no call has found or put for so long. What has expired is absent for
+// all calls. It stays until it is overwritten or evicted, or by `erase_expired` removed; the listener then hears `Left::expired`.
+//
 // This header is plain C++ and is not proved. The index below it is. The map's own part is an argument by hand: map/SAFETY.md of Cefrodil's repository.
 // Whoever finds an object keeps it until its call ends. An object that has left the map is freed by a later call that writes, once no call can have
 // found it. So a value's destructor runs in any thread that writes, and under no lock of the map. While a function of `look` runs, all objects that
@@ -18,8 +32,8 @@
 // Keys are compared. Two keys whose hashes of 64 bits are the same can't be in the map at once: the later one replaces the earlier.
 //
 // What you promise is what cefrodil_map.hpp lists, and: keys and values may be read by several threads at once, and destroyed by any of them. The
-// listener and destructors throw nothing. No key or value that is destroyed by `close` or by the map's destructor calls the map. A reference that
-// `look` passes is not kept. No call throws, but what your functions and types throw. Then the map is as it was, unless an update was repeated.
+// listener, the weigher and destructors throw nothing. No key or value that is destroyed by `close` or by the map's destructor calls the map. A
+// reference that `look` passes is not kept. No call throws, but what your functions and types throw. Then the map is as it was, unless an update was repeated.
 #ifndef CEFRODIL_OBJECT_MAP_HPP
 #define CEFRODIL_OBJECT_MAP_HPP
 
@@ -47,19 +61,24 @@ template <class K, class V, class Hash = SipHash<K>, class Equal = std::equal_to
   public:
     // How a call takes a key. A string is taken as a view.
     using Key = inside::Taken<K, Hash>;
-    // Hears of each object that leaves the map, before it is freed, in the call that made it leave; but not of those that `close` frees. It may call
-    // the map.
-    using Listener = typename Objects::Listener;
+    // What the map does beside keeping objects: a listener, and a bound on weights.
+    using Rules = ObjectRules<K, V>;
+    using Listener = decltype(Rules::listener);
 
     object_map() noexcept {}
 
     // Opens the map, empty. Statuses are those of cefrodil::map.
     [[nodiscard]] Status open(const MapOptions &options, Listener listener = nullptr, Hash hash = Hash()) noexcept {
+        Rules rules;
+        rules.listener = std::move(listener);
+        return open(options, std::move(rules), std::move(hash));
+    }
+    [[nodiscard]] Status open(const MapOptions &options, Rules rules, Hash hash = Hash()) noexcept {
         if (inner_) {
             return Status::in_use;
         }
         std::unique_ptr<Inner> opened;
-        if (!inside::has_memory([&] { opened = std::make_unique<Inner>(options.passes, std::move(listener), std::move(hash)); })) {
+        if (!inside::has_memory([&] { opened = std::make_unique<Inner>(options.passes, std::move(rules), std::move(hash)); })) {
             return Status::no_memory;
         }
         if (!opened->identities.draw()) {
@@ -95,32 +114,28 @@ template <class K, class V, class Hash = SipHash<K>, class Equal = std::equal_to
         return look(key, [](const V &) {}) == Status::ok;
     }
 
-    // Puts a key that is absent. Statuses are those of cefrodil::map, and no_memory. Unless ok, a V that was moved here is moved back.
-    template <class Value> [[nodiscard]] Stored insert(Key key, Value &&value) {
-        return put<Value>(key, value, [&](const inside::Identity &known, Own &object) { return inner_->insert(known, key, object); });
+    // Puts a key that is absent. Statuses are those of cefrodil::map, and no_memory, and too_heavy: it weighs more than the bound. Unless ok, a V that
+    // was moved here is moved back.
+    template <class Value = V> [[nodiscard]] Stored insert(Key key, Value &&value) {
+        return put<Value>(key, value, std::nullopt, [&](const auto &known, Own &object) { return inner_->insert(known, key, object); });
     }
-    // Puts a key, whether it is there or not.
-    template <class Value> [[nodiscard]] Stored insert_or_assign(Key key, Value &&value) {
-        return put<Value>(key, value, [&](const inside::Identity &known, Own &object) { return inner_->objects.put(known.index, object); });
+    // Puts a key, whether it is there or not. Unless ok, an earlier value is still there.
+    template <class Value = V> [[nodiscard]] Stored insert_or_assign(Key key, Value &&value) {
+        return put<Value>(key, value, std::nullopt, [&](const auto &known, Own &object) { return inner_->objects.put(known.index, object); });
+    }
+    // The same, with a time to live of its own, in any map. A time of 0 or less is over at once, and `forever` never.
+    template <class Value = V> [[nodiscard]] Stored insert_for(Key key, Value &&value, std::chrono::nanoseconds life) {
+        return put<Value>(key, value, life, [&](const auto &known, Own &object) { return inner_->insert(known, key, object); });
+    }
+    template <class Value = V> [[nodiscard]] Stored insert_or_assign_for(Key key, Value &&value, std::chrono::nanoseconds life) {
+        return put<Value>(key, value, life, [&](const auto &known, Own &object) { return inner_->objects.put(known.index, object); });
     }
     // Replaces the value of a key that is there by what the function makes of it, `V function(const V &)`. If another thread is first, it is called
-    // again. absent: the key is not there.
-    template <class Function> [[nodiscard]] Status update(Key key, Function function) {
-        if (!inner_) {
-            return Status::closed;
-        }
-        const inside::Identity known = inner_->identities.of(key);
-        inner_->flights_of(known).outdate(known);
-        for (uint32_t repeat = 0;; repeat++) {
-            Seen seen{};
-            const Changed change = inner_->renew(known, key, function, seen);
-            if (seen.status != Status::ok || !is_lost(change.status)) {
-                return inner_->objects.end(change);
-            }
-            if (repeat >= inner_->objects.turns().tries()) {
-                return Status::changed;
-            }
-        }
+    // again. absent: the key is not there. too_heavy: the new value is, and the old one stays.
+    template <class Function> [[nodiscard]] Status update(Key key, Function function) { return renew(key, std::nullopt, function); }
+    // The same, and the entry lives for so long from now on. By `update` its time to live goes on.
+    template <class Function> [[nodiscard]] Status update_for(Key key, std::chrono::nanoseconds life, Function function) {
+        return renew(key, life, function);
     }
     // Removes a key. ok or absent: it is gone.
     [[nodiscard]] Status erase(Key key) {
@@ -167,11 +182,16 @@ template <class K, class V, class Hash = SipHash<K>, class Equal = std::equal_to
         std::for_each(inner_->flights.begin(), inner_->flights.end(), [](inside::Flights &flights) { flights.outdate_all(); });
         return inner_->objects.clear();
     }
+    // Removes what has expired. Until then it stays until it is overwritten or evicted, and `size` and `weight` count it. As by `clear`.
+    [[nodiscard]] Status erase_expired() { return inner_ ? inner_->objects.erase_expired() : Status::closed; }
     // Frees what has left the map and no call can use any more. Other calls do so now and then. Returns how many objects.
     size_t free_unused() noexcept { return inner_ ? inner_->objects.free_now() : 0; }
 
     uint64_t size() const noexcept { return inner_ ? inner_->objects.turns().keys() : 0; }
     uint64_t capacity() const noexcept { return inner_ ? inner_->objects.turns().capacity() : 0; }
+    // The sum of the weights, exact while no call writes. What other calls are about to put counts, and what has left does not, though it may wait to
+    // be freed. Without a weigher 0.
+    uint64_t weight() const noexcept { return inner_ ? inner_->objects.weight() : 0; }
     Meter meter() const noexcept { return inner_ ? inner_->objects.turns().meter() : Meter(nullptr); }
 
   private:
@@ -187,20 +207,42 @@ template <class K, class V, class Hash = SipHash<K>, class Equal = std::equal_to
             return Computed<V>{Status::ok, std::move(*found), false};
         }
         V value = function();
-        Own object(new (std::nothrow) inside::Object<K, V>(key, static_cast<const V &>(value)));
+        Own object = inner_->objects.make(key, [&]() -> const V & { return value; });
         const Status status = flight.land([&] {
-            put = object ? inner_->objects.put_absent(known.index, object) : put;
+            put = object ? inner_->objects.put_new(known.index, object) : put;
             return put.status == Status::changed ? Status::present : put.status;
         });
         return Computed<V>{status, std::move(value), true};
     }
+    // A time to live that a call says, or that of the map.
+    using Life = std::optional<std::chrono::nanoseconds>;
+
+    // Replaces the value, until no other thread is first.
+    template <class Function> Status renew(Key key, const Life &life, Function &function) {
+        if (!inner_) {
+            return Status::closed;
+        }
+        const inside::Identity known = inner_->identities.of(key);
+        inner_->flights_of(known).outdate(known);
+        for (uint32_t repeat = 0;; repeat++) {
+            Seen seen{};
+            Changed change = inner_->renew(known, key, life, function, seen);
+            if (seen.status != Status::ok || !is_lost(change.status)) {
+                return inner_->objects.end(change);
+            }
+            if (repeat >= inner_->objects.turns().tries()) {
+                return Status::changed;
+            }
+        }
+    }
     // Makes an object, and puts it.
-    template <class Value, class Put> Stored put(Key key, std::remove_reference_t<Value> &value, Put make) {
+    template <class Value, class Put> [[gnu::always_inline]] Stored put(Key key, std::remove_reference_t<Value> &value, const Life &life, Put make) {
         if (!inner_) {
             return {Status::closed, false, false};
         }
         const inside::Identity known = inner_->identities.of(key);
-        Own object(new (std::nothrow) inside::Object<K, V>(key, std::forward<Value>(value)));
+        const auto give = [&]() -> Value && { return std::forward<Value>(value); };
+        Own object = life ? inner_->objects.make_until(key, give, inner_->objects.deadline_after(*life)) : inner_->objects.make(key, give);
         if (!object) {
             return {Status::no_memory, false, false};
         }
@@ -220,15 +262,17 @@ template <class K, class V, class Hash = SipHash<K>, class Equal = std::equal_to
     static bool is_lost(Status status) noexcept { return status == Status::changed || status == Status::absent; }
 
     struct Inner {
-        Inner(size_t slots, Listener &&its_listener, Hash &&its_hash) : identities(std::move(its_hash)), objects(slots, std::move(its_listener)) {}
+        Inner(size_t slots, Rules &&rules, Hash &&its_hash) : identities(std::move(its_hash)), objects(slots, std::move(rules)) {}
         inside::Flights &flights_of(const inside::Identity &key) noexcept { return flights[key.index % flights.size()]; }
 
-        bool is_of(const Seen &seen, Key key) const { return seen.object != nullptr && Equal()(seen.object->key, key); }
-        // The key's object. An object of another key with the same number is none of its.
+        // The key's object. An object of another key with the same number is none of its. Compiled into its callers: a call costs a tenth of a lookup.
         Seen look(Pinned &&pinned, const inside::Identity &known, Key key, uint32_t most) const { return look(pinned, known, key, most); }
-        Seen look(Pinned &pinned, const inside::Identity &known, Key key, uint32_t most) const {
-            const Seen seen = pinned.look(known.index, most);
-            return seen.status == Status::ok && !is_of(seen, key) ? Seen{Status::absent, nullptr, seen.since} : seen;
+        [[gnu::always_inline]] Seen look(Pinned &pinned, const inside::Identity &known, Key key, uint32_t most) const {
+            Seen seen = pinned.look(known.index, most);
+            if (seen.status == Status::ok && !Equal()(seen.object->key, key)) {
+                seen.status = Status::absent, seen.object = nullptr;
+            }
+            return seen;
         }
         // Puts a key that is absent, or says `present`.
         Changed insert(const inside::Identity &known, Key key, Own &object) {
@@ -247,19 +291,24 @@ template <class K, class V, class Hash = SipHash<K>, class Equal = std::equal_to
             }
         }
         // Puts what the function makes of the key's value, if no other thread does meanwhile. `seen`: what it looked up.
-        template <class Function> Changed renew(const inside::Identity &known, Key key, Function &function, Seen &seen) {
-            Own object;
-            {
-                Pinned pinned(objects);
-                seen = look(pinned, known, key, objects.turns().tries());
-                if (seen.status != Status::ok) {
-                    return Objects::refused(seen.status);
-                }
-                object.reset(new (std::nothrow) inside::Object<K, V>(key, function(static_cast<const V &>(seen.object->value))));
+        template <class Function> [[gnu::always_inline]] Changed renew(const inside::Identity &known, Key key, const Life &life, Function &function, Seen &seen) {
+            Own object = made_of(known, key, life, function, seen);
+            if (seen.status != Status::ok) {
+                return Objects::refused(seen.status);
             }
             // A flight may have begun while the function ran.
             flights_of(known).outdate(known);
             return object ? objects.put_over(known.index, seen.since, object) : Objects::refused(Status::no_memory);
+        }
+        template <class Function>
+        [[gnu::always_inline]] Own made_of(const inside::Identity &known, Key key, const Life &life, Function &function, Seen &seen) {
+            Pinned pinned(objects);
+            seen = look(pinned, known, key, objects.turns().tries());
+            if (seen.status != Status::ok) {
+                return Own();
+            }
+            const auto give = [&] { return function(static_cast<const V &>(seen.object->value)); };
+            return objects.make_until(key, give, life ? objects.deadline_after(*life) : Objects::deadline_of(*seen.object));
         }
 
         inside::Identities<Key, Hash> identities;

@@ -284,6 +284,7 @@ template <size_t Words> class Turns {
         shape.mix = mix;
         shape.stripes = std::min(shape.stripes, std::max(stripes_of_a_shard, all_stripes / shards));
         tries_ = tries;
+        looks_ = std::min<uint32_t>(tries, 1000);
         capacity_ = uint64_t(shape.items) * shards;
         return passes_.open(shape, shards, passes);
     }
@@ -332,7 +333,7 @@ template <size_t Words> class Turns {
     size_t place() noexcept { return passes_.place(); }
     uint32_t tries() const noexcept { return tries_; }
     // How often a lookup is repeated that is a miss if it stays busy.
-    uint32_t looks() const noexcept { return std::min<uint32_t>(tries_, 1000); }
+    uint32_t looks() const noexcept { return looks_; }
     uint64_t keys() const noexcept { return static_cast<uint64_t>(std::max<int64_t>(0, passes_.keys())); }
     uint64_t capacity() const noexcept { return capacity_; }
     Meter meter() const noexcept { return passes_.shared().meter(); }
@@ -365,7 +366,7 @@ template <size_t Words> class Turns {
     static constexpr uint32_t all_stripes = 4096, stripes_of_a_shard = 64;
 
     Passes<Words> passes_{};
-    uint32_t tries_ = 0;
+    uint32_t tries_ = 0, looks_ = 0;
     uint64_t capacity_ = 0;
 };
 

@@ -1,0 +1,63 @@
+// How long the entries of a map live, for cefrodil_object_map.hpp.
+#ifndef CEFRODIL_LIVES_HPP
+#define CEFRODIL_LIVES_HPP
+
+#include <algorithm>
+#include <atomic>
+#include <chrono>
+#include <cstdint>
+#include <functional>
+#include <limits>
+
+namespace cefrodil {
+
+// A time to live that never ends.
+inline constexpr std::chrono::nanoseconds forever = std::chrono::nanoseconds::max();
+
+// How long entries live. A time of 0 or less is over at once.
+struct Lives {
+    // After its put, unless the put says another time.
+    std::chrono::nanoseconds time_to_live = forever;
+    // After it was put or found last.
+    std::chrono::nanoseconds time_to_idle = forever;
+    // What time it is, 0 or more, and never less than before. Several threads call it at once. It throws nothing, and does not call the map. None: the
+    // clock is std::chrono::steady_clock. On Linux that stops while the machine is suspended, so an entry then lives longer by that time.
+    std::function<std::chrono::nanoseconds()> clock = nullptr;
+};
+
+namespace inside {
+
+// A deadline in nanoseconds of the clock. What never ends has this one.
+inline constexpr uint64_t never = std::numeric_limits<uint64_t>::max();
+
+class Clock {
+  public:
+    explicit Clock(const Lives &lives) : lives_(lives) {}
+    bool has_lives() const noexcept { return lives_.time_to_live != forever || lives_.time_to_idle != forever; }
+    uint64_t deadline() const noexcept { return deadline_after(lives_.time_to_live); }
+    uint64_t idle_deadline() const noexcept { return deadline_after(lives_.time_to_idle); }
+    // The deadline of what lives for so long from now on.
+    uint64_t deadline_after(std::chrono::nanoseconds life) const noexcept {
+        return life == forever ? never : now() + static_cast<uint64_t>(std::max(life, std::chrono::nanoseconds(0)).count());
+    }
+    bool has_passed(uint64_t deadline) const noexcept { return deadline != never && now() >= deadline; }
+
+  private:
+    // Both a time and a life are less than 2^63, so no sum of them is too large.
+    uint64_t now() const noexcept {
+        return static_cast<uint64_t>((lives_.clock ? lives_.clock() : std::chrono::steady_clock::now().time_since_epoch()).count());
+    }
+    const Lives lives_;
+};
+
+// When an object ends. Relaxed: a deadline says nothing of other memory.
+struct Mortal {
+    uint64_t deadline = never; // written before the object is put
+    std::atomic<uint64_t> idle_deadline{never};
+};
+
+} // namespace inside
+
+} // namespace cefrodil
+
+#endif

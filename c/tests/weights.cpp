@@ -1,0 +1,251 @@
+// A map of objects with a bound on weights: the sum is exact, and is within the bound after each call. What weighs more alone is refused.
+// Argument: by how much less to do.
+#include "cefrodil_object_map.hpp"
+#include "must.h"
+#include <algorithm>
+#include <cstdlib>
+#include <map>
+
+using cefrodil::Left;
+using cefrodil::object_map;
+using cefrodil::Status;
+using Numbers = object_map<uint64_t, uint64_t>;
+
+// Each value weighs what it is.
+static uint64_t own_weight(const uint64_t &, const uint64_t &value) { return value; }
+
+static Numbers::Rules bounded(uint64_t most) {
+    Numbers::Rules rules;
+    rules.weigher = own_weight;
+    rules.most_weight = most;
+    return rules;
+}
+
+static void answers() {
+    Numbers numbers;
+    MUST(numbers.weight() == 0 && numbers.open({100}) == Status::ok && numbers.insert(1, 10).status == Status::ok && numbers.weight() == 0);
+    MUST(numbers.close() == Status::ok && numbers.open({1000}, bounded(100)) == Status::ok && numbers.weight() == 0);
+    MUST(numbers.insert(1, 30).status == Status::ok && numbers.insert(2, 20).status == Status::ok && numbers.weight() == 50);
+    MUST(numbers.insert(1, 40).status == Status::present && numbers.weight() == 50);
+    MUST(numbers.insert_or_assign(1, 35).renewed && numbers.weight() == 55 && numbers.size() == 2);
+    MUST(numbers.update(1, [](uint64_t old) { return old + 5; }) == Status::ok && numbers.weight() == 60);
+    MUST(numbers.find_or_compute(3, [] { return uint64_t(40); }).status == Status::ok && numbers.weight() == 100 && numbers.size() == 3);
+    MUST(numbers.erase(2) == Status::ok && numbers.weight() == 80 && numbers.erase(2) == Status::absent && numbers.weight() == 80);
+    MUST(numbers.clear() == Status::ok && numbers.weight() == 0 && numbers.size() == 0);
+    // The bound itself is no more than the bound.
+    MUST(numbers.insert(4, 100).status == Status::ok && numbers.weight() == 100 && numbers.find(4) == 100u);
+    MUST(numbers.insert(5, 0).status == Status::ok && numbers.contains(4));
+    Numbers weightless;
+    MUST(weightless.open({100}, bounded(0)) == Status::ok && weightless.insert(1, 0).status == Status::ok && weightless.contains(1));
+    MUST(weightless.insert(2, 1).status == Status::too_heavy && weightless.contains(1));
+    Numbers largest;
+    MUST(largest.open({100}, bounded(uint64_t(-1))) == Status::ok && largest.insert(1, (uint64_t(1) << 48) + 1).status == Status::too_heavy);
+    MUST(largest.insert(1, uint64_t(1) << 48).status == Status::ok && largest.weight() == uint64_t(1) << 48);
+    MUST(std::string(cefrodil::text(Status::too_heavy)) == "the entry weighs more than the map may hold");
+}
+
+// What weighs more than the bound changes nothing, and comes back.
+static void too_heavy() {
+    object_map<std::string, std::unique_ptr<std::string>> texts;
+    decltype(texts)::Rules rules;
+    int weighed = 0;
+    rules.weigher = [&](const std::string &key, const auto &value) { return weighed++, key.size() + (value ? value->size() : 0); };
+    rules.most_weight = 100;
+    MUST(texts.open({1000}, rules) == Status::ok && texts.insert("a", std::make_unique<std::string>(49, 'x')).status == Status::ok);
+    auto heavy = std::make_unique<std::string>(100, 'y');
+    MUST(texts.insert("b", std::move(heavy)).status == Status::too_heavy && heavy && heavy->size() == 100 && weighed == 2);
+    MUST(texts.insert_or_assign("a", std::move(heavy)).status == Status::too_heavy && heavy && texts.weight() == 50 && texts.size() == 1);
+    MUST(texts.insert("a", std::move(heavy)).status == Status::present && heavy);
+    MUST(texts.update("a", [](const auto &) { return std::make_unique<std::string>(100, 'z'); }) == Status::too_heavy);
+    size_t size = 0;
+    MUST(texts.look("a", [&](const auto &value) { size = value->size(); }) == Status::ok && size == 49 && !texts.contains("b"));
+    MUST(texts.insert("b", nullptr).status == Status::ok && texts.weight() == 51);
+    Numbers numbers;
+    MUST(numbers.open({1000}, bounded(100)) == Status::ok);
+    const auto computed = numbers.find_or_compute(1, [] { return uint64_t(101); });
+    MUST(computed.status == Status::too_heavy && computed.value == 101 && computed.computed && !numbers.contains(1) && numbers.weight() == 0);
+}
+
+// Those leave that came first, but for those that were looked up since the last look at them.
+static void order() {
+    std::vector<uint64_t> left;
+    Numbers numbers;
+    Numbers::Rules rules = bounded(100);
+    rules.listener = [&](const uint64_t &key, const uint64_t &, Left why) { why == Left::evicted ? left.push_back(key) : void(); };
+    MUST(numbers.open({1000}, rules) == Status::ok);
+    for (uint64_t key = 1; key <= 4; key++) {
+        MUST(!numbers.insert(key, 25).evicted);
+    }
+    MUST(numbers.insert(5, 25).evicted && left == std::vector<uint64_t>{1} && numbers.weight() == 100 && numbers.size() == 4);
+    MUST(numbers.contains(3) && numbers.insert(6, 60).evicted && (left == std::vector<uint64_t>{1, 2, 4, 5}));
+    MUST(numbers.weight() == 85 && numbers.contains(3) && numbers.contains(6));
+    left.clear();
+    // One that grows may make others leave, and stays.
+    MUST(numbers.insert_or_assign(3, 90).renewed && left == std::vector<uint64_t>{6} && numbers.find(3) == 90u && numbers.weight() == 90);
+    MUST(numbers.update(3, [](uint64_t) { return uint64_t(100); }) == Status::ok && numbers.weight() == 100);
+    MUST(numbers.insert(7, 0).status == Status::ok);
+    MUST(numbers.find_or_compute(8, [] { return uint64_t(1); }).status == Status::ok && !numbers.contains(3) && numbers.weight() == 1);
+}
+
+// The ring by itself.
+static void ring() {
+    using cefrodil::inside::Weighed;
+    cefrodil::inside::Weights weights(100);
+    std::array<Weighed, 4> objects;
+    const auto next = [&] { const auto victim = weights.victim(); return victim ? long(victim->index * 100 + victim->since) : -1; };
+    MUST(next() == -1);
+    for (uint64_t n = 0; n < 4; n++) {
+        objects[n].index = n, objects[n].weight = 10;
+        weights.add(10);
+        weights.enter(objects[n], 10 + n);
+    }
+    // Each is spared once, and stays in the ring.
+    MUST(next() == 10 && next() == 111 && next() == 212 && next() == 313 && next() == 10);
+    objects[1].use();
+    MUST(next() == 212 && next() == 313);
+    weights.leave(objects[0]);
+    MUST(next() == 111 && next() == 212 && weights.sum() == 30);
+    weights.leave(objects[3]);
+    weights.leave(objects[1]);
+    MUST(next() == 212 && next() == 212 && weights.sum() == 10);
+    weights.leave(objects[2]);
+    MUST(next() == -1 && weights.sum() == 0 && !weights.is_over());
+    // One that left before it could enter.
+    Weighed late;
+    late.weight = 10;
+    weights.add(10);
+    weights.leave(late);
+    weights.enter(late, 1);
+    MUST(next() == -1 && weights.sum() == 0);
+    // A look for a victim ends, though all others were used.
+    std::vector<Weighed> many(3000);
+    for (uint64_t n = 0; n < many.size(); n++) {
+        many[n].index = n;
+        weights.enter(many[n], 0);
+    }
+    MUST(next() == 1000 * 100);
+}
+
+// What waits to be freed weighs at most a sixteenth of the bound, and an object, if no call uses it.
+static void waiting() {
+    static std::atomic<long> living{0};
+    struct Heavy {
+        Heavy() { living++; }
+        Heavy(Heavy &&) noexcept { living++; }
+        ~Heavy() { living--; }
+    };
+    object_map<uint64_t, Heavy> map;
+    decltype(map)::Rules rules;
+    rules.weigher = [](const uint64_t &, const Heavy &) { return uint64_t(16); };
+    rules.most_weight = 256;
+    MUST(map.open({1000}, rules) == Status::ok);
+    for (uint64_t key = 0; key < 100; key++) {
+        MUST(map.insert(key, Heavy()).status == Status::ok && living <= 18 && map.weight() <= 256);
+    }
+    MUST(map.size() == 16 && map.close() == Status::ok && living == 0);
+}
+
+static uint64_t next_random(uint64_t &state) {
+    state = state * 6364136223846793005 + 1442695040888963407;
+    return state >> 33;
+}
+
+// All keys have few numbers in the index.
+struct Meeting {
+    cefrodil::HashPair operator()(const uint64_t &key, const cefrodil::HashSecret &) const noexcept { return {key % 40, key}; }
+};
+
+// The listener keeps a model of what is there. The sum of its weights is that of the map after each call.
+template <class Hash> static void agrees_with_a_model(const cefrodil::MapOptions &options, uint64_t most, uint64_t calls) {
+    std::map<uint64_t, uint64_t> model;
+    uint64_t sum = 0, evicted = 0, drawn = 1;
+    object_map<uint64_t, uint64_t, Hash> map;
+    Numbers::Rules rules = bounded(most);
+    rules.listener = [&](const uint64_t &key, const uint64_t &value, Left why) {
+        MUST(model.count(key) == 1 && model[key] == value);
+        model.erase(key);
+        sum -= value;
+        evicted += why == Left::evicted;
+    };
+    MUST(map.open(options, rules) == Status::ok);
+    for (uint64_t n = 0; n < calls; n++) {
+        const uint64_t key = next_random(drawn) % 300, value = next_random(drawn) % 100, kind = next_random(drawn) % 5;
+        const uint64_t before = evicted;
+        // What is put may leave at once, so the model has it before the call. If the key is there, the listener hears of that first.
+        std::map<uint64_t, uint64_t> old = model;
+        cefrodil::Stored stored{Status::absent, false, false};
+        switch (kind) {
+        case 0: stored = map.insert(key, uint64_t(value)); break;
+        case 1: stored = map.insert_or_assign(key, uint64_t(value)); break;
+        case 2: stored.status = map.update(key, [&](uint64_t) { return value; }); stored.evicted = before != evicted; break;
+        case 3: static_cast<void>(map.erase(key)); break;
+        default: static_cast<void>(map.contains(key));
+        }
+        MUST(stored.evicted == (before != evicted));
+        if (stored.status == Status::ok) {
+            model[key] = value;
+            sum += value;
+        }
+        MUST(map.weight() == sum && sum <= most && map.size() == model.size());
+    }
+    MUST(evicted > calls / 20);
+    for (const auto &[key, value] : model) {
+        MUST(map.find(key) == value);
+    }
+}
+
+// Threads put, update and remove. When all have ended, the sum is within the bound, and is that of what is there.
+static void threads(const cefrodil::MapOptions &options, uint64_t calls) {
+    constexpr uint64_t most = 5000, keys = 400;
+    std::atomic<uint64_t> entered{0}, left{0}, wrong{0};
+    Numbers map;
+    Numbers::Rules rules = bounded(most);
+    rules.listener = [&](const uint64_t &, const uint64_t &value, Left) { left += value; };
+    MUST(map.open(options, rules) == Status::ok);
+    const auto work = [&](uint64_t drawn) {
+        for (uint64_t n = 0; n < calls; n++) {
+            const uint64_t key = next_random(drawn) % keys, value = next_random(drawn) % 100;
+            const auto count = [&](Status status) { entered += status == Status::ok ? value : 0; };
+            switch (next_random(drawn) % 6) {
+            case 0: count(map.insert(key, uint64_t(value)).status); break;
+            case 1:
+            case 2: count(map.insert_or_assign(key, uint64_t(value)).status); break;
+            case 3: count(map.update(key, [&](uint64_t) { return value; })); break;
+            case 4: static_cast<void>(map.erase(key)); break;
+            default: static_cast<void>(map.find(key));
+            }
+            // Each call under way may have added one weight.
+            wrong += map.weight() > most + 4 * 100;
+        }
+    };
+    for (uint64_t round = 1; round <= 5; round++) {
+        std::vector<std::thread> running;
+        for (uint64_t n = 1; n <= 4; n++) {
+            running.emplace_back(work, n + 10 * round);
+        }
+        std::for_each(running.begin(), running.end(), [](std::thread &thread) { thread.join(); });
+        uint64_t sum = 0, count = 0;
+        for (uint64_t key = 0; key < keys; key++) {
+            const auto value = map.find(key);
+            sum += value.value_or(0), count += value.has_value();
+        }
+        MUST(wrong == 0 && map.weight() == sum && sum <= most && sum == entered - left && map.size() == count);
+        MUST(round > 1 || sum > most / 2 || options.entries < 100);
+    }
+}
+
+int main(int argc, char **argv) {
+    const uint64_t less = argc > 1 ? std::strtoull(argv[1], nullptr, 10) : 1;
+    answers();
+    too_heavy();
+    order();
+    ring();
+    waiting();
+    agrees_with_a_model<cefrodil::SipHash<uint64_t>>({1000}, 1000, 30000 / less);
+    agrees_with_a_model<cefrodil::SipHash<uint64_t>>({20, 2}, 1000, 30000 / less);
+    agrees_with_a_model<Meeting>({1000}, 1000, 30000 / less);
+    threads({1000}, 20000 / less);
+    threads({1000, 1, 3}, 20000 / less);
+    threads({60, 2, 3}, 20000 / less);
+    return outcome("weights");
+}
