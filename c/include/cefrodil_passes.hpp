@@ -246,13 +246,16 @@ template <size_t Words> class Passes {
     std::atomic<uint64_t> shared_calls_{0};
 };
 
-// From this repetition on, a call sleeps before it is repeated.
-inline constexpr uint32_t sleeps_from = 200;
+// map/SETTINGS has these numbers, and those of Rust's maps.
+// So many repetitions spin at first, and from a later one on a call sleeps before it is repeated.
+inline constexpr uint32_t spins = 7, sleeps_from = 200;
+// How often a lookup is repeated that is a miss if it stays busy.
+inline constexpr uint32_t most_looks = 1000;
 
 // Waits before a call is repeated for this time. At first it spins, each time twice as long. Then it yields, and at last it sleeps: the thread that
 // has the turn may have to wait for a processor.
 inline void wait_before(uint32_t repeat) noexcept {
-    if (repeat < 7) {
+    if (repeat < spins) {
         for (uint32_t step = 0; step < uint32_t(1) << repeat; step++) {
             __builtin_ia32_pause();
         }
@@ -272,19 +275,22 @@ struct Seen {
 // Calls by the passes of an index. A call that other threads keep from its turn is repeated.
 template <size_t Words> class Turns {
   public:
-    [[nodiscard]] Status open(uint32_t entries, uint32_t shards, uint32_t passes, uint32_t tries, uint32_t mix) noexcept {
+    // 0 shards: as many as these entries ask for.
+    [[nodiscard]] Status open(uint32_t entries, uint32_t asked_shards, uint32_t passes, uint32_t tries, uint32_t mix) noexcept {
         if (!same_version()) {
             return Status::other_version;
         }
+        const uint32_t shards = asked_shards == 0 ? shards_for(entries) : asked_shards;
         cefrodil_shape shape{};
         const auto status = static_cast<Status>(cefrodil_shape_for_items(entries, shards, &shape));
         if (status != Status::ok) {
             return status;
         }
+        shape.buckets *= shape.items < small ? buckets_of_small : 1;
         shape.mix = mix;
         shape.stripes = std::min(shape.stripes, std::max(stripes_of_a_shard, all_stripes / shards));
         tries_ = tries;
-        looks_ = std::min<uint32_t>(tries, 1000);
+        looks_ = std::min(tries, most_looks);
         capacity_ = uint64_t(shape.items) * shards;
         return passes_.open(shape, shards, passes);
     }
@@ -364,6 +370,18 @@ template <size_t Words> class Turns {
     // The most stripes that all shards have together, but each may have `stripes_of_a_shard`. Each stripe has a version of 8 bytes, and more of them
     // would leave less room for entries in the processor's caches.
     static constexpr uint32_t all_stripes = 4096, stripes_of_a_shard = 64;
+    // A shard of fewer items gets so many times the buckets. Without them a full shard of 14 items refuses one new key in 60.
+    static constexpr uint32_t small = 256, buckets_of_small = 4;
+
+    // By default a shard has so many entries or more, and there are so many shards at most.
+    static constexpr uint32_t most_shards = 16, entries_of_a_shard = 1024;
+    static uint32_t shards_for(uint32_t entries) noexcept {
+        uint32_t shards = 1;
+        while (shards < most_shards && shards * 2 <= entries / entries_of_a_shard) {
+            shards *= 2;
+        }
+        return shards;
+    }
 
     Passes<Words> passes_{};
     uint32_t tries_ = 0, looks_ = 0;

@@ -68,7 +68,7 @@ static void openings() {
     const Computed<uint64_t> computed = numbers.find_or_compute(1, [] { return uint64_t(7); });
     MUST(computed.status == Status::closed && computed.value == 7 && computed.computed);
     const cefrodil::MapOptions usual{100};
-    MUST(usual.entries == 100 && usual.shards == 16 && usual.passes == 64 && usual.tries == 10000);
+    MUST(usual.entries == 100 && usual.shards == 0 && usual.passes == 64 && usual.tries == 10000);
     MUST(numbers.open({100, 4, 1024}) == Status::ok && numbers.open({100}) == Status::in_use && numbers.is_open());
     cefrodil_shape shape{};
     MUST(cefrodil_shape_for_items(100, 4, &shape) == CEFRODIL_OK && numbers.capacity() == 4 * shape.items);
@@ -78,6 +78,28 @@ static void openings() {
     Numbers moved = std::move(numbers);
     MUST(!numbers.is_open() && moved.find(1) == 10u && moved.close() == Status::ok && !moved.is_open());
     MUST(moved.open({100, 1, 1}) == Status::ok && !moved.contains(1) && moved.insert(1, 11).status == Status::ok && moved.find(1) == 11u);
+}
+
+// By default there is a shard for each 1,024 entries, 16 at most.
+static void shards_by_default() {
+    const uint32_t expected[][2] = {{1, 1}, {1023, 1}, {2047, 1}, {2048, 2}, {4095, 2}, {4096, 4}, {16383, 8}, {16384, 16}, {100000, 16}};
+    for (const auto &[entries, shards] : expected) {
+        Numbers numbers;
+        cefrodil_shape shape{};
+        MUST(numbers.open({entries}) == Status::ok && cefrodil_shape_for_items(entries, shards, &shape) == CEFRODIL_OK);
+        MUST(numbers.capacity() == uint64_t(shape.items) * shards);
+    }
+}
+
+// A full map finds a place for each new key, though its shards are small.
+static void small_shards(const cefrodil::MapOptions &options, uint64_t keys) {
+    Numbers numbers;
+    MUST(numbers.open(options) == Status::ok);
+    uint64_t refused = 0;
+    for (uint64_t key = 0; key < keys; key++) {
+        refused += numbers.insert(key, key).status != Status::ok;
+    }
+    MUST(refused == 0 && numbers.size() <= numbers.capacity());
 }
 
 static void answers() {
@@ -428,6 +450,10 @@ int main(int argc, char **argv) {
     const uint64_t fewer = argc > 1 ? std::strtoull(argv[1], nullptr, 10) : 1;
     alarm(argc > 1 ? 240 : 100); // so that a flight which never ends fails the test
     openings();
+    shards_by_default();
+    small_shards({14}, 100000 / fewer);
+    small_shards({28}, 100000 / fewer);
+    small_shards({100, 4}, 100000 / fewer);
     answers();
     MUST(random_calls({2000}, 200, 100000 / fewer) == 0);
     MUST(random_calls({60, 1}, 200, 100000 / fewer) > 1000 / fewer);
