@@ -286,7 +286,6 @@ template <size_t Words> class Turns {
         if (status != Status::ok) {
             return status;
         }
-        shape.buckets *= shape.items < small ? buckets_of_small : 1;
         shape.mix = mix;
         shape.stripes = std::min(shape.stripes, std::max(stripes_of_a_shard, all_stripes / shards));
         tries_ = tries;
@@ -370,11 +369,9 @@ template <size_t Words> class Turns {
     // The most stripes that all shards have together, but each may have `stripes_of_a_shard`. Each stripe has a version of 8 bytes, and more of them
     // would leave less room for entries in the processor's caches.
     static constexpr uint32_t all_stripes = 4096, stripes_of_a_shard = 64;
-    // A shard of fewer items gets so many times the buckets. Without them a full shard of 14 items refuses one new key in 60.
-    static constexpr uint32_t small = 256, buckets_of_small = 4;
 
     // By default a shard has so many entries or more, and there are so many shards at most.
-    static constexpr uint32_t most_shards = 16, entries_of_a_shard = 1024;
+    static constexpr uint32_t most_shards = 16, entries_of_a_shard = 64;
     static uint32_t shards_for(uint32_t entries) noexcept {
         uint32_t shards = 1;
         while (shards < most_shards && shards * 2 <= entries / entries_of_a_shard) {

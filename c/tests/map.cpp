@@ -80,9 +80,9 @@ static void openings() {
     MUST(moved.open({100, 1, 1}) == Status::ok && !moved.contains(1) && moved.insert(1, 11).status == Status::ok && moved.find(1) == 11u);
 }
 
-// By default there is a shard for each 1,024 entries, 16 at most.
+// By default there is a shard for each 64 entries, 16 at most, and their number is a power of two.
 static void shards_by_default() {
-    const uint32_t expected[][2] = {{1, 1}, {1023, 1}, {2047, 1}, {2048, 2}, {4095, 2}, {4096, 4}, {16383, 8}, {16384, 16}, {100000, 16}};
+    const uint32_t expected[][2] = {{1, 1}, {127, 1}, {128, 2}, {255, 2}, {256, 4}, {511, 4}, {512, 8}, {1023, 8}, {1024, 16}, {100000, 16}};
     for (const auto &[entries, shards] : expected) {
         Numbers numbers;
         cefrodil_shape shape{};

@@ -9,7 +9,7 @@ use std::time::Duration;
 const THREADS: usize = 64;
 
 /// How many entries a shard has at least, and how many shards there are at most, by default.
-const ENTRIES_OF_A_SHARD: usize = 1024;
+const ENTRIES_OF_A_SHARD: usize = 64;
 const MOST_SHARDS: usize = 16;
 
 /// The most stripes that all shards have together, but each may have `STRIPES_OF_A_SHARD`. Each stripe has a version of 8 bytes, and more of

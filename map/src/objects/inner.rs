@@ -21,8 +21,7 @@ pub(crate) struct ObjectInner<O: Held, S> {
     pub slots: Arc<Slots<Handle<1>>>,
     pub epochs: Epochs,
     pub flights: Flights<()>,
-    /// A call locks its key's stripe if it puts the key whatever is there, or only where it is absent. So does a call that moves or keeps a
-    /// deadline.
+    /// A call that moves or keeps a deadline locks its key's stripe.
     pub stripes: Box<[Stripe]>,
     pub clock: Clock,
     pub hasher: S,

@@ -8,7 +8,7 @@ use super::pinned::{Over, Pinned, Seen};
 use super::weights::Place;
 use crate::error::InsertError;
 use crate::map::Inserted;
-use cefrodil::{Handle, PutError, PutIfError, Replaced, Reply, Swapped, TurnError};
+use cefrodil::{Handle, PutIfAbsentError, PutIfError, Replaced, Swapped, TurnError};
 use std::hash::{BuildHasher, Hash};
 use std::sync::TryLockError;
 use std::time::Duration;
@@ -219,20 +219,18 @@ impl<O: Held, S> ObjectInner<O, S> {
     }
 
     fn put_any(&self, hash: u64, word: u64, tries: u32) -> Result<Done, Fail> {
-        let put = self.slots.in_turn(tries, || self.in_stripe(hash, |handle| handle.try_swap(hash, &[word]).map_err(failed)));
-        put.map(|swapped| self.swapped(swapped)).map_err(Fail::of)
+        let put = self.slots.in_turn(tries, || self.slots.call(|handle| handle.try_swap(hash, &[word])));
+        put.map(|swapped| self.swapped(swapped)).map_err(|why| Fail::Insert(InsertError::of(why)))
     }
 
-    // The lock keeps other threads from putting the key between the two calls.
     fn put_absent(&self, hash: u64, word: u64, tries: u32) -> Result<Done, Fail> {
-        let put = self.slots.in_turn(tries, || {
-            self.in_stripe(hash, |handle| match handle.get_or_turn(hash) {
-                Reply::Found { .. } => Err(TurnError::Call(Fail::Present)),
-                Reply::Busy => Err(TurnError::Held),
-                Reply::Absent { .. } => handle.try_swap(hash, &[word]).map_err(failed),
-            })
-        });
-        put.map(|swapped| self.swapped(swapped)).map_err(Fail::of)
+        let put = self.slots.in_turn(tries, || self.slots.call(|handle| handle.try_swap_if_absent(hash, &[word])));
+        put.map(|swapped| self.swapped(swapped)).map_err(|why| match why {
+            TurnError::Held => Fail::Insert(InsertError::Held),
+            TurnError::Call(PutIfAbsentError::Present { .. }) => Fail::Present,
+            TurnError::Call(PutIfAbsentError::Put(why)) => Fail::Insert(InsertError::of(TurnError::Call(why))),
+            TurnError::Call(_) => Fail::Insert(InsertError::Spent),
+        })
     }
 
     fn put_at(&self, hash: u64, word: u64, since: u64, tries: u32) -> Result<Done, Fail> {
@@ -299,18 +297,3 @@ impl<K, V, S> ObjectInner<Object<K, V>, S> {
     }
 }
 
-impl Fail {
-    fn of(why: TurnError<Fail>) -> Fail {
-        match why {
-            TurnError::Held => Fail::Insert(InsertError::Held),
-            TurnError::Call(why) => why,
-        }
-    }
-}
-
-fn failed(why: TurnError<PutError>) -> TurnError<Fail> {
-    match why {
-        TurnError::Held => TurnError::Held,
-        why => TurnError::Call(Fail::Insert(InsertError::of(why))),
-    }
-}

@@ -102,7 +102,7 @@ impl<O: Held, S> ObjectInner<O, S> {
         for _ in 0..TIDIED {
             let Some(first) = weights.pop_if_long() else { return };
             let peeked = self.slots.call(|handle| handle.try_peek(first.hash));
-            if peeked.is_none_or(|reply| is_put(&reply, first)) {
+            if peeked.map_or(true, |reply| is_put(&reply, first)) {
                 weights.push(first);
             }
         }

@@ -13,21 +13,11 @@ fn many_shards_have_few_stripes_each() {
     }
 }
 
-// One for each 1,024 entries, a power of two, and 16 at most.
+// One for each 64 entries, a power of two, and 16 at most.
 #[test]
 fn there_are_so_many_shards_by_default() {
-    let expected = [
-        (1, 1),
-        (1_023, 1),
-        (1_024, 1),
-        (2_047, 1),
-        (2_048, 2),
-        (4_095, 2),
-        (4_096, 4),
-        (16_383, 8),
-        (16_384, 16),
-        (3_000_000, 16),
-    ];
+    let expected =
+        [(1, 1), (127, 1), (128, 2), (255, 2), (256, 4), (511, 4), (512, 8), (1_023, 8), (1_024, 16), (3_000_000, 16)];
     for (capacity, shards) in expected {
         assert_eq!(Settings::new(capacity).shape().unwrap().1, shards, "of {capacity}");
     }
@@ -43,11 +33,13 @@ fn there_are_so_many_handles() {
     assert_eq!((Settings::new(100).handles(), handles(0), handles(1), handles(usize::MAX)), (65, 1, 2, usize::MAX));
 }
 
-// 255 entries need as many buckets as 510 would, and 256 as many as 256.
+// 255 entries have as many buckets as 510 would, and 256 as many as 256.
 #[test]
 fn small_shards_have_more_buckets() {
     for (items, buckets) in [(1, 2), (10, 8), (100, 64), (255, 256), (256, 128), (1_000, 512)] {
-        let (shape, shards) = Settings::new(items as usize).shape().unwrap();
+        let mut settings = Settings::new(items as usize);
+        settings.shards = Some(1);
+        let (shape, shards) = settings.shape().unwrap();
         assert_eq!((shards, shape.items, shape.buckets), (1, items, buckets));
     }
 }
