@@ -36,11 +36,19 @@ mod turns;
 mod waiting;
 mod waits;
 
-use cefrodil::Shape;
+use crate::slots::Slots;
+use cefrodil::{Handle, Shape, Writing};
+use std::sync::Arc;
 
 // The shape of a map of one shard with places for so many entries.
 fn one_shard(items: u32) -> Shape {
     Shape::for_items(items, 1).unwrap()
+}
+
+// Holds every turn, as another thread's handle does, until it is dropped.
+fn hold(slots: &Arc<Slots<Handle<1>>>) -> Writing<'static, 1> {
+    let (mut own, _) = slots.own().unwrap();
+    own.more(1).unwrap().remove(0).into_writing().unwrap()
 }
 
 // Takes what a call returned that a test has no use for.

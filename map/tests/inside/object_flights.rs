@@ -1,5 +1,5 @@
 //! When writes of a map of objects detach the flights of their key, and what its computations look at.
-use super::done;
+use super::{done, hold};
 use super::waiting::while_it_waits;
 use crate::flight::{Boarding, Leader};
 use crate::objects::Held;
@@ -62,14 +62,13 @@ fn a_removal_on_a_condition_detaches() {
     assert!(is_detached(&leader));
 }
 
-// Makes a call in this thread while another one seems to have the lock under which the key is put. `meanwhile` is called once the call waits.
+// Makes a call in this thread while another one seems to have the turn of the key's shard. `meanwhile` is called once the call waits.
 // The map lives on, since what a thread does in a pause may borrow nothing.
 fn beside_a_put<T>(map: &'static Numbers, call: impl FnOnce() -> T, meanwhile: impl FnOnce() + 'static) -> T {
-    let stripes = &map.inner.stripes;
-    let locked = stripes[map.hash_of(&KEY) as usize % stripes.len()].0.lock().unwrap();
+    let others = hold(&map.inner.slots);
     IN_PAUSE.set(Some(Box::new(move || {
         meanwhile();
-        drop(locked);
+        drop(others);
     })));
     let told = call();
     assert!(IN_PAUSE.take().is_none(), "the call did not wait");

@@ -1,5 +1,5 @@
 //! Objects expire by a clock that the tests turn. What is refused comes back.
-use super::{done, one_shard};
+use super::{done, hold, one_shard};
 use crate::clock::NEVER;
 use crate::objects::{Held, State, BATCH};
 use crate::{
@@ -323,7 +323,7 @@ fn a_map_without_changes_left_says_so() {
     assert_eq!((map.remove_expired(), map.len(), map.stats().refused), (Err(ClearError::Spent), 1, 9));
 }
 
-// Locks the stripe of this key, as another thread's put does.
+// Locks the stripe of this key, as another thread's renewal does.
 fn in_stripe<T>(map: &Names, key: u64, call: impl FnOnce() -> T) -> T {
     let stripes = &map.inner.stripes;
     let _locked = stripes[map.hash_of(&key) as usize % stripes.len()].0.lock().unwrap();
@@ -334,14 +334,14 @@ fn in_stripe<T>(map: &Names, key: u64, call: impl FnOnce() -> T) -> T {
 fn a_write_that_does_not_get_its_turn_says_so() {
     let map: Names = ObjectBuilder::new(100).open_shaped(&one_shard(100), 1, 5).unwrap();
     let held = InsertError::Held;
-    in_stripe(&map, 1, || {
-        let refused = map.insert(1, text("a")).unwrap_err();
-        assert_eq!((refused.why, refused.key, refused.value), (held, 1, text("a")));
-        let refused = map.insert_if_absent(1, text("a")).unwrap_err();
-        assert_eq!((refused.why, refused.value), (AbsentError::Insert(held), text("a")));
-        assert_eq!(map.update(1, |_| text("a")), Err(UpdateError::Insert(held)));
-        assert_eq!((map.get_or_insert_with(&1, || text("a")), map.get(&1), map.stats().refused), (text("a"), None, 4));
-    });
+    let others = hold(&map.inner.slots);
+    let refused = map.insert(1, text("a")).unwrap_err();
+    assert_eq!((refused.why, refused.key, refused.value), (held, 1, text("a")));
+    let refused = map.insert_if_absent(1, text("a")).unwrap_err();
+    assert_eq!((refused.why, refused.value), (AbsentError::Insert(held), text("a")));
+    assert_eq!(map.update(1, |_| text("a")), Err(UpdateError::Insert(held)));
+    assert_eq!((map.get_or_insert_with(&1, || text("a")), map.get(&1), map.stats().refused), (text("a"), None, 4));
+    drop(others);
     map.insert(1, text("b")).unwrap();
     in_stripe(&map, 1, || {
         assert_eq!(map.modify(&1, |_| text("c")), Err(UpdateError::Insert(held)));
@@ -356,16 +356,16 @@ fn a_write_that_does_not_get_its_turn_says_so() {
 #[test]
 fn a_computation_that_tries_once_does_not_wait_for_a_turn() {
     let map = timed(Duration::MAX);
-    in_stripe(&map, 1, || {
-        // So many tries as others make take over a second. One may take as long, too, if the thread gets no processor: so one of many is short.
-        let is_short = |refused| {
-            let begin = Instant::now();
-            assert_eq!(map.try_get_or_insert_with(&1, || text("a")), Ok(text("a")));
-            let taken = begin.elapsed();
-            assert_eq!((map.get(&1), map.stats().refused), (None, refused));
-            taken < Duration::from_millis(700)
-        };
-        assert!((1..=60).any(is_short));
-    });
+    let others = hold(&map.inner.slots);
+    // So many tries as others make take over a second. One may take as long, too, if the thread gets no processor: so one of many is short.
+    let is_short = |refused| {
+        let begin = Instant::now();
+        assert_eq!(map.try_get_or_insert_with(&1, || text("a")), Ok(text("a")));
+        let taken = begin.elapsed();
+        assert_eq!((map.get(&1), map.stats().refused), (None, refused));
+        taken < Duration::from_millis(700)
+    };
+    assert!((1..=60).any(is_short));
+    drop(others);
     assert_eq!((map.try_get_or_insert_with(&1, || text("b")), map.get(&1)), (Ok(text("b")), Some(text("b"))));
 }
