@@ -259,7 +259,9 @@ template <class K, class V, class Hash = SipHash<K>, class Equal = std::equal_to
         return {inner_->objects.end(change), change.renewed, change.evicted};
     }
     // Whether the entry is another one than was looked up.
-    static bool is_lost(Status status) noexcept { return status == Status::changed || status == Status::absent; }
+    static bool is_lost(Status status) noexcept {
+        return status == Status::changed || status == Status::absent || status == Status::present;
+    }
 
     struct Inner {
         Inner(size_t slots, Rules &&rules, Hash &&its_hash) : identities(std::move(its_hash)), objects(slots, std::move(rules)) {}

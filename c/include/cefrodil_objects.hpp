@@ -11,7 +11,6 @@
 #include <atomic>
 #include <functional>
 #include <memory>
-#include <mutex>
 #include <new>
 #include <optional>
 #include <utility>
@@ -169,21 +168,19 @@ template <class K, class V> class Objects {
     // Puts whatever is there.
     [[gnu::always_inline]] Changed put(uint64_t index, Own &object) noexcept {
         return offered(index, object, [&] {
-            return in_stripe(index, [&](Slot<1> &slot) { return swapped(slot, index, object); });
+            return turns_.repeated([&](Slot<1> &slot) { return counted(slot, slot.handle.try_swap(index, object->word())); });
         });
     }
-    // Puts only where nothing is. The lock keeps other threads from putting the key between the two calls.
+    // Puts only where nothing is. present: something is.
     Changed put_absent(uint64_t index, Own &object) noexcept {
-        const auto put = [&](Slot<1> &slot) {
-            const Status status = slot.handle.get_or_turn(index).status;
-            return status == Status::absent ? swapped(slot, index, object) : unswapped(status == Status::ok ? Status::changed : status);
-        };
-        return offered(index, object, [&] { return in_stripe(index, put); });
+        return offered(index, object, [&] {
+            return turns_.repeated([&](Slot<1> &slot) { return counted(slot, slot.handle.try_swap_if_absent(index, object->word())); });
+        });
     }
     // The same, also over what has expired. present: something else is there.
     Changed put_new(uint64_t index, Own &object) noexcept {
         Changed put = put_absent(index, object);
-        if (put.status == Status::changed) {
+        if (put.status == Status::present) {
             const uint64_t since = Pinned(*this).expired(index);
             put = since != 0 ? put_over(index, since, object) : put;
         }
@@ -239,25 +236,8 @@ template <class K, class V> class Objects {
     const Turns<1> &turns() const noexcept { return turns_; }
 
   private:
-    // A call locks its key's stripe if it puts the key whatever is there, or only where it is absent.
-    struct alignas(64) Stripe {
-        std::mutex lock{};
-    };
-
-    template <class Call> Swapped<1> in_stripe(uint64_t index, Call call) noexcept {
-        return turns_.repeated([&](Slot<1> &slot) {
-            const std::unique_lock<std::mutex> locked(stripes_[index % stripes_.size()].lock, std::try_to_lock);
-            return locked.owns_lock() ? call(slot) : unswapped(Status::held);
-        });
-    }
-    static Swapped<1> unswapped(Status status) noexcept {
-        Swapped<1> none{};
-        none.status = status;
-        return none;
-    }
-    // Tries to put whatever is there, and counts a new key.
-    static Swapped<1> swapped(Slot<1> &slot, uint64_t index, const Own &object) noexcept {
-        Swapped<1> tried = slot.handle.try_swap(index, object->word());
+    // Counts a new key, unless another one gave way to it.
+    static Swapped<1> counted(Slot<1> &slot, const Swapped<1> &tried) noexcept {
         slot.add(tried.status == Status::ok && !tried.old ? 1 : 0);
         return tried;
     }
@@ -381,7 +361,6 @@ template <class K, class V> class Objects {
     Turns<1> turns_{};
     bool is_open_ = false;
     Epochs epochs_;
-    std::array<Stripe, 64> stripes_{};
     const Rules rules_;
     const Clock clock_;
     const bool is_ruled_ = rules_.weigher || clock_.has_lives();
