@@ -139,34 +139,34 @@ impl<K: ?Sized, V: Copy, S: BuildHasher> Inner<K, V, S> {
     /// Looks the key up, and counts that. `told` makes of the answer what the caller returns.
     #[inline]
     pub fn get<R>(&self, print: Print, tries: u32, told: impl FnOnce(Result<Option<V>, GetError>) -> R) -> R {
-        match self.layout {
-            Layout::Plain => self.get_laid::<false, R>(print, tries, told),
-            Layout::Timed => self.get_timed(print, tries, told),
-            Layout::Idle => self.get_idle(print, tries, told),
+        if let Layout::Plain = self.layout {
+            self.get_laid::<false, R>(print, tries, told)
+        } else {
+            self.get_timed(print, tries, told)
         }
     }
 
-    #[inline(never)]
-    fn get_idle<R>(&self, print: Print, tries: u32, told: impl FnOnce(Result<Option<V>, GetError>) -> R) -> R {
-        told(self.used(print, self.look(print, tries), tries))
-    }
-
+    // Out of line, and with it what an idle entry needs: a map without deadlines pays for neither.
     #[inline(never)]
     fn get_timed<R>(&self, print: Print, tries: u32, told: impl FnOnce(Result<Option<V>, GetError>) -> R) -> R {
-        self.get_laid::<true, R>(print, tries, told)
+        if let Layout::Idle = self.layout {
+            told(self.get_shared(print, tries))
+        } else {
+            self.get_laid::<true, R>(print, tries, told)
+        }
     }
 
     // The compiler knows the layout, and leaves out what is for the other one. The value is read last: then it is copied once.
     #[inline(always)]
     fn get_laid<const TIMED: bool, R>(&self, print: Print, tries: u32, told: impl FnOnce(Result<Option<V>, GetError>) -> R) -> R {
-        let layout = if TIMED { Layout::Timed } else { Layout::Plain };
         let Some((handle, counts)) = self.slots.own() else {
-            return told(self.used(print, self.look(print, tries), tries));
+            return told(self.get_shared(print, tries));
         };
-        AnyHandle::get::<V, _>(handle, print.key, layout, |seen| match seen {
-            Seen::Entry(words, _) if check(words) == print.check && !self.clock.has_passed(deadline(words, layout)) => {
+        // Each asks for the layout itself: a captured one is known to the compiler only where the closure is inlined.
+        AnyHandle::get::<V, _>(handle, print.key, Layout::laid::<TIMED>(), |seen| match seen {
+            Seen::Entry(words, _) if check(words) == print.check && !self.clock.has_passed(deadline(words, Layout::laid::<TIMED>())) => {
                 counts.add_alone(Kind::Hit);
-                told(Ok(Some(Entry::of(words, layout).value)))
+                told(Ok(Some(Entry::of(words, Layout::laid::<TIMED>()).value)))
             }
             Seen::Absent if self.tiers.is_none() => {
                 counts.add_alone(Kind::Miss);
@@ -177,8 +177,15 @@ impl<K: ?Sized, V: Copy, S: BuildHasher> Inner<K, V, S> {
         })
     }
 
+    // By the handle that threads without one of their own share, and in a map whose entries end if they are not used.
+    #[inline(never)]
+    fn get_shared(&self, print: Print, tries: u32) -> Result<Option<V>, GetError> {
+        self.used(print, self.look(print, tries), tries)
+    }
+
     // Counts what the first of so many tries saw, or looks again.
     #[cold]
+    #[inline(never)]
     fn get_again(&self, print: Print, first: Seen, tries: u32) -> Result<Option<V>, GetError> {
         let found = self.found(print, first).or_else(|| self.look_again(print, tries - 1));
         self.used(print, found.and_then(|found| self.look_further(print, found, tries)), tries)
@@ -186,6 +193,7 @@ impl<K: ?Sized, V: Copy, S: BuildHasher> Inner<K, V, S> {
 
     // What the small table has of a key that the main one didn't have.
     #[cold]
+    #[inline(never)]
     fn get_young(&self, print: Print, tries: u32) -> Result<Option<V>, GetError> {
         match self.miss(print) {
             Miss::Yes => {

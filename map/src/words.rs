@@ -43,6 +43,16 @@ impl Layout {
         }
     }
 
+    /// That of entries with or without a deadline.
+    #[inline(always)]
+    pub const fn laid<const TIMED: bool>() -> Layout {
+        if TIMED {
+            Layout::Timed
+        } else {
+            Layout::Plain
+        }
+    }
+
     // How many words come before the value.
     #[inline]
     const fn head(self) -> usize {
