@@ -55,8 +55,10 @@ fn a_thread_has_a_pass_of_each_of_many_maps() {
         }
     };
     thread::scope(|threads| {
-        threads.spawn(|| use_each(1));
-        threads.spawn(|| use_each(2));
+        // A join waits for what a thread does at its end, and the end of a scope doesn't.
+        for thread in [threads.spawn(|| use_each(1)), threads.spawn(|| use_each(2))] {
+            thread.join().unwrap();
+        }
     });
     assert!(maps.iter().all(|map| (map.stats().shared, map.stats().hits, map.len()) == (0, 6, 2)));
     // The threads have given their handles back.
