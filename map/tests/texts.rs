@@ -41,7 +41,7 @@ fn each_error_has_its_text() {
     const NO_MEMORY: &str = "out of memory";
     const SPENT: &str = "the shard has made all its changes";
     let index = cefrodil::OpenError::Processor;
-    let all: [(Box<dyn Error>, &str); 22] = [
+    let all: [(Box<dyn Error>, &str); 23] = [
         (Box::new(OpenError::Capacity), "the capacity must be at least 1, and at most 3774873 for each shard"),
         (Box::new(OpenError::Shards), "the number of shards must be a power of two from 1 to 256"),
         (Box::new(OpenError::Threads), "at most 1023 threads can have a handle of their own"),
@@ -53,6 +53,7 @@ fn each_error_has_its_text() {
         (Box::new(InsertError::NoPlace), "there is no place for the key"),
         (Box::new(InsertError::AllRecent), "the shard is full, and each entry was used again"),
         (Box::new(InsertError::NoTimeToLive), "the map was opened without a time to live"),
+        (Box::new(InsertError::TooHeavy), "the entry is heavier than all entries may be"),
         (Box::new(InsertError::Spent), SPENT),
         (Box::new(RemoveError::Busy), BUSY),
         (Box::new(RemoveError::Held), HELD),

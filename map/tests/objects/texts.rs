@@ -26,7 +26,7 @@ fn each_error_has_a_text() {
     let refused = Refused { why: InsertError::NoPlace, key: Cell::new(1), value: Cell::new(2) };
     assert_eq!(refused.to_string(), "there is no place for the key");
     assert_eq!(format!("{refused:?}"), "Refused { why: NoPlace, .. }");
-    let all: [(Box<dyn Error>, &str); 9] = [
+    let all: [(Box<dyn Error>, &str); 10] = [
         (Box::new(AbsentError::Present { since: 1 }), "the key has a value"),
         (Box::new(AbsentError::Busy), "writes disturbed each lookup"),
         (Box::new(AbsentError::Contended), "other threads changed the key each time"),
@@ -35,6 +35,7 @@ fn each_error_has_a_text() {
         (Box::new(IfError::Changed { since: 1 }), "the key was put since"),
         (Box::new(IfError::Busy), "writes disturbed each lookup"),
         (Box::new(IfError::Held), "other threads held the shard's turn"),
+        (Box::new(IfError::TooHeavy), "the entry is heavier than all entries may be"),
         (Box::new(IfError::Spent), "the shard has made all its changes"),
     ];
     for (error, text) in all {
