@@ -135,7 +135,7 @@ fn agrees(map: &Map<u64, u64>, evicts: bool) {
 
 #[test]
 fn a_small_map_agrees_with_a_model() {
-    let map = Map::builder(200).open().unwrap();
+    let map = Map::builder(200).shards(1).open().unwrap();
     assert_eq!(map.capacity(), 200);
     agrees(&map, true);
 }
@@ -155,7 +155,7 @@ fn a_large_map_agrees_with_a_model() {
 
 #[test]
 fn maps_with_a_small_table_agree_with_a_model() {
-    for (capacity, most) in [(1, 2), (10, 10), (200, 200)] {
+    for (capacity, most) in [(1, 2), (10, 10), (120, 120)] {
         let map = Map::builder(capacity).small_table().open().unwrap();
         assert_eq!(map.capacity(), most);
         agrees(&map, true);

@@ -71,7 +71,7 @@ fn it_may_call_the_map() {
             map.insert(1_007, *value).unwrap();
         }
     };
-    let map = MAP.get_or_init(|| ObjectMap::builder(200).listener(hear).open().unwrap());
+    let map = MAP.get_or_init(|| ObjectMap::builder(200).shards(1).listener(hear).open().unwrap());
     (0..1_000).for_each(|key| done(map.insert(key, 10 * key).unwrap()));
     assert_eq!(map.len(), 200);
     for key in 0..1_000 {
