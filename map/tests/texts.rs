@@ -27,9 +27,11 @@ fn what_can_not_be_opened_says_why() {
 
 #[test]
 fn there_is_room_for_what_was_asked_for() {
-    for capacity in [1, 10, 1_000, 2_047, 2_048, 30_000] {
+    for capacity in [1, 10, 127, 128, 255, 1_000, 30_000] {
         let map = Map::<u64, u64>::new(capacity).unwrap();
-        assert!(map.capacity() >= capacity && map.capacity() < capacity + capacity / 4 + 1, "{} of {capacity}", map.capacity());
+        assert!(map.capacity() >= capacity && map.capacity() < 2 * capacity, "{} of {capacity}", map.capacity());
+        let exact = Map::<u64, u64>::builder(capacity).shards(1).open().unwrap();
+        assert_eq!(exact.capacity(), capacity);
     }
 }
 
