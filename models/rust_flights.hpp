@@ -44,8 +44,8 @@ struct RustFlights : rl::test_suite<RustFlights, 3> {
         if (!stripe.empty()) {                            //| if let Some(flight) = stripe.iter().find(|flight| flight.print == print) {
             return stripe.front();
         }
-        stripe.push_back(&own);                           //| stripe.push(Arc::clone(&flight));
         running.fetch_add(1, std::memory_order_relaxed);  //| self.running.fetch_add(1, SeqCst);
+        stripe.push_back(&own);                           //| stripe.push(Arc::clone(&leader.flight));
         if (!explored::without("fence of board")) {
             explored::fence();                            //| fence(SeqCst);
         }
@@ -64,7 +64,7 @@ struct RustFlights : rl::test_suite<RustFlights, 3> {
     std::optional<int> wait(Flight &flight) {
         std::unique_lock<explored::Mutex> guard(flight.lock);
         flight.ended.wait(guard, [&] { return flight.outcome != running_yet; });
-        return flight.outcome == has_value ? std::optional<int>(flight.value) : std::nullopt; //| Outcome::Value(value) => Some(value),
+        return flight.outcome == has_value ? std::optional<int>(flight.value) : std::nullopt; //| Outcome::Value(value) => Some(*value),
     }
     void leave(Flight &flight) {                          //| stripe.retain(|flight| !Arc::ptr_eq(flight, &self.flight));
         stripe.erase(std::remove(stripe.begin(), stripe.end(), &flight), stripe.end());
@@ -81,7 +81,7 @@ struct RustFlights : rl::test_suite<RustFlights, 3> {
         }
         if (!other) {                                     //| if other.is_none() {
             const Guard guard(flight.lock);
-            flight.outcome = has_value, flight.value = value; //| *lock(&self.flight.outcome) = Outcome::Value(value);
+            flight.outcome = has_value, flight.value = value; //| lock(&self.flight.state).outcome = Outcome::Value(value);
         }
         return other.value_or(value);                     //| other.unwrap_or(value)
     }
@@ -93,9 +93,9 @@ struct RustFlights : rl::test_suite<RustFlights, 3> {
         }
         running.fetch_sub(1, unless("order of the end", std::memory_order_release)); //| self.flights.running.fetch_sub(1, SeqCst);
         {
-            const Guard guard(flight.lock);               //| let mut outcome = lock(&self.flight.outcome);
-            if (flight.outcome == running_yet) {          //| if let Outcome::Running = *outcome {
-                flight.outcome = has_none;                //| *outcome = Outcome::None;
+            const Guard guard(flight.lock);               //| let mut state = lock(&self.flight.state);
+            if (flight.outcome == running_yet) {          //| if state.outcome.is_running() {
+                flight.outcome = has_none;                //| state.outcome = Outcome::None;
             }
         }
         flight.ended.notify_all();                        //| self.flight.ended.notify_all();
