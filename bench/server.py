@@ -9,62 +9,32 @@ It needs cargo and, of Debian: apt-get install librust-mio-dev memcached.
 """
 import os
 import re
-import socket
 import statistics
 import subprocess
-import sys
 import tempfile
-import time
 
-TOP = os.path.abspath(os.path.join(os.path.dirname(os.path.abspath(__file__)), '..'))
-CRATES = '/usr/share/cargo/registry'
+from servers import MEMCACHED, asked_library, built, running
+
 # What a row is called, how many threads the server has, and what the load does.
 ROWS = [(f'{what}, {size:,} bytes, {threads} thread{"s" * (threads > 1)}', threads, f'{words} value={size}')
         for what, words in (('nine gets in ten', 'gets=9'), ('gets', 'gets=10'), ('gets of 32 keys', 'gets=10 batch=32'))
         for size in (32, 1000) for threads in (1, 2, 4)]
 
 
-def built(library, folder):
-    """The programs: the server and its load."""
-    with open(f'{folder}/cargo.toml', 'w', encoding='utf-8') as file:
-        file.write(f'[source.crates-io]\nreplace-with = "debian"\n[source.debian]\ndirectory = "{CRATES}"\n')
-    words = ['cargo', 'build', '--quiet', '--release', '--offline', '--config', f'{folder}/cargo.toml', '--bins', '--examples']
-    subprocess.run(words, cwd=f'{TOP}/server', check=True,
-                   env={**os.environ, 'CEFRODIL_LIB': os.path.realpath(library), 'CARGO_TARGET_DIR': f'{folder}/target'})
-    return f'{folder}/target/release/cefrodild', f'{folder}/target/release/examples/load'
-
-
-def free_port():
-    with socket.socket() as probe:
-        probe.bind(('127.0.0.1', 0))
-        return str(probe.getsockname()[1])
-
-
 def answers(server, load, threads, words):
     """The numbers that the load tells of this server."""
-    port = free_port()
-    with subprocess.Popen([*server, '-p', port, '-t', str(threads), '-m', '512'], stdout=subprocess.DEVNULL, stderr=subprocess.DEVNULL) as running:
-        try:
-            for _ in range(100):
-                try:
-                    socket.create_connection(('127.0.0.1', int(port))).close()
-                    break
-                except OSError:
-                    time.sleep(0.05)
-            each = os.environ.get('SECONDS_EACH', '2')
-            run = [load, f'127.0.0.1:{port}', f'seconds={each}', f'clients={2 * threads}', *words.split()]
-            told = subprocess.run(run, check=True, capture_output=True, text=True, timeout=100).stdout
-        finally:
-            running.terminate()
+    with running(server, 512, threads) as (_, port):
+        each = os.environ.get('SECONDS_EACH', '2')
+        run = [load, f'127.0.0.1:{port}', f'seconds={each}', f'clients={2 * threads}', *words.split()]
+        told = subprocess.run(run, check=True, capture_output=True, text=True, timeout=100).stdout
     return [float(number) for number in re.search(r'(\d+) requests/s; us: p50 (\d+), p99 (\d+), p99.9 (\d+)', told).groups()]
 
 
 def main():
-    if len(sys.argv) != 2 or not os.path.isfile(f'{sys.argv[1]}/libcefrodil.a'):
-        sys.exit(__doc__)
+    library = asked_library(__doc__)
     with tempfile.TemporaryDirectory(prefix='server-') as folder:
-        program, load = built(sys.argv[1], folder)
-        servers = {'cefrodild': [program], 'memcached': ['memcached', '-u', 'nobody', '-l', '127.0.0.1', '-U', '0']}
+        program, load = built(library, folder)
+        servers = {'cefrodild': [program], 'memcached': MEMCACHED}
         print(f'||{"|".join(servers)}|\n|---|---|---|')
         for label, threads, words in ROWS:
             runs = {name: [] for name in servers}
