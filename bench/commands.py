@@ -1,7 +1,7 @@
 #!/usr/bin/env python3
 """What a command costs cefrodild and memcached: microseconds of processor time of the whole process, and in brackets the part that is not the
-kernel's. Both have one worker and one client, which sends one command after the other, or a hundred at once. Prints a table. A cell is the median
-of the rounds, in which the two alternate.
+kernel's. Both have one worker and one client, which sends one command after the other, or a hundred at once. Client and server run on one
+processor, since it costs a virtual machine much to wake another. Prints a table. A cell is the median of the rounds, in which the two alternate.
 
 usage: [ROUNDS=N] [SECONDS_EACH=T] bench/commands.py LIB     LIB: the folder of libcefrodil.a, as c/build makes it; ROUNDS: none: 5; T: none: 2
 
@@ -88,6 +88,7 @@ def main():
     library = asked_library(__doc__)
     with tempfile.TemporaryDirectory(prefix='commands-') as folder:
         servers = {'cefrodild': [built(library, folder)[0]], 'memcached': MEMCACHED}
+        os.sched_setaffinity(0, {max(os.sched_getaffinity(0))})
         print(f'||{"|".join(servers)}|\n|---|---|---|')
         for row in ROWS:
             for size in SIZES:
