@@ -2,7 +2,7 @@
 """How much memory cefrodild and memcached take with -m 64 while the sizes of values change for a long time: in the second half beside a busy process
 for each processor. Four clients each send bursts of sets and gets of drawn keys, and a few keys are looked up again and again. The servers run
 one after the other. Prints a table. The cells of a half have the highest VmRSS in MB, and the highest without what connections hold, as `stats`
-tells it, as a multiple of -m. The last cell has the sets, in thousands.
+tells it, as a multiple of -m.
 
 With MCCHECK cefrodild runs once more, for as long, with --audit and less to do. Then mccheck's last line is printed.
 
@@ -113,7 +113,7 @@ def main(arguments):
     seconds = 60 * int(arguments[1])
     with tempfile.TemporaryDirectory(prefix='churn-') as folder:
         program = built(arguments[0], folder)[0]
-        print('||alone|beside busy processes|sets|\n|---|---|---|---|')
+        print('||alone|beside busy processes|sets, thousands|\n|---|---|---|---|')
         for name, server in ('cefrodild', [program]), ('memcached', MEMCACHED):
             alone, beside, sets = run(server, seconds, 0)
             cells = (f'{most / MEGABYTE:.0f}; {without / MEGABYTE / MEMORY:.2f}' for most, without in (alone, beside))
