@@ -1,24 +1,17 @@
+#include "handles.hpp"
 #include "harness.hpp"
-#include "cefrodil.h"
-#include <mutex>
+
+enum { READERS = 8 };
 
 // The cache as programs in C call it: with one shard, whose turn one handle holds. A thread has another handle while it looks up.
-struct Door {
-    enum { READERS = 8 };
+struct Door : Handles<READERS + 1> {
     cefrodil_shape shape;
-    cefrodil_handle handles[READERS + 1] = {}; // the last one holds
-    int left = READERS;
-    std::mutex lending;
-    static thread_local cefrodil_handle mine;
 
     explicit Door(size_t keys) {
         if (cefrodil_shape_for_items(uint32_t(keys), 1, &shape) != CEFRODIL_OK) abort();
         if (cefrodil_open(&shape, 1, 4, handles, READERS + 1) != CEFRODIL_OK) abort();
         if (cefrodil_hold(&handles[READERS]) != CEFRODIL_OK) abort();
-    }
-
-    ~Door() {
-        for (auto &handle : handles) cefrodil_close(&handle);
+        left = READERS;
     }
 
     bool get(uint64_t key, Value &value) {
@@ -48,24 +41,6 @@ struct Door {
     }
 
     size_t slots() { return size_t(4) * shape.buckets; }
-
-    // A handle moves by a copy, and its old place is zeroed.
-    void enter() {
-        std::lock_guard<std::mutex> lent(lending);
-        if (left == 0) abort();
-        mine = handles[--left];
-        handles[left] = CEFRODIL_EMPTY;
-    }
-
-    void tick() {}
-
-    void leave() {
-        std::lock_guard<std::mutex> lent(lending);
-        handles[left++] = mine;
-        mine = CEFRODIL_EMPTY;
-    }
 };
-
-thread_local cefrodil_handle Door::mine = CEFRODIL_EMPTY;
 
 int main(int count, char **words) { return contest<Door>(count, words); }

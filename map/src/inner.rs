@@ -219,7 +219,7 @@ impl<K: ?Sized, V: Copy, S: BuildHasher> Inner<K, V, S> {
         let (Some(idle), Some(Found::Live(entry, since))) = (self.idle, found) else { return };
         let Some(next) = self.clock.moved(entry.idle, idle) else { return };
         let words = Entry { idle: next, ..*entry }.words(self.layout);
-        // Whoever puts the key meanwhile notes a use by that.
+        // If the key was put meanwhile, that was a use, too.
         let _ = match &self.tiers {
             Some(tiers) => tiers.put_if(print.key, *since, &words),
             None => self.slots.call(|handle| handle.put_if(print.key, *since, &words)),

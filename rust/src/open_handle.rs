@@ -81,8 +81,8 @@ impl OpenHandle {
     }
 }
 
-// SAFETY, of each call here: by `&mut`, no other call uses the handle. Every pointer is of a borrow that lasts for the call. The length of an array
-// is passed with it, or is the width that the call's name says.
+// SAFETY of each call here: `&mut` keeps other calls from the handle. Each pointer comes from a borrow that lasts for the call. The length of an
+// array is passed with it, or is the width that the call's name says.
 #[rustfmt::skip]
 impl OpenHandle {
     // .ci/calls: calls

@@ -1,0 +1,38 @@
+// The handles of a cache, which are lent to the threads of a bench.
+#ifndef HANDLES_HPP
+#define HANDLES_HPP
+
+#include "cefrodil.h"
+#include <cstdlib>
+#include <mutex>
+
+template <int COUNT> struct Handles {
+    cefrodil_handle handles[COUNT] = {};
+    int left = COUNT; // those that are lent come before the others
+    std::mutex lending;
+    static thread_local cefrodil_handle mine;
+
+    ~Handles() {
+        for (auto &handle : handles) cefrodil_close(&handle);
+    }
+
+    // A handle moves by a copy, and its old place is zeroed.
+    void enter() {
+        std::lock_guard<std::mutex> lent(lending);
+        if (left == 0) abort();
+        mine = handles[--left];
+        handles[left] = CEFRODIL_EMPTY;
+    }
+
+    void tick() {}
+
+    void leave() {
+        std::lock_guard<std::mutex> lent(lending);
+        handles[left++] = mine;
+        mine = CEFRODIL_EMPTY;
+    }
+};
+
+template <int COUNT> thread_local cefrodil_handle Handles<COUNT>::mine = CEFRODIL_EMPTY;
+
+#endif
