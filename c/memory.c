@@ -36,6 +36,7 @@ struct block rattle_alloc(size_t size, size_t align);
 struct block rattle_realloc(void *at, size_t kept, size_t size, size_t align);
 void rattle_dealloc(void *at);
 bool is_of_this_process(const void *at);
+extern bool has_been_forked __attribute__((visibility("hidden")));
 
 enum { LINE = 64, APART = 2 * LINE, BEHIND = 56, PLACED = 4096, CUT = 128 << 10, HUGE_PAGE = 2 << 20, REGION = 32 << 20 };
 
@@ -57,13 +58,16 @@ struct region {
 static struct region *open_region;
 static pthread_mutex_t lock = PTHREAD_MUTEX_INITIALIZER;
 
-/* This process. A program that forks without calling the handlers, by a system call of its own, has a child that takes itself for its parent. */
+/* This process, and whether another one was forked to make it. A program that forks without calling the handlers, by a system call of its own, has
+ * a child that takes itself for its parent. */
 static pid_t process;
+bool has_been_forked;
 
 static void before_fork(void) { pthread_mutex_lock(&lock); }
 static void after_fork(void) { pthread_mutex_unlock(&lock); }
 static void in_child(void) {
     process = getpid();
+    has_been_forked = true;
     pthread_mutex_unlock(&lock);
 }
 

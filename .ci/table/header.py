@@ -130,6 +130,26 @@ def wrappers(calls, _):
     return lines[:-1]
 
 
+def in_own_process(calls, _):
+    """The calls that c/forks.c defines, by an export, also of each width: those that a forked child may make by a handle of its parent."""
+    lines = []
+    for call in calls:
+        first = call.parameters[:1]
+        if not first or first[0].type != 'Handle' or first[0].length or first[0].null:
+            continue
+        lines += own_process(call.name, parameters_of(call), names_of(call))
+        for width in WIDTHS if call.widths else ():
+            length = call.value.length
+            lines += own_process(f'{call.name}_{width}', parameters_of(call, length), [name for name in names_of(call) if name != length])
+    return lines
+
+
+def own_process(name, parameters, names):
+    passed = f'({", ".join(names)}))'
+    lines = filled(f'OF_PROCESS({name}, (', parameters, '),', WIDEST)
+    return [f'{lines[0]} {passed}'] if len(lines) == 1 and len(lines[0]) + 1 + len(passed) <= WIDEST else [*lines, ' ' * 11 + passed]
+
+
 def macros(calls, _):
     return [f'#define cefrodil_{call.name} cefrodil_{wrapper_name(call)}' for call in calls if wrapper_name(call)]
 

@@ -18,14 +18,15 @@
  *      are never null, except a handle of cefrodil_close, a reply of cefrodil_get, and an array of cefrodil_open_with,
  *      cefrodil_get_many, cefrodil_put_many, cefrodil_entries or cefrodil_stamped_entries whose count is 0.
  *      `value` has `words` words; an array has as many elements as its count says.
- *   4. No call comes from a signal handler. A handle is used in the process that opened it. A forked child may close it,
- *      which frees nothing, and may open caches of its own. So it may end by exit, which runs the destructors of C++ objects.
- *      Every call returns: no longjmp, exception or asynchronous cancellation leaves it.
+ *   4. No call comes from a signal handler. Every call returns: no longjmp, exception or asynchronous cancellation leaves it.
  *   5. malloc, realloc and free belong to one allocator, whose blocks are aligned to 16 bytes.
  *   6. The program is linked with the archive that belongs to this header. The names below mean its functions only.
  *
  * What you need not promise: that a handle is open, that it holds the turns or doesn't, that a value has the right width, that counts
  * match. A call that finds otherwise returns a status and changes nothing but the reply.
+ *
+ * In a child of fork, the handles of the parent are not open: calls return CEFRODIL_CLOSED, and closing one frees nothing. So the child may end by
+ * exit, which runs the destructors of C++ objects. It may open caches of its own. (A child of a bare system call takes itself for its parent.)
  */
 #ifndef CEFRODIL_H
 #define CEFRODIL_H
@@ -344,8 +345,7 @@ CEFRODIL_CALL cefrodil_status cefrodil_entries(cefrodil_handle *handle, uint64_t
 CEFRODIL_CALL cefrodil_status cefrodil_stamped_entries(cefrodil_handle *handle, uint64_t *entries, size_t entry_words, uint64_t *count);
 
 /* Closes a handle, in any thread. One that holds the turns gives them back. Closing the last handle frees the cache.
- * OK, or CLOSED if it was not open, or null. In a forked child, CLOSED if the parent opened it: then nothing is freed. The handle is closed
- * afterwards. */
+ * OK, or CLOSED if it was not open, or null. The handle is closed afterwards. */
 CEFRODIL_NO_NULL cefrodil_status cefrodil_close(cefrodil_handle *handle);
 
 /* .ci/calls: end */

@@ -1,6 +1,10 @@
-/* Each call of a handle, with the arguments of each_call.c: by what it can be refused. */
+/* Each call of a handle, with arguments: by what it can be refused, and whether it is. */
 #ifndef EACH_CALL_H
 #define EACH_CALL_H
+
+#include "cefrodil.h"
+#include "must.h"
+#include <string.h>
 
 /* .ci/calls: calls */
 #define EACH_CALL(row) \
@@ -29,5 +33,59 @@
     row(stamped_entries, TURN, (handle, told.entries, ROOM, &told.count)) \
     row(close, NOTHING, (handle))
 /* .ci/calls: end */
+
+enum { WORDS = 2, MOST = 9, ROOM = 64 };
+
+/* What the calls write. */
+static struct {
+    uint64_t value[MOST], old[MOST], values[MOST], entries[ROOM], moment, len, capacity, count;
+    cefrodil_answer answers[1];
+    cefrodil_put_answer put_answers[1];
+    cefrodil_handle handles[1];
+    cefrodil_reply reply;
+} told;
+
+/* What they read. */
+static const uint64_t key = 7, since = 1, keys[1] = {7}, value[MOST] = {1, 2, 3, 4, 5, 6, 7, 8, 9};
+static const uint64_t *const values = value;
+static const uint32_t tries = 3;
+
+/* What a call has: a width, the need of a turn, the limit of its writes, a reply. */
+enum { NOTHING = 0, WIDTH = 1, TURN = 2, LIMIT = 4, REPLY = 8 };
+
+struct call {
+    const char *name;
+    cefrodil_status (*make)(cefrodil_handle *handle, size_t words);
+    int has;
+};
+#define FUNCTION(call, has, arguments) \
+    static cefrodil_status call_##call(cefrodil_handle *handle, size_t words) { \
+        (void)words; \
+        return cefrodil_##call arguments; \
+    }
+#define ROW(call, has, arguments) {#call, call_##call, has},
+EACH_CALL(FUNCTION)
+static const struct call calls[] = {EACH_CALL(ROW)};
+enum { CALLS = sizeof calls / sizeof calls[0] };
+
+/* The call returns this status, and writes nothing but the reply: that is empty. */
+static void is_refused(const struct call *call, cefrodil_handle *handle, size_t words, cefrodil_status status) {
+    const cefrodil_reply empty = {0, 0, 0, 0, CEFRODIL_PUT_NOTHING};
+    memset(&told, 9, sizeof told);
+    memset(told.handles, 0, sizeof told.handles);
+    unsigned char before[sizeof told], after[sizeof told];
+    memcpy(before, &told, sizeof told);
+    const cefrodil_status seen = call->make(handle, words);
+    if (seen != status) {
+        printf("cefrodil_%s: %s\n", call->name, cefrodil_text(seen));
+    }
+    MUST(seen == status);
+    if ((call->has & REPLY) != 0) {
+        MUST(memcmp(&told.reply, &empty, sizeof empty) == 0);
+        memset(&told.reply, 9, sizeof told.reply);
+    }
+    memcpy(after, &told, sizeof told);
+    MUST(memcmp(before, after, sizeof told) == 0);
+}
 
 #endif

@@ -2,6 +2,7 @@
 //! hangs.
 use cefrodil_map::{Map, ObjectMap};
 use std::ffi::c_int;
+use std::panic::{catch_unwind, AssertUnwindSafe};
 use std::process::exit;
 use std::ptr;
 use std::sync::atomic::{AtomicBool, Ordering::Relaxed};
@@ -24,7 +25,8 @@ fn ends_well(child: impl FnOnce() -> bool) -> bool {
     if number == 0 {
         // SAFETY: it takes no pointer.
         unsafe { alarm(20) };
-        exit(if child() { 0 } else { 2 });
+        // By a panic it does not end well.
+        exit(if catch_unwind(AssertUnwindSafe(child)).unwrap_or(false) { 0 } else { 2 });
     }
     let mut status = -1;
     // SAFETY: `status` is a number of this function's.

@@ -120,8 +120,11 @@ pub enum Take<const WORDS: usize> {
 
 type Told = (u32, RawReply);
 
-// Other statuses mean a closed handle, one that holds or does not, or another width. The types of this crate exclude them.
+// Other statuses mean a handle that holds or does not, or another width. The types of this crate exclude them. A handle is closed only in a forked
+// child, if the parent opened it.
+#[cold]
 pub(crate) fn not_told(status: u32) -> ! {
+    assert!(status != raw::CLOSED, "a forked child makes no call by a handle of its parent");
     unreachable!("this call gives no status {status}")
 }
 

@@ -1,7 +1,8 @@
 //! A process forks while its threads open, write, count and drop. A child drops what it has from its parent, opens caches of its own, and ends by
-//! `exit`. No child hangs.
+//! `exit`. No child hangs. A child that calls by a handle of its parent panics, and changes nothing.
 use cefrodil::{Cache, Put, Reply, Shape};
 use std::ffi::c_int;
+use std::panic::{catch_unwind, AssertUnwindSafe};
 use std::process::exit;
 use std::sync::atomic::{AtomicBool, Ordering::Relaxed};
 use std::thread;
@@ -22,14 +23,14 @@ fn opens_and_drops() -> bool {
     matches!(put, Ok(Put::Stored { .. })) && matches!(handles[1].get(1), Reply::Found { value: [2], .. })
 }
 
-/// Runs this in a child, and says whether it ended well. A child that hangs is ended by a signal.
+/// Runs this in a child, and says whether it ended well: not by a panic. A child that hangs is ended by a signal.
 fn ends_well(child: impl FnOnce() -> bool) -> bool {
     // SAFETY: the child makes calls of the C library after a fork of a process with threads. glibc allows it those of malloc.
     let number = unsafe { fork() };
     if number == 0 {
         // SAFETY: it takes no pointer.
         unsafe { alarm(20) };
-        exit(if child() { 0 } else { 2 });
+        exit(if catch_unwind(AssertUnwindSafe(child)).unwrap_or(false) { 0 } else { 2 });
     }
     let mut status = -1;
     // SAFETY: `status` is a number of this function's.
@@ -75,4 +76,26 @@ fn no_child_hangs() {
         assert_eq!(ended, CHILDREN);
     });
     assert!(matches!(mine.expect("a handle").get(1), Reply::Found { .. }));
+}
+
+/// Whether this panics, with a text that says why.
+fn is_refused<T>(call: impl FnOnce() -> T) -> bool {
+    let refusal = catch_unwind(AssertUnwindSafe(call)).err().expect("it panics");
+    refusal.downcast_ref::<&str>().is_some_and(|text| text.contains("forked child"))
+}
+
+#[test]
+fn calls_by_handles_of_the_parent_panic() {
+    let mut handles = Cache::<1>::open(&Shape::for_items(100, 1).expect("a shape"), 1, 2).expect("memory");
+    handles[0].try_put(1, &[2]).expect("room");
+    assert!(ends_well(|| {
+        let are_refused = is_refused(|| handles[0].try_put(1, &[3]))
+            && is_refused(|| handles[1].get(1))
+            && is_refused(|| handles[1].get_or_turn(1))
+            && is_refused(|| handles[0].hold().is_ok())
+            && is_refused(|| handles[0].capacity())
+            && is_refused(|| handles[0].more(1));
+        are_refused && opens_and_drops()
+    }));
+    assert_eq!(handles[1].get(1).value(), Some([2]));
 }
