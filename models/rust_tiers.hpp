@@ -12,9 +12,10 @@
 
 struct RustTiers : rl::test_suite<RustTiers, 3> {
     static constexpr unsigned interruptions = 2;
-    static constexpr std::array<std::string_view, 8> steps{
+    static constexpr std::array<std::string_view, 9> steps{
         "lock of a move",         "lock of a write",   "removal of the copy",            "beginning of a move",
-        "put before the removal", "ends of all moves", "another look into the main one", "lock of a removal that finds nothing"};
+        "put before the removal", "ends of all moves", "another look into the main one", "lock of a removal that finds nothing",
+        "note of a copy"};
 
     using Guard = std::lock_guard<explored::Mutex>;
     static constexpr std::memory_order all = std::memory_order_seq_cst;
@@ -24,6 +25,8 @@ struct RustTiers : rl::test_suite<RustTiers, 3> {
     explored::Atomic<int> main{none}, small{1};
     explored::Mutex key_lock{};
     explored::Atomic<int> begun{0}, ended{0};
+    // Whether a move has left the key in both tables.
+    explored::Atomic<int> copies{0};
     // What was written before. Whether an eviction or the removal has begun that may leave no value.
     explored::Atomic<int> written{1}, leaves{0};
 
@@ -43,6 +46,8 @@ struct RustTiers : rl::test_suite<RustTiers, 3> {
         main.compare_exchange(none, words, all);                      //| let is_new = match self.main.call(|handle| handle.put_if_absent(key, &value)) {
         if (!is_late && rl::rand(2) == 0) { // or it can't
             small.compare_exchange(words, none, all);                 //| let taken = in_turn(tries, || self.small.call(|small| small.handle.take_if(key, since)));
+        } else if (!explored::without("note of a copy")) {
+            copies.store(1, all);                                     //| set(&self.has_copies, true);
         }
         ended.fetch_add(1, all);
     }
@@ -57,10 +62,11 @@ struct RustTiers : rl::test_suite<RustTiers, 3> {
     void write(int words) {
         const explored::Mutex::Off off("lock of a write");
         const Guard guard(key_lock);                                  //| let _locked = self.lock(key).ok_or(TurnError::Held)?;
-        const bool in_main = main.load(all) != none;                  //| let in_main = self.main.call(|handle| handle.has(key))?;
-        const bool in_small = small.load(all) != none;                //| let in_small = self.small.call(|small| small.handle.has(key))?;
+        const bool in_main = main.load(all) != none;                  //| let is_there = self.main.call(|handle| handle.has(key))?;
+        const bool may_be_small = !in_main || copies.load(all) != 0;  //| if is_there && self.has_copies.load(SeqCst) {
+        const bool in_small = may_be_small && small.load(all) != none; //| self.small.call(|small| small.handle.has(key))
         if (in_main && in_small && !explored::without("removal of the copy")) {
-            small.store(none, all);                                   //| if let Removal::Removed { .. } = self.small.call(|small| small.handle.remove(key)).ok()? {
+            small.store(none, all);                                   //| let removal = if self.is_in_small(key)? { Some(self.small.call(|small| small.handle.remove(key)).ok()?) } else { None };
         }
         (in_main ? main : small).store(words, all);
     }

@@ -45,8 +45,8 @@ impl<K: ?Sized, V> Builder<K, V> {
 
 impl<K: ?Sized, V, S> Builder<K, V, S> {
     /// How many shards: a power of two, 1 to 256. Threads that write to different shards don't wait for each other. Each shard evicts for
-    /// itself, and several shards together have more room than was asked for. The default is one for each 64 entries, 16 at most: then it is less than
-    /// twice as much. One shard has just what was asked for.
+    /// itself, and several shards together have more room than was asked for. The default is one for each 64 entries, 16 at most: then it is at most
+    /// twice as much. One shard has just what was asked for. The small table has a tenth more.
     pub fn shards(mut self, shards: u32) -> Self {
         self.settings.shards = Some(shards);
         self
@@ -115,13 +115,22 @@ impl<K: ?Sized, V, S> Builder<K, V, S> {
         self
     }
 
-    /// Puts new keys into a small table, with a tenth of the entries. A key that is found there moves to the main table. So keys that are used
-    /// once evict none that are used often, and more lookups hit, most of all where many keys are used once or in scans.
+    /// Leaves the small table out. By default a full map puts new keys into a small table, with room for a tenth more entries. A key that is found
+    /// there moves to the main table. So keys that are used once evict none that are used often, and more lookups hit, most of all where many
+    /// keys are used once or in scans.
     ///
-    /// A lookup that misses the main table looks into the small one, too. If it finds the key there, it moves it: that is a write, for which
-    /// another entry may be evicted. A write of a key looks into both tables. The default is one table.
-    pub fn small_table(mut self) -> Self {
-        self.settings.small_table = true;
+    /// For that a lookup that misses the main table of a map that was full looks into the small one, too. If it finds the key there, it moves it: that
+    /// is a write, for which another entry may be evicted. Each write takes a lock, and a write of a new key looks into both tables.
+    ///
+    /// ```
+    /// use cefrodil_map::Map;
+    ///
+    /// let rates = Map::<str, u64>::builder(1000).one_table().open()?;
+    /// rates.insert("EUR", 100)?;
+    /// # Ok::<(), Box<dyn std::error::Error>>(())
+    /// ```
+    pub fn one_table(mut self) -> Self {
+        self.settings.small_table = false;
         self
     }
 }

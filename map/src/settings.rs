@@ -17,8 +17,8 @@ const MOST_SHARDS: usize = 16;
 const STRIPES: u32 = 4096;
 const STRIPES_OF_A_SHARD: u32 = 64;
 
-/// A small table holds so great a part of the entries.
-const SMALL_PART: usize = 10;
+/// A small table has room for one entry for each so many of the main table.
+const ENTRIES_OF_A_SMALL_ONE: usize = 10;
 
 pub(crate) struct Settings<S> {
     pub capacity: usize,
@@ -43,7 +43,7 @@ impl Settings<RandomState> {
             once: true,
             life: None,
             idle: None,
-            small_table: false,
+            small_table: true,
         }
     }
 }
@@ -54,20 +54,15 @@ impl<S> Settings<S> {
         Settings { capacity, shards, threads, hasher, once: false, life, idle, small_table }
     }
 
-    /// How many shards to open, and the shape of each. With a small table, it holds a part of the entries.
+    /// How many shards to open, and the shape of each.
     pub fn shape(&self) -> Result<(Shape, u32), OpenError> {
-        let capacity = if self.small_table { self.capacity.saturating_sub(self.small_capacity()).max(1) } else { self.capacity };
-        self.shape_for(self.capacity.min(capacity), self.shards.unwrap_or_else(|| shards_for(capacity)))
+        self.shape_for(self.capacity, self.shards.unwrap_or_else(|| shards_for(self.capacity)))
     }
 
     /// Those of the small table.
     pub fn small_shape(&self) -> Result<(Shape, u32), OpenError> {
-        let capacity = self.small_capacity();
+        let capacity = (self.capacity / ENTRIES_OF_A_SMALL_ONE).max(1);
         self.shape_for(capacity, shards_for(capacity))
-    }
-
-    fn small_capacity(&self) -> usize {
-        (self.capacity / SMALL_PART).max(1)
     }
 
     fn shape_for(&self, capacity: usize, shards: u32) -> Result<(Shape, u32), OpenError> {

@@ -10,7 +10,7 @@ use crate::stats::Kind;
 use crate::wait::{in_turn, within};
 use crate::words::{Words, MOST};
 use cefrodil::{ListError, Put, PutError, PutIfAbsentError, PutIfError, Removal, Reply, Spent, TurnError};
-use std::sync::atomic::{AtomicBool, Ordering::Relaxed};
+use std::sync::atomic::{AtomicBool, Ordering::Relaxed, Ordering::SeqCst};
 use std::sync::{Arc, Mutex, MutexGuard, TryLockError};
 
 /// The moment of a put into the small table has this bit. No table counts so far.
@@ -27,6 +27,10 @@ pub(crate) struct Tiers {
     left: Sketch,
     // The last put of a new key into the main table evicted another one, and none was removed there since. Relaxed: it is a guess.
     is_full: AtomicBool,
+    // Whether a key was ever put into the small table, and whether a move ever left one in both. Each is set before that, while the key's lock is
+    // held. So who has the lock of a key that is in the small table, or in both, sees it.
+    is_small_used: AtomicBool,
+    has_copies: AtomicBool,
     moves: Moves,
 }
 
@@ -86,6 +90,8 @@ impl Tiers {
             locks: (0..LOCKS).map(|_| Lock::default()).collect(),
             left: Sketch::new(entries),
             is_full: AtomicBool::new(false),
+            is_small_used: AtomicBool::new(false),
+            has_copies: AtomicBool::new(false),
             moves: Moves::default(),
         }
     }
@@ -98,6 +104,10 @@ impl Tiers {
     /// Whether a key misses that the main table didn't have, as the last that this thread looked up.
     #[inline]
     pub fn miss(&self, key: u64) -> Miss {
+        // No key has ever moved either.
+        if !self.is_small_used() {
+            return Miss::Yes;
+        }
         match self.small.own() {
             Some((mut small, _)) => small.miss(key, &self.moves),
             None => self.miss_shared(key),
@@ -154,6 +164,9 @@ impl Tiers {
             Err(_) => return,
         };
         let taken = in_turn(tries, || self.small.call(|small| small.handle.take_if(key, since)));
+        if taken.is_err() {
+            set(&self.has_copies, true);
+        }
         match (is_new, taken.is_ok()) {
             // There is one entry more, or the other one was counted when it was evicted.
             (true, false) => self.main.count(Kind::Added),
@@ -170,10 +183,13 @@ impl Tiers {
 
     fn put(&self, key: u64, words: &Words) -> Result<Put, TurnError<PutError>> {
         let _locked = self.lock(key).ok_or(TurnError::Held)?;
-        match self.place(key).ok_or(TurnError::Held)? {
-            Place::Main => self.put_main(key, words),
-            Place::Small => self.put_small(key, words),
-            Place::Nowhere => self.admit(key, words),
+        if !self.is_full.load(Relaxed) && !self.is_small_used() {
+            return self.put_main(key, words);
+        }
+        if self.is_in_main(key).ok_or(TurnError::Held)? {
+            self.put_main(key, words)
+        } else {
+            self.put_beside_main(key, words)
         }
     }
 
@@ -181,7 +197,7 @@ impl Tiers {
         let _locked = self.lock(key).ok_or(TurnError::Held)?;
         match self.place(key).ok_or(TurnError::Held)? {
             Place::Main | Place::Small => Err(TurnError::Call(PutIfAbsentError::Present { since: 0 })),
-            Place::Nowhere => self.admit(key, words).map_err(|why| match why {
+            Place::Nowhere => self.put_beside_main(key, words).map_err(|why| match why {
                 TurnError::Held => TurnError::Held,
                 TurnError::Call(why) => TurnError::Call(PutIfAbsentError::Put(why)),
             }),
@@ -202,7 +218,7 @@ impl Tiers {
             |small| small.take_if(key, since & !OF_SMALL).map(|taken| taken.at),
         )?;
         if since & OF_SMALL == 0 {
-            self.set_full(false);
+            set(&self.is_full, false);
         }
         Ok(taken)
     }
@@ -216,6 +232,9 @@ impl Tiers {
         in_small: impl FnOnce(&mut AnyHandle) -> Result<u64, TurnError<PutIfError>>,
     ) -> Result<u64, TurnError<PutIfError>> {
         let _locked = self.lock(key).ok_or(TurnError::Held)?;
+        if since & OF_SMALL == 0 && !self.has_copies.load(SeqCst) {
+            return self.main.call(in_main);
+        }
         match self.place(key).ok_or(TurnError::Held)? {
             Place::Main if since & OF_SMALL == 0 => self.main.call(in_main),
             Place::Small if since & OF_SMALL != 0 => self.small.call(|small| in_small(&mut small.handle)),
@@ -241,7 +260,7 @@ impl Tiers {
         match self.place(key).ok_or(TurnError::Held)? {
             Place::Small => self.small.call(|small| small.handle.remove(key)),
             Place::Main | Place::Nowhere => {
-                self.set_full(false);
+                set(&self.is_full, false);
                 self.main.call(|handle| handle.remove(key))
             }
         }
@@ -256,25 +275,52 @@ impl Tiers {
         }
     }
 
-    // Where the key is, for who has its lock. If it is in the main table, the small one has it no more. `None`: other threads disturbed this.
+    // Where the key is, for who has its lock: here and below. If it is in the main table, the small one has it no more. `None`: other threads
+    // disturbed this.
     fn place(&self, key: u64) -> Option<Place> {
-        let in_main = self.main.call(|handle| handle.has(key))?;
-        let in_small = self.small.call(|small| small.handle.has(key))?;
-        if !in_main {
-            return Some(if in_small { Place::Small } else { Place::Nowhere });
-        }
-        if in_small {
-            // A move could not take it out.
-            if let Removal::Removed { .. } = self.small.call(|small| small.handle.remove(key)).ok()? {
-                self.main.count(Kind::Removed);
-            }
-        }
-        Some(Place::Main)
+        Some(if self.is_in_main(key)? {
+            Place::Main
+        } else if self.is_in_small(key)? {
+            Place::Small
+        } else {
+            Place::Nowhere
+        })
     }
 
-    // Puts a new key.
-    fn admit(&self, key: u64, words: &Words) -> Result<Put, TurnError<PutError>> {
-        if !self.is_full.load(Relaxed) || self.left.take(key) {
+    fn is_in_main(&self, key: u64) -> Option<bool> {
+        let is_there = self.main.call(|handle| handle.has(key))?;
+        if is_there && self.has_copies.load(SeqCst) {
+            self.remove_copy(key)?;
+        }
+        Some(is_there)
+    }
+
+    // Removes the key from the small table, if a move could not take it out.
+    #[cold]
+    fn remove_copy(&self, key: u64) -> Option<()> {
+        let removal = if self.is_in_small(key)? { Some(self.small.call(|small| small.handle.remove(key)).ok()?) } else { None };
+        if let Some(Removal::Removed { .. }) = removal {
+            self.main.count(Kind::Removed);
+        }
+        Some(())
+    }
+
+    fn is_in_small(&self, key: u64) -> Option<bool> {
+        if self.is_small_used() {
+            self.small.call(|small| small.handle.has(key))
+        } else {
+            Some(false)
+        }
+    }
+
+    fn is_small_used(&self) -> bool {
+        self.is_small_used.load(SeqCst)
+    }
+
+    // Puts a key that the main table doesn't have. A young one is put into the small table, whether that has it or not.
+    fn put_beside_main(&self, key: u64, words: &Words) -> Result<Put, TurnError<PutError>> {
+        let is_young = self.is_full.load(Relaxed) && !self.left.take(key);
+        if !is_young && !self.is_in_small(key).ok_or(TurnError::Held)? {
             return self.put_main(key, words);
         }
         match self.put_small(key, words) {
@@ -293,23 +339,24 @@ impl Tiers {
     fn put_into_main(&self, put: Put) -> bool {
         let Put::Stored { evicted, .. } = put else { return false };
         if evicted.is_some() {
-            self.set_full(true);
+            set(&self.is_full, true);
         }
         evicted.is_some()
     }
 
     fn put_small(&self, key: u64, words: &Words) -> Result<Put, TurnError<PutError>> {
+        set(&self.is_small_used, true);
         let put = self.small.call(|small| small.handle.put(key, words))?;
         if let Put::Stored { evicted: Some(evicted), .. } = put {
             self.left.note(evicted);
         }
         Ok(put)
     }
+}
 
-    // Most calls find it as it is to be, and write nothing that other threads read.
-    fn set_full(&self, is_full: bool) {
-        if self.is_full.load(Relaxed) != is_full {
-            self.is_full.store(is_full, Relaxed);
-        }
+// Most calls find it as it is to be, and write nothing that other threads read.
+fn set(flag: &AtomicBool, to: bool) {
+    if flag.load(Relaxed) != to {
+        flag.store(to, SeqCst);
     }
 }

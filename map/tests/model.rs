@@ -135,7 +135,7 @@ fn agrees(map: &Map<u64, u64>, evicts: bool) {
 
 #[test]
 fn a_small_map_agrees_with_a_model() {
-    let map = Map::builder(200).shards(1).open().unwrap();
+    let map = Map::builder(200).shards(1).one_table().open().unwrap();
     assert_eq!(map.capacity(), 200);
     agrees(&map, true);
 }
@@ -150,28 +150,31 @@ fn small_shards_agree_with_a_model() {
 #[test]
 fn a_large_map_agrees_with_a_model() {
     agrees(&Map::new(10_000).unwrap(), false);
-    agrees(&Map::builder(10_000).small_table().open().unwrap(), false);
+    agrees(&Map::builder(10_000).one_table().open().unwrap(), false);
 }
 
 #[test]
 fn maps_with_a_small_table_agree_with_a_model() {
-    for (capacity, most) in [(1, 2), (10, 10), (120, 120)] {
-        let map = Map::builder(capacity).small_table().open().unwrap();
+    for (capacity, most) in [(1, 2), (10, 11), (120, 132)] {
+        let map = Map::builder(capacity).open().unwrap();
         assert_eq!(map.capacity(), most);
         agrees(&map, true);
     }
-    agrees(&Map::builder(100).shards(4).small_table().open().unwrap(), true);
-    agrees(&Map::builder(200).small_table().time_to_live(std::time::Duration::MAX).open().unwrap(), true);
+    agrees(&Map::builder(100).shards(4).open().unwrap(), true);
+    agrees(&Map::builder(200).time_to_live(std::time::Duration::MAX).open().unwrap(), true);
 }
 
 #[test]
 fn a_small_map_has_a_place_for_each_key() {
     for capacity in [7, 10, 14, 28, 57, 115] {
-        let map = Map::<u64, u64>::new(capacity).unwrap();
-        for key in 0..6_000 {
-            assert!(map.insert(&key, key).is_ok(), "key {key} in a map of {capacity}");
+        let builder = || Map::<u64, u64>::builder(capacity);
+        for (map, most) in [(builder().one_table(), capacity), (builder(), capacity + (capacity / 10).max(1))] {
+            let map = map.open().unwrap();
+            for key in 0..6_000 {
+                assert!(map.insert(&key, key).is_ok(), "key {key} in a map of {most}");
+            }
+            assert_eq!((map.capacity(), map.len(), map.stats().evicted), (most, most, 6_000 - most as u64));
         }
-        assert_eq!((map.len(), map.stats().evicted), (capacity, 6_000 - capacity as u64));
     }
 }
 
@@ -196,5 +199,5 @@ fn a_clone_is_the_same_map() {
     let other = map.clone();
     map.insert(&1, 10).unwrap();
     assert_eq!((other.remove(&1), map.get(&1)), (Ok(Some(10)), None));
-    assert_eq!(format!("{other:?}"), "Map { len: 0, capacity: 100, .. }");
+    assert_eq!(format!("{other:?}"), "Map { len: 0, capacity: 110, .. }");
 }

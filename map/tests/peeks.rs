@@ -4,7 +4,7 @@ use std::time::Duration;
 
 // A map that has just evicted the key 0 for 4. No other key was used since then, and the hand comes to 1 next.
 fn after_a_sweep() -> Map<u64, u64> {
-    let map = Map::builder(4).shards(1).open().unwrap();
+    let map = Map::builder(4).shards(1).one_table().open().unwrap();
     (0..5).for_each(|key| _ = map.insert(&key, 10 * key).unwrap());
     assert_eq!(map.stats().evicted, 1);
     map

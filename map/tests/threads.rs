@@ -113,7 +113,7 @@ fn nor_beside_evictions() {
 
 #[test]
 fn nor_beside_moves_from_a_small_table() {
-    let map = Map::builder(300).shards(2).threads(THREADS as usize).small_table().open().unwrap();
+    let map = Map::builder(300).shards(2).threads(THREADS as usize).open().unwrap();
     in_threads(|thread| no_value_is_wrong(&map, 1_000, 15_000, thread + 1));
     let stats = map.stats();
     assert!(stats.evicted > 0 && stats.shared == 0 && stats.collided == 0, "{stats:?}");
@@ -179,7 +179,7 @@ fn no_lookup_is_older_than_a_write_that_has_returned() {
 fn nor_beside_moves() {
     const KEYS: u64 = 4;
     const ROUNDS: u64 = 3_000;
-    let map = Map::<(u64, u64), u64>::builder(60).small_table().open().unwrap();
+    let map = Map::<(u64, u64), u64>::builder(60).open().unwrap();
     // Numbers of writes that have returned: an even one put its number, and an odd one removed what was there.
     let written: [[AtomicU64; KEYS as usize]; THREADS as usize] = Default::default();
     let found: Vec<AtomicU64> = (0..THREADS).map(|_| AtomicU64::new(0)).collect();
@@ -227,7 +227,7 @@ fn no_update_is_lost() {
 fn no_update_is_lost_beside_moves() {
     const KEYS: u64 = 6;
     const UPDATES: u64 = 6_000;
-    let map = Map::<u64, (u64, u64)>::builder(40).small_table().open().unwrap();
+    let map = Map::<u64, (u64, u64)>::builder(40).open().unwrap();
     let (beginnings, all) = (AtomicU64::new(0), Mutex::new(Vec::new()));
     in_threads(|thread| {
         let (mut seed, mut made) = (thread + 1, Vec::new());

@@ -16,7 +16,7 @@ const fn seconds(number: u64) -> Duration {
 // A map with the keys 1 to 4.
 fn open(is_tiered: bool) -> Numbers {
     let builder = Map::builder(100).time_to_idle(IDLE);
-    let map = if is_tiered { builder.small_table() } else { builder }.open().unwrap();
+    let map = if is_tiered { builder } else { builder.one_table() }.open().unwrap();
     for key in 1..=4 {
         map.insert(&key, 10 * key).unwrap();
     }

@@ -159,7 +159,7 @@ fn no_move_comes_between_the_steps_of_a_write() {
             });
             let done = write(&map);
             let reached = crate::slots::BEFORE_CALL.take().is_none();
-            assert!(done && (reached || step > 2), "write {number}, step {step}");
+            assert!(done && (reached || step > 1), "write {number}, step {step}");
             assert_eq!(map.get(&KEY), last, "write {number}, step {step}");
             let (in_main, in_small) = place(&map, KEY);
             assert!(!(in_main && in_small));

@@ -9,7 +9,7 @@ use std::time::Duration;
 #[test]
 fn an_insert_without_a_place_says_so() {
     let shape = Shape { buckets: 2, items: 8, stripes: 1, depth: 2, ..one_shard(8) };
-    let map: Map<u64, u64> = Map::builder(1).open_shaped(&shape, 1, 10).unwrap();
+    let map: Map<u64, u64> = Map::builder(1).one_table().open_shaped(&shape, 1, 10).unwrap();
     let (mut there, mut refused) = (0, 0);
     for key in 0..50 {
         match map.insert(&key, key) {
@@ -33,7 +33,7 @@ fn an_insert_without_a_place_says_so() {
 fn a_map_without_changes_left_says_so() {
     // Enough for one insert and one update.
     let shape = Shape { limit: 4, depth: 0, ..one_shard(8) };
-    let map: Map<u64, u64> = Map::builder(1).open_shaped(&shape, 1, 10).unwrap();
+    let map: Map<u64, u64> = Map::builder(1).one_table().open_shaped(&shape, 1, 10).unwrap();
     assert_eq!((map.insert(&1, 10), map.update(&1, |_| 11)), (Ok(Inserted::New), Ok(11)));
     assert_eq!(map.insert(&1, 12), Err(InsertError::Spent));
     assert_eq!(map.update(&1, |_| 12), Err(UpdateError::Insert(InsertError::Spent)));

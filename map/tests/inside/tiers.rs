@@ -24,7 +24,7 @@ fn open() -> Numbers {
 
 // As `open`, with a handle of their own for so many threads.
 pub fn open_for(threads: usize) -> Numbers {
-    let map = Map::builder(40).time_to_live(Duration::MAX).threads(threads).small_table();
+    let map = Map::builder(40).time_to_live(Duration::MAX).threads(threads);
     let map = map.open_shaped(&one_shard(36), 1, TRIES).unwrap();
     (1_000..1_037).for_each(|key| _ = map.insert(&key, 0).unwrap());
     assert_eq!((map.len(), map.stats().evicted), (36, 1));
@@ -219,7 +219,7 @@ impl Hasher for Narrow {
 // Keys with the same number in the index drive each other out, in both tables. None has another one's value, or an older one.
 #[test]
 fn keys_that_meet_in_the_index_are_told_apart() {
-    let map = Map::<u64, u64>::builder(30).small_table().hasher(BuildHasherDefault::<Narrow>::default()).open().unwrap();
+    let map = Map::<u64, u64>::builder(30).hasher(BuildHasherDefault::<Narrow>::default()).open().unwrap();
     let (mut last, mut seed, mut found) = (HashMap::new(), 7_u64, 0);
     for number in 0..30_000 {
         seed = seed.wrapping_mul(0x5851_f42d_4c95_7f2d).wrapping_add(1);

@@ -11,10 +11,11 @@ fn main() -> Result<(), Box<dyn std::error::Error>> {
     let [capacity, tables @ (1 | 2)] = numbers[..] else { return Err("usage: ratio CAPACITY TABLES".into()) };
     let mut bytes = Vec::new();
     stdin().read_to_end(&mut bytes)?;
-    // One shard, so that the map has room for as many entries as were asked for.
-    let builder = Map::<u64, u64>::builder(capacity).shards(1).threads(1);
-    let map = if tables == 2 { builder.small_table().open()? } else { builder.open()? };
-    assert_eq!(map.capacity(), capacity);
+    // One shard, so that the map has room for as many entries as were asked for. A small table is a tenth of the main one.
+    let main = if tables == 2 { capacity * 10 / 11 } else { capacity };
+    let builder = Map::<u64, u64>::builder(main).shards(1).threads(1);
+    let map = if tables == 2 { builder.open()? } else { builder.one_table().open()? };
+    assert!(map.capacity() + 1 >= capacity && map.capacity() <= capacity);
     let mut found = Vec::with_capacity(bytes.len() / 8 + 1);
     for word in bytes.chunks_exact(8) {
         let key = u64::from_le_bytes(word.try_into()?);
