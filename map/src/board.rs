@@ -1,4 +1,5 @@
 //! A value that a task loads where the map has none, while other tasks wait without blocking a thread.
+use crate::key::Key;
 use crate::flight::{Boarding, Leader, Passenger};
 use crate::inner::Inner;
 use crate::map::Map;
@@ -8,7 +9,7 @@ use std::borrow::Borrow;
 use std::collections::hash_map::RandomState;
 use std::fmt::{self, Debug, Formatter};
 use std::future::Future;
-use std::hash::{BuildHasher, Hash};
+use std::hash::BuildHasher;
 use std::pin::Pin;
 use std::task::{Context, Poll};
 
@@ -41,7 +42,7 @@ pub struct Wait<V: Copy>(Passenger<V>);
 /// How often a call for a task tries. It doesn't sleep.
 pub(crate) const TASK_TRIES: u32 = SLEEPS_FROM;
 
-impl<K: ?Sized, V: Copy + Send + Sync + 'static, S: BuildHasher> Map<K, V, S> {
+impl<K: Key + ?Sized, V: Copy + Send + Sync + 'static, S: BuildHasher> Map<K, V, S> {
     /// The key's value, or else the right to load it, or else a future that waits for another one that loads it. So of all tasks that want a
     /// key, one loads it. It needs no runtime, and no thread is blocked.
     ///
@@ -84,7 +85,7 @@ impl<K: ?Sized, V: Copy + Send + Sync + 'static, S: BuildHasher> Map<K, V, S> {
     ///   that in a task: the thread waits for a value that another task of the same thread may be loading.
     /// - If a task that leads awaits its own key, it waits for ever. So do those that wait for a [`Lead`] that is leaked by `mem::forget`.
     /// - This may spin and yield, but it never sleeps. A lookup that writes disturb all the time counts as a miss.
-    pub fn try_board<Q: Hash + ?Sized>(&self, key: &Q) -> Board<V, Lead<'_, K, V, S>, Wait<V>>
+    pub fn try_board<Q: Key + ?Sized>(&self, key: &Q) -> Board<V, Lead<'_, K, V, S>, Wait<V>>
     where
         K: Borrow<Q>,
     {
@@ -106,7 +107,7 @@ impl<K: ?Sized, V: Copy + Send + Sync + 'static, S: BuildHasher> Map<K, V, S> {
     }
 }
 
-impl<K: ?Sized, V: Copy + Send + Sync + 'static, S: BuildHasher> Lead<'_, K, V, S> {
+impl<K: Key + ?Sized, V: Copy + Send + Sync + 'static, S: BuildHasher> Lead<'_, K, V, S> {
     /// Puts the value, and gives it to all that wait. Returns it, or the value that the key has by now.
     ///
     /// If the key was written or removed since `try_board`, the map keeps that, and this value isn't put: it may be older. Nor is it if it
@@ -128,7 +129,7 @@ impl<V: Copy> Future for Wait<V> {
 // It holds nothing that is pinned.
 impl<V: Copy> Unpin for Wait<V> {}
 
-impl<K: ?Sized, V: Copy, S> Debug for Lead<'_, K, V, S> {
+impl<K: Key + ?Sized, V: Copy, S> Debug for Lead<'_, K, V, S> {
     fn fmt(&self, text: &mut Formatter) -> fmt::Result {
         text.debug_struct("Lead").finish_non_exhaustive()
     }

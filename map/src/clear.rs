@@ -1,4 +1,5 @@
 //! The removal of all entries.
+use crate::key::Key;
 use crate::error::ClearError;
 use crate::handle::AnyHandle;
 use crate::map::Map;
@@ -7,7 +8,7 @@ use crate::tiers::SmallHandle;
 use crate::wait::LISTS;
 use cefrodil::Removal;
 
-impl<K: ?Sized, V: Copy, S> Map<K, V, S> {
+impl<K: Key + ?Sized, V: Copy, S> Map<K, V, S> {
     /// Removes all entries. Once this has returned, no later lookup finds a value that was put before this call, nor one that
     /// [`get_or_insert_with`](Map::get_or_insert_with) began to compute before it. What other threads put meanwhile may stay or go.
     ///

@@ -1,4 +1,5 @@
 //! A value that is computed where the map has none.
+use crate::key::Key;
 use crate::error::GetError;
 use crate::flight::{Boarding, Leader};
 use crate::inner::{Found, Inner};
@@ -8,9 +9,9 @@ use crate::stats::Kind;
 use crate::wait::LOOKS;
 use std::borrow::Borrow;
 use std::convert::Infallible;
-use std::hash::{BuildHasher, Hash};
+use std::hash::BuildHasher;
 
-impl<K: ?Sized, V: Copy + Send + Sync + 'static, S: BuildHasher> Map<K, V, S> {
+impl<K: Key + ?Sized, V: Copy + Send + Sync + 'static, S: BuildHasher> Map<K, V, S> {
     /// The key's value, or else the value that `make` makes, which is put. Threads that want the same key meanwhile wait, and get the same
     /// value. If `make` panics, or the key has another value by then, they look it up again. If they don't find it, one of them calls its own.
     ///
@@ -20,7 +21,7 @@ impl<K: ?Sized, V: Copy + Send + Sync + 'static, S: BuildHasher> Map<K, V, S> {
     /// - If the value finds no place, the call returns it all the same. `refused` of [`stats`](Map::stats) counts this.
     /// - If `make` calls this for the same key, the inner call only returns its value.
     /// - Two threads wait forever if the `make` of each wants the value that the other one computes.
-    pub fn get_or_insert_with<Q: Hash + ?Sized>(&self, key: &Q, make: impl FnOnce() -> V) -> V
+    pub fn get_or_insert_with<Q: Key + ?Sized>(&self, key: &Q, make: impl FnOnce() -> V) -> V
     where
         K: Borrow<Q>,
     {
@@ -34,7 +35,7 @@ impl<K: ?Sized, V: Copy + Send + Sync + 'static, S: BuildHasher> Map<K, V, S> {
     /// # Errors
     ///
     /// That of `make`.
-    pub fn get_or_try_insert_with<Q: Hash + ?Sized, E>(&self, key: &Q, make: impl FnOnce() -> Result<V, E>) -> Result<V, E>
+    pub fn get_or_try_insert_with<Q: Key + ?Sized, E>(&self, key: &Q, make: impl FnOnce() -> Result<V, E>) -> Result<V, E>
     where
         K: Borrow<Q>,
     {
@@ -59,7 +60,7 @@ impl<K: ?Sized, V: Copy + Send + Sync + 'static, S: BuildHasher> Map<K, V, S> {
     /// # Errors
     ///
     /// [`GetError`]: `make` was not called.
-    pub fn try_get_or_insert_with<Q: Hash + ?Sized>(&self, key: &Q, make: impl FnOnce() -> V) -> Result<V, GetError>
+    pub fn try_get_or_insert_with<Q: Key + ?Sized>(&self, key: &Q, make: impl FnOnce() -> V) -> Result<V, GetError>
     where
         K: Borrow<Q>,
     {
@@ -79,7 +80,7 @@ impl<K: ?Sized, V: Copy + Send + Sync + 'static, S: BuildHasher> Map<K, V, S> {
     }
 }
 
-impl<K: ?Sized, V: Copy, S: BuildHasher> Inner<K, V, S> {
+impl<K: Key + ?Sized, V: Copy, S: BuildHasher> Inner<K, V, S> {
     /// A lookup that isn't counted.
     pub fn find(&self, print: Print, tries: u32) -> Option<V> {
         match self.look(print, tries)? {

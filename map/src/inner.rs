@@ -1,4 +1,5 @@
 //! What all clones of a map share: how a key is looked up, put and removed.
+use crate::key::Key;
 use crate::clock::{Clock, NEVER};
 use crate::error::{GetError, InsertError, RemoveError};
 use crate::flight::Flights;
@@ -11,7 +12,7 @@ use crate::tiers::{Miss, Tiers, OF_SMALL};
 use crate::wait::LOOKS;
 use crate::words::{check, deadline, Entry, Layout, Seen, Words};
 use cefrodil::{PutIfError, Reply, TurnError};
-use std::hash::{BuildHasher, Hash};
+use std::hash::BuildHasher;
 use std::sync::Arc;
 use std::time::Duration;
 
@@ -45,9 +46,9 @@ pub(crate) enum Found<V> {
     Absent,
 }
 
-impl<K: ?Sized, V: Copy, S: BuildHasher> Inner<K, V, S> {
+impl<K: Key + ?Sized, V: Copy, S: BuildHasher> Inner<K, V, S> {
     #[inline]
-    pub fn print<Q: Hash + ?Sized>(&self, key: &Q) -> Print {
+    pub fn print<Q: Key + ?Sized>(&self, key: &Q) -> Print {
         self.printer.print(key)
     }
 
@@ -287,7 +288,7 @@ impl<K: ?Sized, V: Copy, S: BuildHasher> Inner<K, V, S> {
         why
     }
 
-    pub fn insert<Q: Hash + ?Sized>(
+    pub fn insert<Q: Key + ?Sized>(
         &self,
         key: &Q,
         value: V,
@@ -307,7 +308,7 @@ impl<K: ?Sized, V: Copy, S: BuildHasher> Inner<K, V, S> {
         }
     }
 
-    pub fn remove<Q: Hash + ?Sized>(&self, key: &Q, tries: u32) -> Result<Option<V>, RemoveError> {
+    pub fn remove<Q: Key + ?Sized>(&self, key: &Q, tries: u32) -> Result<Option<V>, RemoveError> {
         let print = self.print(key);
         self.flights.detach(print);
         for _ in 0..tries {

@@ -10,9 +10,9 @@ mod error;
 mod flight;
 mod handle;
 mod inner;
+mod key;
 mod map;
 mod moves;
-mod number;
 #[cfg(feature = "objects")]
 mod objects;
 mod print;
@@ -35,6 +35,7 @@ mod inside;
 pub use board::{Board, Lead, Wait};
 pub use builder::Builder;
 pub use error::{ClearError, GetError, InsertError, OpenError, RemoveError, UpdateError};
+pub use key::{Hashed, Key};
 pub use map::{Inserted, Map};
 #[cfg(feature = "objects")]
 pub use objects::{

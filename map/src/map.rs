@@ -1,4 +1,5 @@
 //! The map and its plain calls.
+use crate::key::Key;
 use crate::error::{GetError, InsertError, OpenError, RemoveError};
 use crate::handle::MANY;
 use crate::inner::Inner;
@@ -8,15 +9,15 @@ use crate::Builder;
 use std::borrow::Borrow;
 use std::collections::hash_map::RandomState;
 use std::fmt::{self, Debug, Formatter};
-use std::hash::{BuildHasher, Hash};
+use std::hash::BuildHasher;
 use std::sync::Arc;
 use std::time::Duration;
 
-/// A bounded cache from keys `K`, whose `Hash` must write all that their `Eq` compares, to copies of `V`, for any number of threads.
+/// A bounded cache from keys `K` to copies of `V`, for any number of threads.
 ///
-/// The map keeps and compares no keys. Two keys that write the same when they are hashed are one key to it, though they differ. A derived
-/// `Hash` writes all. std's `Path` and `TypeId` don't: `/a` and `a` write the same. Nor does a type that writes a hash of its own. For such
-/// keys take an `ObjectMap`, of the feature `objects`: it compares keys.
+/// The map keeps and compares no keys. Two keys that write the same are one key to it, so keys have a trait of their own, [`Key`]: std's `Hash` may
+/// write less than tells keys apart. std's types have it, and [`key!`](crate::key) gives it to a struct. For other keys take an `ObjectMap`, of the
+/// feature `objects`: it compares keys.
 ///
 /// A clone is the same map. Each call borrows its key, and `K` may be unsized: `Map<str, u64>` works. A value has at most 56 bytes, 48 in
 /// a map with a time to live, or 40 in one with a time to idle; a larger one doesn't compile:
@@ -59,7 +60,7 @@ pub enum Inserted {
     Evicted,
 }
 
-impl<K: ?Sized, V: Copy + Send + Sync + 'static> Map<K, V> {
+impl<K: Key + ?Sized, V: Copy + Send + Sync + 'static> Map<K, V> {
     /// Opens a map for at least this many entries, with the defaults of [`Builder`].
     ///
     /// # Errors
@@ -75,14 +76,14 @@ impl<K: ?Sized, V: Copy + Send + Sync + 'static> Map<K, V> {
     }
 }
 
-impl<K: ?Sized, V: Copy + Send + Sync + 'static, S: BuildHasher> Map<K, V, S> {
+impl<K: Key + ?Sized, V: Copy + Send + Sync + 'static, S: BuildHasher> Map<K, V, S> {
     /// The key's value. A value that is found counts as used lately.
     ///
     /// `None`: the key is absent, expired or evicted, or writes disturbed the lookup for a tenth of a second, which `busy` of
     /// [`stats`](Map::stats) counts. [`try_get`](Map::try_get) tells the last from the others, but it tries once.
     #[inline]
     #[must_use]
-    pub fn get<Q: Hash + ?Sized>(&self, key: &Q) -> Option<V>
+    pub fn get<Q: Key + ?Sized>(&self, key: &Q) -> Option<V>
     where
         K: Borrow<Q>,
     {
@@ -94,7 +95,7 @@ impl<K: ?Sized, V: Copy + Send + Sync + 'static, S: BuildHasher> Map<K, V, S> {
     /// # Errors
     ///
     /// [`GetError::Busy`].
-    pub fn try_get<Q: Hash + ?Sized>(&self, key: &Q) -> Result<Option<V>, GetError>
+    pub fn try_get<Q: Key + ?Sized>(&self, key: &Q) -> Result<Option<V>, GetError>
     where
         K: Borrow<Q>,
     {
@@ -110,7 +111,7 @@ impl<K: ?Sized, V: Copy + Send + Sync + 'static, S: BuildHasher> Map<K, V, S> {
     /// # Ok::<(), Box<dyn std::error::Error>>(())
     /// ```
     #[must_use]
-    pub fn get_many<'a, Q: Hash + ?Sized + 'a>(&self, keys: impl IntoIterator<Item = &'a Q>) -> Vec<Option<V>>
+    pub fn get_many<'a, Q: Key + ?Sized + 'a>(&self, keys: impl IntoIterator<Item = &'a Q>) -> Vec<Option<V>>
     where
         K: Borrow<Q>,
     {
@@ -126,7 +127,7 @@ impl<K: ?Sized, V: Copy + Send + Sync + 'static, S: BuildHasher> Map<K, V, S> {
     /// # Errors
     ///
     /// [`GetError::Busy`]: other threads had the turn at each try.
-    pub fn peek<Q: Hash + ?Sized>(&self, key: &Q) -> Result<Option<V>, GetError>
+    pub fn peek<Q: Key + ?Sized>(&self, key: &Q) -> Result<Option<V>, GetError>
     where
         K: Borrow<Q>,
     {
@@ -135,7 +136,7 @@ impl<K: ?Sized, V: Copy + Send + Sync + 'static, S: BuildHasher> Map<K, V, S> {
 
     /// Whether the key has a value, which then counts as used lately.
     #[must_use]
-    pub fn contains_key<Q: Hash + ?Sized>(&self, key: &Q) -> bool
+    pub fn contains_key<Q: Key + ?Sized>(&self, key: &Q) -> bool
     where
         K: Borrow<Q>,
     {
@@ -149,7 +150,7 @@ impl<K: ?Sized, V: Copy + Send + Sync + 'static, S: BuildHasher> Map<K, V, S> {
     /// # Errors
     ///
     /// [`InsertError`]: nothing was changed. An older value of the key stays: if it must not, [`remove`](Map::remove) it.
-    pub fn insert<Q: Hash + ?Sized>(&self, key: &Q, value: V) -> Result<Inserted, InsertError>
+    pub fn insert<Q: Key + ?Sized>(&self, key: &Q, value: V) -> Result<Inserted, InsertError>
     where
         K: Borrow<Q>,
     {
@@ -161,7 +162,7 @@ impl<K: ?Sized, V: Copy + Send + Sync + 'static, S: BuildHasher> Map<K, V, S> {
     /// # Errors
     ///
     /// [`InsertError`]: nothing was changed.
-    pub fn try_insert<Q: Hash + ?Sized>(&self, key: &Q, value: V) -> Result<Inserted, InsertError>
+    pub fn try_insert<Q: Key + ?Sized>(&self, key: &Q, value: V) -> Result<Inserted, InsertError>
     where
         K: Borrow<Q>,
     {
@@ -174,7 +175,7 @@ impl<K: ?Sized, V: Copy + Send + Sync + 'static, S: BuildHasher> Map<K, V, S> {
     /// # Errors
     ///
     /// [`InsertError`]: nothing was changed. [`InsertError::NoTimeToLive`] if the map was opened without one.
-    pub fn insert_for<Q: Hash + ?Sized>(&self, key: &Q, value: V, life: Duration) -> Result<Inserted, InsertError>
+    pub fn insert_for<Q: Key + ?Sized>(&self, key: &Q, value: V, life: Duration) -> Result<Inserted, InsertError>
     where
         K: Borrow<Q>,
     {
@@ -194,7 +195,7 @@ impl<K: ?Sized, V: Copy + Send + Sync + 'static, S: BuildHasher> Map<K, V, S> {
     /// # Errors
     ///
     /// [`RemoveError`]: the value may still be there.
-    pub fn remove<Q: Hash + ?Sized>(&self, key: &Q) -> Result<Option<V>, RemoveError>
+    pub fn remove<Q: Key + ?Sized>(&self, key: &Q) -> Result<Option<V>, RemoveError>
     where
         K: Borrow<Q>,
     {
@@ -206,7 +207,7 @@ impl<K: ?Sized, V: Copy + Send + Sync + 'static, S: BuildHasher> Map<K, V, S> {
     /// # Errors
     ///
     /// [`RemoveError`]: the value may still be there.
-    pub fn try_remove<Q: Hash + ?Sized>(&self, key: &Q) -> Result<Option<V>, RemoveError>
+    pub fn try_remove<Q: Key + ?Sized>(&self, key: &Q) -> Result<Option<V>, RemoveError>
     where
         K: Borrow<Q>,
     {

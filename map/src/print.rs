@@ -1,5 +1,5 @@
 //! The two words by which the map knows a key.
-use crate::number::is_number;
+use crate::key::Key;
 use crate::sip::{Secret, Sip};
 use std::hash::{BuildHasher, Hash, Hasher};
 use std::marker::PhantomData;
@@ -47,17 +47,32 @@ impl<K: ?Sized, S: BuildHasher> Printer<K, S> {
 
     /// The print of a key, or of what a key is borrowed as. Both are hashed alike, and `K` alone says how.
     #[inline(always)]
-    pub fn print<Q: Hash + ?Sized>(&self, key: &Q) -> Print {
+    pub fn print<Q: Key + ?Sized>(&self, key: &Q) -> Print
+    where
+        K: Key,
+    {
         let Some(secret) = self.secret else {
-            return Print { key: self.hasher.hash_one((KEY, key)), check: self.hasher.hash_one((CHECK, key)) };
+            let hash_after = |word| self.hasher.hash_one(After(word, key));
+            return Print { key: hash_after(KEY), check: hash_after(CHECK) };
         };
         let mut state = PrintHasher::new(secret);
-        key.hash(&mut state);
-        if is_number::<K>() {
+        key.write(&mut state);
+        if K::IS_NUMBER {
             state.number_print()
         } else {
             state.print()
         }
+    }
+}
+
+// A key after a word.
+struct After<'a, Q: ?Sized>(u64, &'a Q);
+
+impl<Q: Key + ?Sized> Hash for After<'_, Q> {
+    #[inline]
+    fn hash<H: Hasher>(&self, to: &mut H) {
+        to.write_u64(self.0);
+        self.1.write(to);
     }
 }
 

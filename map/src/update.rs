@@ -1,4 +1,5 @@
 //! Puts that depend on the value that is there.
+use crate::key::Key;
 use crate::error::{InsertError, UpdateError};
 use crate::inner::{Found, Inner};
 use crate::map::Map;
@@ -8,10 +9,10 @@ use crate::wait::LOOKS;
 use crate::words::Words;
 use cefrodil::{PutIfAbsentError, PutIfError, TurnError};
 use std::borrow::Borrow;
-use std::hash::{BuildHasher, Hash};
+use std::hash::BuildHasher;
 use std::time::Duration;
 
-impl<K: ?Sized, V: Copy + Send + Sync + 'static, S: BuildHasher> Map<K, V, S> {
+impl<K: Key + ?Sized, V: Copy + Send + Sync + 'static, S: BuildHasher> Map<K, V, S> {
     /// Puts what `change` makes of the key's value, and returns it. No other write of the key comes between: if another thread is first,
     /// `change` is called again with what is there then. A value that is there keeps its deadline. The entry counts as used lately.
     ///
@@ -26,7 +27,7 @@ impl<K: ?Sized, V: Copy + Send + Sync + 'static, S: BuildHasher> Map<K, V, S> {
     /// # Errors
     ///
     /// [`UpdateError`]: this call changed nothing.
-    pub fn update<Q: Hash + ?Sized>(&self, key: &Q, change: impl FnMut(Option<V>) -> V) -> Result<V, UpdateError>
+    pub fn update<Q: Key + ?Sized>(&self, key: &Q, change: impl FnMut(Option<V>) -> V) -> Result<V, UpdateError>
     where
         K: Borrow<Q>,
     {
@@ -38,7 +39,7 @@ impl<K: ?Sized, V: Copy + Send + Sync + 'static, S: BuildHasher> Map<K, V, S> {
     /// # Errors
     ///
     /// [`UpdateError`]: this call changed nothing.
-    pub fn try_update<Q: Hash + ?Sized>(&self, key: &Q, change: impl FnMut(Option<V>) -> V) -> Result<V, UpdateError>
+    pub fn try_update<Q: Key + ?Sized>(&self, key: &Q, change: impl FnMut(Option<V>) -> V) -> Result<V, UpdateError>
     where
         K: Borrow<Q>,
     {
@@ -51,7 +52,7 @@ impl<K: ?Sized, V: Copy + Send + Sync + 'static, S: BuildHasher> Map<K, V, S> {
     /// # Errors
     ///
     /// [`UpdateError`]: this call changed nothing.
-    pub fn modify<Q: Hash + ?Sized>(&self, key: &Q, mut change: impl FnMut(V) -> V) -> Result<Option<V>, UpdateError>
+    pub fn modify<Q: Key + ?Sized>(&self, key: &Q, mut change: impl FnMut(V) -> V) -> Result<Option<V>, UpdateError>
     where
         K: Borrow<Q>,
     {
@@ -77,7 +78,7 @@ impl<K: ?Sized, V: Copy + Send + Sync + 'static, S: BuildHasher> Map<K, V, S> {
     /// # Errors
     ///
     /// [`UpdateError`]: this call changed nothing. [`InsertError::NoTimeToLive`] in it if the map was opened without one.
-    pub fn modify_for<Q: Hash + ?Sized>(
+    pub fn modify_for<Q: Key + ?Sized>(
         &self,
         key: &Q,
         life: Duration,
@@ -94,8 +95,8 @@ impl<K: ?Sized, V: Copy + Send + Sync + 'static, S: BuildHasher> Map<K, V, S> {
     }
 }
 
-impl<K: ?Sized, V: Copy, S: BuildHasher> Inner<K, V, S> {
-    fn update<Q: Hash + ?Sized>(&self, key: &Q, tries: u32, mut change: impl FnMut(Option<V>) -> V) -> Result<V, UpdateError> {
+impl<K: Key + ?Sized, V: Copy, S: BuildHasher> Inner<K, V, S> {
+    fn update<Q: Key + ?Sized>(&self, key: &Q, tries: u32, mut change: impl FnMut(Option<V>) -> V) -> Result<V, UpdateError> {
         let new = self.change_detached(self.print(key), tries, None, |old| Some(change(old)))?;
         Ok(new.expect("`change` always gives a value"))
     }

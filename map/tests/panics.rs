@@ -1,14 +1,14 @@
 //! A panic in the caller's code leaves the map as it was, and usable in each thread.
 use cefrodil_map::{Inserted, Map, UpdateError};
-use std::hash::{Hash, Hasher};
+use std::hash::Hasher;
 use std::panic::{catch_unwind, UnwindSafe};
 use std::thread;
 
 /// A key whose hash panics if it is odd. It has no `Eq`: the map compares no keys.
 struct Odd(u64);
 
-impl Hash for Odd {
-    fn hash<H: Hasher>(&self, state: &mut H) {
+impl cefrodil_map::Key for Odd {
+    fn write<H: Hasher>(&self, state: &mut H) {
         assert!(self.0 % 2 == 0, "as the test wants");
         state.write_u64(self.0);
     }

@@ -1,8 +1,7 @@
 //! A key's two words: by default a number and its SipHash, or the two words of one SipHash; with a hasher of the user's own two hashes.
-use crate::number::is_number;
 use crate::print::{Print, PrintHasher, Printer};
 use crate::sip::{Secret, Sip};
-use crate::Map;
+use crate::{Hashed, Key, Map};
 use std::cell::Cell;
 use std::collections::hash_map::{DefaultHasher, RandomState};
 use std::collections::HashSet;
@@ -14,8 +13,8 @@ thread_local!(static HASHED: Cell<u32> = const { Cell::new(0) });
 /// A key that counts how often it is hashed.
 struct Counted;
 
-impl Hash for Counted {
-    fn hash<H: Hasher>(&self, state: &mut H) {
+impl Key for Counted {
+    fn write<H: Hasher>(&self, state: &mut H) {
         HASHED.set(HASHED.get() + 1);
         state.write_u64(7);
     }
@@ -143,37 +142,32 @@ fn one_number_is_its_own_check_word_beside_its_siphash() {
 }
 
 // The number of the print, as a key of the type `K` has it.
-fn check_of<K: Hash>(key: &K) -> u64 {
+fn check_of<K: Key>(key: &K) -> u64 {
     Printer::<K, _>::once(RandomState::new()).print(key).check
 }
 
-#[derive(Hash)]
 struct Newtype(u64);
-
-#[derive(Hash)]
-struct Borrowing<'a>(&'a u64);
+crate::key!(Newtype(number));
 
 #[test]
 fn only_numbers_of_std_are_their_own_check_words() {
     assert_eq!((check_of(&7_u64), check_of(&7_i8), check_of(&7_usize), check_of(&'a'), check_of(&true)), (7, 7, 7, 97, 1));
     assert_eq!((check_of(&-1_i16), check_of(&NonZeroU32::MIN)), (0xffff, 1));
     let seven = 7;
-    let others = [check_of(&Newtype(7)), check_of(&Borrowing(&seven)), check_of(&&seven), check_of(&(seven,)), check_of(&7_u128)];
+    let others = [check_of(&Newtype(7)), check_of(&Hashed(7_u64)), check_of(&&seven), check_of(&(seven,)), check_of(&7_u128)];
     assert_eq!(others.iter().filter(|check| **check == 7).count(), 0);
 }
 
-// The type of a number may have a lifetime in its name.
-fn is_number_of<K>(_: &K) -> bool {
-    is_number::<K>()
+fn is_number<K: Key + ?Sized>() -> bool {
+    K::IS_NUMBER
 }
 
 #[test]
-fn types_are_numbers_whatever_they_borrow() {
-    let seven = 7;
-    assert!(is_number_of(&seven) && !is_number_of(&&seven) && !is_number_of(&Borrowing(&seven)));
+fn only_numbers_of_std_are_numbers() {
     assert!(is_number::<NonZeroI64>() && is_number::<u8>() && is_number::<char>());
-    assert!(!is_number::<str>() && !is_number::<[u64]>() && !is_number::<dyn Fn()>() && !is_number::<()>());
-    assert!(!is_number::<Newtype>() && !is_number::<Option<u64>>() && !is_number::<u128>() && !is_number::<f64>());
+    assert!(!is_number::<&u64>() && !is_number::<Hashed<u64>>() && !is_number::<Box<u64>>());
+    assert!(!is_number::<str>() && !is_number::<[u64]>() && !is_number::<()>());
+    assert!(!is_number::<Newtype>() && !is_number::<Option<u64>>() && !is_number::<u128>());
 }
 
 // A key that writes another number, or bytes, has another print. So it is a miss at worst.
@@ -202,16 +196,14 @@ fn numbers_of_all_sizes_and_pairs_of_numbers_have_prints_of_their_own() {
     assert_eq!(prints.len(), 8 * 256);
 }
 
-// `None` and an empty list both write the number 0 of 64 bits: they are keys of different types.
 #[test]
 fn keys_that_write_other_numbers_or_more_have_prints_of_their_own() {
     let once = Printer::<Option<u64>, _>::once(RandomState::new());
     let (none, some) = (once.print(&None::<u64>), once.print(&Some(0_u64)));
     let (empty, listed) = (once.print::<[String]>(&[]), once.print(&[String::new()][..]));
-    let prints =
-        [once.print(&-1_i8), once.print(&-1_i64), once.print(&()), none, some, listed].map(|print| (print.key, print.check));
+    let prints = [once.print(&-1_i8), once.print(&-1_i64), once.print(&()), none, some, empty, listed];
+    let prints = prints.map(|print| (print.key, print.check));
     assert_eq!(HashSet::from(prints).len(), prints.len());
-    assert_eq!(empty, none);
 }
 
 #[test]

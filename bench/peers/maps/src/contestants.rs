@@ -10,7 +10,7 @@ use twin::table::mix;
 
 /// A type of keys, each made of a number. Calls borrow a key.
 pub trait Key: Hash + Eq + Send + Sync + Borrow<Self::Borrowed> {
-    type Borrowed: Hash + Eq + ToOwned<Owned = Self> + ?Sized;
+    type Borrowed: Hash + Eq + cefrodil_map::Key + ToOwned<Owned = Self> + ?Sized;
 
     fn with<R>(number: u64, call: impl FnOnce(&Self::Borrowed) -> R) -> R;
 }
@@ -88,17 +88,17 @@ pub struct Cefrodil<K: Key, V, S>(cefrodil_map::Map<K::Borrowed, V, S>);
 
 /// A hasher with which a `cefrodil_map` is opened. Its own one is its default, by which it hashes each key once.
 pub trait Opens: BuildHasher + Clone + Send + Sync {
-    fn open<K: ?Sized, V: Copy + Send + Sync + 'static>(self, keys: usize) -> cefrodil_map::Map<K, V, Self>;
+    fn open<K: cefrodil_map::Key + ?Sized, V: Copy + Send + Sync + 'static>(self, keys: usize) -> cefrodil_map::Map<K, V, Self>;
 }
 
 impl Opens for RandomState {
-    fn open<K: ?Sized, V: Copy + Send + Sync + 'static>(self, keys: usize) -> cefrodil_map::Map<K, V> {
+    fn open<K: cefrodil_map::Key + ?Sized, V: Copy + Send + Sync + 'static>(self, keys: usize) -> cefrodil_map::Map<K, V> {
         cefrodil_map::Map::new(keys).expect("a map")
     }
 }
 
 impl Opens for Quick {
-    fn open<K: ?Sized, V: Copy + Send + Sync + 'static>(self, keys: usize) -> cefrodil_map::Map<K, V, Quick> {
+    fn open<K: cefrodil_map::Key + ?Sized, V: Copy + Send + Sync + 'static>(self, keys: usize) -> cefrodil_map::Map<K, V, Quick> {
         cefrodil_map::Builder::new(keys).hasher(self).open().expect("a map")
     }
 }
