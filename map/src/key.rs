@@ -47,7 +47,7 @@ use std::time::{Duration, Instant, SystemTime};
 ///
 /// A `Hash` is not enough, since it may write less than tells keys apart:
 ///
-/// ```compile_fail,E0277
+/// ```compile_fail,E0599
 /// #[derive(PartialEq, Eq)]
 /// struct Name(String);
 /// impl std::hash::Hash for Name {
