@@ -1,8 +1,9 @@
 // When an object of the crate `cefrodil-map` is freed, line by line. .ci/models checks that each quoted line is still there.
 //| in map/src/objects/epochs.rs
 //
-// One thread removes two objects one after the other and frees what may be freed. Another thread, which has a slot, looks objects up, and so does
-// one without a slot. No object is used after it is freed, and each use comes before the free in the order of the memory model.
+// One thread removes two objects one after the other and frees what may be freed. Another thread, which has a slot, looks objects up. One without a
+// slot looks one up, and then frees what may be freed of the first thread's. No object is used after it is freed, and each use comes before the
+// free in the order of the memory model.
 //
 // The index is one entry: a lookup is an acquire load, a removal acquires and releases. A step of the crate that is sequentially consistent, and so a
 // locked instruction, is a weaker one here, with a fence after it where a schedule needs that.
@@ -14,10 +15,11 @@
 
 struct RustEpochs : rl::test_suite<RustEpochs, 3> {
     static constexpr unsigned interruptions = 2;
-    static constexpr std::array<std::string_view, 9> steps{
-        "fence of an announcement",     "fence of a retirement",       "acquire of the number",
-        "release of the number",        "acquire of an announcement",  "release of the end of a pin",
-        "lock of pins without a slot", "read of pins without a slot", "removal before the retirement"};
+    static constexpr std::array<std::string_view, 10> steps{
+        "fence of an announcement",    "fence of a retirement",       "acquire of the epoch",
+        "fence of a new epoch",        "acquire of an announcement",  "release of the end of a pin",
+        "lock of pins without a slot", "read of pins without a slot", "removal before the retirement",
+        "end of the epoch that begins"};
 
     using Guard = std::lock_guard<explored::Mutex>;
     static constexpr size_t none = ~size_t(0), no_object = 2;
@@ -33,18 +35,19 @@ struct RustEpochs : rl::test_suite<RustEpochs, 3> {
 
     // The objects' words in the index are 0 and 1. 1: the object lives.
     std::array<explored::Plain<int>, 2> objects{explored::Plain<int>(1), explored::Plain<int>(1)};
-    explored::Atomic<size_t> entry{0}, retired{0}, since{none};
+    explored::Atomic<size_t> entry{0}, epoch{0}, since{none};
     explored::Mutex shared_lock{};
     std::vector<size_t> shared{};
-    std::vector<std::pair<size_t, size_t>> waiting{}; // by the one thread that removes, so without its lock
+    explored::Mutex list_lock{};
+    std::vector<std::pair<size_t, size_t>> waiting{};
 
     void look_up() {
         const size_t word = entry.load(std::memory_order_acquire);
         RL_ASSERT(word == no_object || objects[word].get() == 1);
     }
     void look_up_with_slot() {
-        const size_t number = retired.load(unless("acquire of the number", std::memory_order_acquire));
-        since.store(number, std::memory_order_release);                //| pin.since.store(self.retired.load(SeqCst), SeqCst);
+        const size_t number = epoch.load(unless("acquire of the epoch", std::memory_order_acquire));
+        since.store(number, std::memory_order_release);                //| pin.since.store(self.epoch.load(SeqCst), SeqCst);
         fence_unless("fence of an announcement");
         look_up();
         const std::memory_order order = unless("release of the end of a pin", std::memory_order_release);
@@ -55,8 +58,8 @@ struct RustEpochs : rl::test_suite<RustEpochs, 3> {
         size_t number = 0;
         {
             const Guard guard(shared_lock);                            //| let mut shared = lock(&self.shared);
-            const std::memory_order order = unless("acquire of the number", std::memory_order_acquire);
-            number = retired.load(order);                              //| let since = self.retired.load(SeqCst);
+            const std::memory_order order = unless("acquire of the epoch", std::memory_order_acquire);
+            number = epoch.load(order);                                //| let since = self.epoch.load(SeqCst);
             shared.push_back(number);                                  //| shared.push(since);
         }
         look_up();
@@ -75,16 +78,30 @@ struct RustEpochs : rl::test_suite<RustEpochs, 3> {
         const std::memory_order order = unless("acquire of an announcement", std::memory_order_acquire);
         return std::min(least, since.load(order));                     //| self.pins.iter().map(|pin| pin.since.load(SeqCst)).fold(shared, u64::min)
     }
-    void retire(size_t word) {
-        const std::memory_order order = unless("release of the number", std::memory_order_release);
-        const size_t number = retired.fetch_add(1, order);             //| let number = self.retired.fetch_add(1, SeqCst);
-        fence_unless("fence of a retirement");
-        waiting.emplace_back(number, word);                            //| waiting.objects.push_back((number, word));
-        const size_t pinned = pinned_since();                          //| let pinned = self.pinned_since();
-        while (!waiting.empty() && waiting.front().first < pinned) {   //| let free = waiting.objects.partition_point(|(number, _)| *number < pinned);
+    // Begins an epoch. Returns the first one whose objects can't be freed.
+    size_t begin_epoch() {
+        const size_t begun = epoch.fetch_add(1, std::memory_order_relaxed) + 1; //| let begun = self.epoch.fetch_add(1, SeqCst) + 1;
+        fence_unless("fence of a new epoch");
+        const size_t pinned = pinned_since();                          //| self.pinned_since().min(begun)
+        return explored::without("end of the epoch that begins") ? pinned : std::min(pinned, begun);
+    }
+    void free_before(size_t end) {
+        while (!waiting.empty() && waiting.front().first < end) {      //| let free = self.objects.partition_point(|(epoch, _)| *epoch < end);
             objects[waiting.front().second].set(0);
             waiting.erase(waiting.begin());
         }
+    }
+    void retire(size_t word) {
+        const Guard guard(list_lock);                                  //| let mut waiting = lock(&self.lists[slot.unwrap_or(self.pins.len())].0);
+        fence_unless("fence of a retirement");
+        const size_t number = epoch.load(std::memory_order_acquire);
+        waiting.emplace_back(number, word);                            //| waiting.objects.push_back((self.epoch.load(SeqCst), word));
+        free_before(begin_epoch());                                    //| let end = self.begin_epoch();
+    }
+    void free_now() {
+        const size_t end = begin_epoch();                              //| let end = self.begin_epoch();
+        const Guard guard(list_lock);                                  //| self.lists.iter().flat_map(|list| lock(&list.0).take_free(end)).collect()
+        free_before(end);
     }
     void remove() {
         const bool is_early = explored::without("removal before the retirement");
@@ -103,6 +120,7 @@ struct RustEpochs : rl::test_suite<RustEpochs, 3> {
             look_up_with_slot();
         } else {
             look_up_without_slot();
+            free_now();
         }
     }
 };

@@ -102,7 +102,7 @@ fn no_value_is_torn_or_of_another_key() {
 
 #[test]
 fn nor_beside_evictions() {
-    let map = Map::builder(100).shards(2).threads(THREADS as usize).open().unwrap();
+    let map = Map::builder(100).shards(2).threads(THREADS as usize).one_table().open().unwrap();
     in_threads(|thread| no_value_is_wrong(&map, 1_000, 15_000, thread + 1));
     let stats = map.stats();
     assert!(stats.evicted > 0 && stats.shared == 0, "{stats:?}");

@@ -1,14 +1,15 @@
 //! When an object that has left the index may be freed: when no call is left that could have found it.
 //!
-//! A call that looks objects up is pinned first, and announces how many objects had been retired by then. An object is retired after it has
-//! left the index, and gets the next number. A call that is pinned since an earlier number may have found the object. All others can't.
+//! A call that looks objects up is pinned first, and announces the epoch. An object is retired after it has left the index, and notes the epoch of
+//! that. A call that is pinned since this epoch or an earlier one may have found the object. All others can't. Each look for objects that can be
+//! freed begins the next epoch. Each thread that has a slot has a list of what it retired, so writes of several threads share nothing here.
 use crate::slots::lock;
 use std::collections::VecDeque;
 use std::marker::PhantomData;
 use std::sync::atomic::{AtomicU64, AtomicUsize, Ordering::Relaxed, Ordering::Release, Ordering::SeqCst};
 use std::sync::Mutex;
 
-/// So many objects wait before a call looks whether it can free them.
+/// So many objects of a thread wait before it looks whether it can free them.
 pub(crate) const BATCH: usize = 32;
 
 /// No call is pinned.
@@ -16,13 +17,15 @@ const NONE: u64 = u64::MAX;
 
 /// The calls that are pinned, and the objects that wait for them. An object is known by its word in the index.
 pub(crate) struct Epochs {
-    // How many objects have been retired.
-    retired: AtomicU64,
+    epoch: AtomicU64,
     // Of the threads that have a slot, by its index.
     pins: Box<[Pin]>,
     // Of the calls by other threads.
     shared: Mutex<Vec<u64>>,
-    waiting: Mutex<Waiting>,
+    // Of the threads that have a slot, by its index, and of all others.
+    lists: Box<[List]>,
+    // The list that a thread looks at beside its own. Relaxed: a guess.
+    other: AtomicUsize,
 }
 
 /// The calls of one thread that are pinned: one, and others within it. The alignment is that of a slot.
@@ -33,7 +36,11 @@ struct Pin {
     depth: AtomicUsize,
 }
 
-/// Retired objects with their numbers, in the order of these.
+/// What threads have retired. The alignment is that of a slot.
+#[repr(align(128))]
+struct List(Mutex<Waiting>);
+
+/// Retired objects with their epochs, in the order of these.
 struct Waiting {
     objects: VecDeque<(u64, u64)>,
     // At this length, a call looks which can be freed.
@@ -56,12 +63,13 @@ impl Epochs {
     /// For threads with so many slots.
     pub fn new(slots: usize) -> Epochs {
         let pin = |_| Pin { since: AtomicU64::new(NONE), depth: AtomicUsize::new(0) };
-        let waiting = Waiting { objects: VecDeque::new(), look_at: BATCH };
+        let list = |_| List(Mutex::new(Waiting { objects: VecDeque::new(), look_at: BATCH }));
         Epochs {
-            retired: AtomicU64::new(0),
+            epoch: AtomicU64::new(0),
             pins: (0..slots).map(pin).collect(),
             shared: Mutex::default(),
-            waiting: Mutex::new(waiting),
+            lists: (0..=slots).map(list).collect(),
+            other: AtomicUsize::new(0),
         }
     }
 
@@ -74,7 +82,7 @@ impl Epochs {
                 let depth = pin.depth.load(Relaxed);
                 if depth == 0 {
                     // Sequentially consistent, so that it comes before the lookups of this call.
-                    pin.since.store(self.retired.load(SeqCst), SeqCst);
+                    pin.since.store(self.epoch.load(SeqCst), SeqCst);
                 }
                 pin.depth.store(depth + 1, Relaxed);
                 Place::Slot(index)
@@ -87,36 +95,48 @@ impl Epochs {
     #[cold]
     fn pin_shared(&self) -> Place {
         let mut shared = lock(&self.shared);
-        let since = self.retired.load(SeqCst);
+        let since = self.epoch.load(SeqCst);
         shared.push(since);
         Place::Shared(since)
     }
 
-    /// Retires an object, which has left the index by a call that returned it. Returns the objects that may be freed now.
-    pub fn retire(&self, word: u64) -> Vec<u64> {
-        let mut waiting = lock(&self.waiting);
-        let number = self.retired.fetch_add(1, SeqCst);
-        waiting.objects.push_back((number, word));
+    /// Retires an object, which has left the index by a call that returned it. The thread has claimed this slot, or has none. Returns the objects
+    /// that may be freed now.
+    pub fn retire(&self, slot: Option<usize>, word: u64) -> Vec<u64> {
+        let mut waiting = lock(&self.lists[slot.unwrap_or(self.pins.len())].0);
+        waiting.objects.push_back((self.epoch.load(SeqCst), word));
         if waiting.objects.len() < waiting.look_at {
             return Vec::new();
         }
-        self.take_free(&mut waiting)
+        let end = self.begin_epoch();
+        let mut free = waiting.take_free(end);
+        drop(waiting);
+        self.take_others(end, &mut free);
+        free
+    }
+
+    // What waits in another list, whose thread may have ended.
+    fn take_others(&self, end: u64, free: &mut Vec<u64>) {
+        let other = self.other.fetch_add(1, Relaxed) % self.lists.len();
+        if let Ok(mut waiting) = self.lists[other].0.try_lock() {
+            free.extend(waiting.take_free(end));
+        }
     }
 
     /// Returns the objects that may be freed now.
     pub fn free_now(&self) -> Vec<u64> {
-        self.take_free(&mut lock(&self.waiting))
+        let end = self.begin_epoch();
+        self.lists.iter().flat_map(|list| lock(&list.0).take_free(end)).collect()
     }
 
-    fn take_free(&self, waiting: &mut Waiting) -> Vec<u64> {
-        let pinned = self.pinned_since();
-        let free = waiting.objects.partition_point(|(number, _)| *number < pinned);
-        let words = waiting.objects.drain(..free).map(|(_, word)| word).collect();
-        waiting.look_at = waiting.objects.len() + BATCH;
-        words
+    // Begins an epoch. Returns the first one whose objects can't be freed: one that a pinned call has announced, or the one that has begun, in which
+    // calls may be pinned that were not seen.
+    fn begin_epoch(&self) -> u64 {
+        let begun = self.epoch.fetch_add(1, SeqCst) + 1;
+        self.pinned_since().min(begun)
     }
 
-    // The smallest number that a pinned call has announced.
+    // The first epoch that a pinned call has announced.
     fn pinned_since(&self) -> u64 {
         let shared = lock(&self.shared).iter().copied().min().unwrap_or(NONE);
         self.pins.iter().map(|pin| pin.since.load(SeqCst)).fold(shared, u64::min)
@@ -124,13 +144,23 @@ impl Epochs {
 
     /// How many objects wait.
     pub fn waiting(&self) -> usize {
-        lock(&self.waiting).objects.len()
+        self.lists.iter().map(|list| lock(&list.0).objects.len()).sum()
     }
 
-    /// Whether they wait in the order of their numbers.
+    /// Whether those of each list wait in the order of their epochs.
     #[cfg(test)]
-    pub fn is_in_order(&self) -> bool {
-        lock(&self.waiting).objects.iter().is_sorted_by_key(|(number, _)| *number)
+    pub fn are_in_order(&self) -> bool {
+        self.lists.iter().all(|list| lock(&list.0).objects.iter().is_sorted_by_key(|(epoch, _)| *epoch))
+    }
+}
+
+impl Waiting {
+    // Those of the epochs before this one.
+    fn take_free(&mut self, end: u64) -> Vec<u64> {
+        let free = self.objects.partition_point(|(epoch, _)| *epoch < end);
+        let words = self.objects.drain(..free).map(|(_, word)| word).collect();
+        self.look_at = self.objects.len() + BATCH;
+        words
     }
 }
 

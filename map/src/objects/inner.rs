@@ -172,7 +172,7 @@ impl<O: Held, S> Left<'_, O, S> {
 
 impl<O: Held, S> Drop for Left<'_, O, S> {
     fn drop(&mut self) {
-        self.inner.free(self.inner.epochs.retire(self.word));
+        self.inner.free(self.inner.epochs.retire(self.inner.slots.index(), self.word));
     }
 }
 
@@ -185,7 +185,7 @@ impl<O: Held, S> Drop for ObjectInner<O, S> {
         }
         let listed = self.slots.in_turn(LISTS, || self.slots.call(Handle::try_entries));
         for (_, [word]) in listed.into_iter().flatten() {
-            self.free(self.epochs.retire(word));
+            self.free(self.epochs.retire(None, word));
         }
         self.free(self.epochs.free_now());
     }

@@ -108,13 +108,15 @@ fn an_object_stays_while_another_thread_uses_it() {
     }
 }
 
+// Each look for what may be freed begins an epoch.
 #[test]
-fn an_object_that_left_before_a_lookup_does_not_wait_for_it() {
+fn an_object_that_left_in_an_epoch_before_a_lookup_does_not_wait_for_it() {
     for threads in [0, 1, 3] {
         let (map, ledger) = (open(threads), Ledger::new(10));
         map.insert(1, ledger.make(1)).unwrap();
         let first = Holder::begin(&map, 1);
         map.insert(1, ledger.make(1)).unwrap();
+        assert_eq!(map.free_unused(), 1);
         let second = Holder::begin(&map, 1);
         map.insert(1, ledger.make(1)).unwrap();
         assert_eq!((map.free_unused(), ledger.dropped()), (2, 0));
