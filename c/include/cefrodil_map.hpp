@@ -60,6 +60,7 @@ struct MapOptions {
     uint32_t passes = 64;   // 1 to 1,024, with the shared one
     uint32_t tries = 10000; // how often a call is repeated that other threads keep from its turn. This takes over a second. A lookup is repeated
                             // 1,000 times at most, which takes over a tenth of a second.
+    bool small_table = false;
 };
 
 // The answers of lookups, updates and puts are `Found` and `Stored`, in cefrodil_table.hpp.
@@ -101,7 +102,7 @@ template <class K, class V, class Hash = SipHash<K>> class map {
         if (!opened->identities.draw()) {
             return Status::no_random;
         }
-        const Status status = opened->table.open(options.entries, options.shards, options.passes, options.tries, mix);
+        const Status status = opened->table.open(options.entries, options.shards, options.passes, options.tries, mix, options.small_table);
         return status == Status::ok && !inner_.own(std::move(opened)) ? Status::no_memory : status;
     }
     bool is_open() const noexcept { return bool(inner_); }
