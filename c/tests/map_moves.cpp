@@ -83,6 +83,32 @@ static void a_lookup_finds_a_key_that_is_evicted_while_it_moves() {
     MUST(numbers.where(the_key) == In::main && numbers.find(the_key) == 10);
 }
 
+// Another move had begun when this thread looked up another key. It puts the key into the main table after this thread has looked there.
+static void a_lookup_finds_a_key_whose_move_began_before() {
+    Numbers numbers;
+    Numbers::with_young(numbers);
+    std::atomic<int> step{0};
+    std::thread mover([&] {
+        before = 3;
+        act = [&] {
+            for (step = 1; step != 2;) {
+                std::this_thread::yield();
+            }
+        };
+        MUST(numbers.find(the_key) == 10 && !act);
+    });
+    while (step != 1) {
+        std::this_thread::yield();
+    }
+    MUST(numbers.find(7) == 0 && numbers.find(7) == 0);
+    before = 1;
+    act = [&] {
+        step = 2;
+        mover.join();
+    };
+    MUST(numbers.find(the_key) == 10 && !act && numbers.where(the_key) == In::main);
+}
+
 // Before each call of the index that a move makes, another thread tries to write the key. It finds it at any time.
 static void no_write_comes_between_the_steps_of_a_move() {
     // The lookup makes two calls, and the move three.
@@ -224,6 +250,7 @@ int main() {
     a_lookup_finds_a_key_that_moves_meanwhile();
     a_lookup_finds_it_though_a_pass_comes_back_that_knows_of_the_move();
     a_lookup_finds_a_key_that_is_evicted_while_it_moves();
+    a_lookup_finds_a_key_whose_move_began_before();
     no_write_comes_between_the_steps_of_a_move();
     a_removal_waits_for_a_key_that_is_evicted_while_it_moves();
     no_move_comes_between_the_steps_of_a_write();
