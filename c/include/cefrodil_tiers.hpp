@@ -61,7 +61,7 @@ template <size_t Words> class Tiers {
         if (status != Status::ok || !small_table) {
             return status;
         }
-        status = turns_.open_small(small, mix);
+        status = turns_.open_small(small, shards, mix);
         const auto grow = [&] { between_ = std::make_unique<BetweenTables>(turns_.capacity()); };
         return status == Status::ok && !has_memory(grow) ? Status::no_memory : status;
     }

@@ -65,9 +65,9 @@ template <size_t Words> class Turns {
         const Status status = choose(entries, shards, mix, shape);
         return status == Status::ok ? passes_.open(shape, shards, passes) : status;
     }
-    // Opens a second index, with as many passes.
-    [[nodiscard]] Status open_small(uint32_t entries, uint32_t mix) noexcept {
-        const uint32_t shards = shards_for(entries);
+    // Opens a second index, with as many passes. It has no more shards than were asked for.
+    [[nodiscard]] Status open_small(uint32_t entries, uint32_t asked_shards, uint32_t mix) noexcept {
+        const uint32_t shards = std::min(shards_for(entries), asked_shards == 0 ? most_shards : asked_shards);
         cefrodil_shape shape{};
         const Status status = choose(entries, shards, mix, shape);
         return status == Status::ok ? passes_.open_small(shape, shards) : status;

@@ -165,20 +165,21 @@ static void a_copy_goes_like_any_key() {
     MUST(numbers.where(the_key) == In::main && numbers.find(the_key) == 10 && numbers.size() == 40);
 }
 
-// Each table has a tenth or the rest of the entries, and one at least. Those of one table are as they were.
+// The tables have a tenth and the rest of the entries, and one at least. With one shard they have room for just these.
 static void capacities() {
-    const uint32_t expected[][3] = {{1, 1, 1}, {2, 1, 1}, {9, 8, 1}, {10, 9, 1}, {20, 18, 2}, {39, 36, 3}, {1000, 900, 100}};
+    const uint32_t expected[][3] = {{1, 1, 1}, {2, 1, 1}, {9, 8, 1}, {10, 9, 1}, {20, 18, 2}, {39, 36, 3}, {1000, 900, 100}, {10000, 9000, 1000}};
     for (const auto &[entries, main, small] : expected) {
-        Numbers::Table table, one;
+        Numbers::Table table, one, many;
         MUST(table.open(entries, 1, 2, 5, CEFRODIL_MIX_FULL, true) == Status::ok && one.open(entries, 1, 2, 5, CEFRODIL_MIX_FULL, false) == Status::ok);
         uint64_t in_main = 0, in_small = 0;
         table.tiers().turns().call([&](Numbers::Slot &slot) {
             MUST(slot.handle.capacity(in_main) == Status::ok && slot.small.capacity(in_small) == Status::ok);
         });
-        MUST(in_main == main && in_small >= small && table.turns().capacity() == in_main + in_small && one.turns().capacity() == entries);
+        MUST(in_main == main && in_small == small && table.turns().capacity() == main + small && one.turns().capacity() == entries);
+        MUST(many.open(entries, 0, 2, 5, CEFRODIL_MIX_FULL, true) == Status::ok && many.turns().capacity() >= main + small);
     }
     Numbers::Table none;
-    MUST(none.open(0, 1, 2, 5, CEFRODIL_MIX_FULL, true) == Status::bad_items);
+    MUST(none.open(0, 1, 2, 5, CEFRODIL_MIX_FULL, true) == Status::bad_items && none.open(9, 3, 2, 5, CEFRODIL_MIX_FULL, true) == Status::bad_shards);
 }
 
 static void a_sketch_notes_a_key_until_others_come() {
