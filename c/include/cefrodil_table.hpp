@@ -63,6 +63,15 @@ template <class V> class Table : private Packing<V> {
             }
         }
     }
+    // A lookup that is no use of the key. It is repeated as often as a put.
+    Found<V> peek(const Identity &key) noexcept {
+        const Answer<words> answer = tiers_.peek(key.index);
+        Found<V> found{answer.status, std::nullopt};
+        if (answer.value && !set_value(key, *answer.value, found.value)) {
+            found.status = Status::absent;
+        }
+        return found;
+    }
     // A lookup for a write, which is repeated as often as a put. `moves`: as of Tiers::get.
     Entry look(const Identity &key, bool moves) noexcept {
         for (uint32_t repeat = 0;; repeat++) {

@@ -86,6 +86,18 @@ template <size_t Words> class Tiers {
             Counting::take_back_misses(slot.handle, between_ ? static_cast<uint64_t>(std::count_if(answers, answers + count, is_absent)) : 0);
         });
     }
+    // Looks a key up in both tables, in a turn at each, which is no use of it: ok, absent, or held.
+    Answer<Words> peek(uint64_t key) noexcept {
+        return turns_.repeated([&](Slot<Words> &slot) {
+            Answer<Words> answer = slot.handle.try_peek(key);
+            if (answer.status == Status::absent && between_) {
+                answer = slot.small.try_peek(key);
+                // It may have moved.
+                answer = answer.status == Status::absent ? slot.handle.try_peek(key) : answer;
+            }
+            return answer;
+        });
+    }
     // Whether no table has the key: absent, or else present; held if other threads disturbed this. A lookup may miss the key while it moves, if the
     // small table evicts it meanwhile. So a write asks this, too.
     Status lacks(uint64_t key) noexcept {

@@ -45,7 +45,7 @@ struct Throwing {
     uint64_t operator()(const int &key, uint64_t seed) const { return uint64_t(unsigned(key)) + seed; }
 };
 template <class Any> Any &any() noexcept;
-static_assert(noexcept(any<Texts>().find("")) && noexcept(any<Texts>().get("")) && noexcept(any<Texts>().contains("")));
+static_assert(noexcept(any<Texts>().find("")) && noexcept(any<Texts>().get("")) && noexcept(any<Texts>().peek("")) && noexcept(any<Texts>().contains("")));
 static_assert(noexcept(any<Texts>().find_many(&any<std::string>(), 1, &any<std::optional<uint64_t>>())));
 static_assert(!noexcept(any<map<int, int, Throwing>>().find_many(&any<int>(), 1, &any<std::optional<int>>())));
 static_assert(noexcept(any<Texts>().insert("", 1)) && noexcept(any<Texts>().insert_or_assign("", 1)) && noexcept(any<Texts>().erase("")));
@@ -57,7 +57,7 @@ static void openings() {
     Numbers numbers;
     MUST(numbers.open({0}) == Status::bad_items && numbers.open({100, 3}) == Status::bad_shards && numbers.open({100, 4, 0}) == Status::bad_handles);
     MUST(numbers.open({100, 4, 1025}) == Status::bad_handles && !numbers.is_open() && numbers.capacity() == 0);
-    MUST(numbers.find(1) == std::nullopt && numbers.get(1).status == Status::closed && !numbers.contains(1) && numbers.size() == 0);
+    MUST(numbers.find(1) == std::nullopt && numbers.get(1).status == Status::closed && numbers.peek(1).status == Status::closed && !numbers.contains(1) && numbers.size() == 0);
     MUST(numbers.insert(1, 1).status == Status::closed && numbers.insert_or_assign(1, 1).status == Status::closed);
     std::optional<uint64_t> found[2] = {1, 2};
     const uint64_t keys[2] = {1, 2};
@@ -124,6 +124,28 @@ static void answers() {
     MUST(wide.open(sized(100)) == Status::ok && wide.insert(1, {{1, 2, 3, 4, 5, 6, 7}}).status == Status::ok);
     const auto found = wide.find(1);
     MUST(found && found->words[0] == 1 && found->words[3] == 4 && found->words[6] == 7);
+}
+
+// A value that was only peeked at leaves as if nobody had looked. One that was found stays.
+static void peeks() {
+    Numbers numbers;
+    MUST(numbers.open({100, 1}) == Status::ok && numbers.peek(0).status == Status::absent);
+    for (uint64_t key = 0; key <= 100; key++) {
+        MUST(numbers.insert(key, key).status == Status::ok);
+    }
+    // All were marked when they were put, and the hand has passed them once.
+    uint64_t peeked = 0, found = 0;
+    for (uint64_t key = 0; key <= 100; key++) {
+        const Found<uint64_t> seen = key % 2 == 0 ? numbers.get(key) : numbers.peek(key);
+        MUST(seen.value ? seen.status == Status::ok && seen.value == key : seen.status == Status::absent);
+    }
+    for (uint64_t key = 1000; key < 1030; key++) {
+        MUST(numbers.insert(key, key).evicted);
+    }
+    for (uint64_t key = 0; key <= 100; key++) {
+        (key % 2 == 0 ? found : peeked) += numbers.contains(key);
+    }
+    MUST(found >= 50 && peeked <= 25 && numbers.meter().counts().hits + numbers.meter().counts().misses == 51 + 101);
 }
 
 static uint64_t next_random() {
@@ -485,6 +507,7 @@ int main(int argc, char **argv) {
     alarm(argc > 1 ? 240 : 100); // so that a flight which never ends fails the test
     openings();
     shards_by_default();
+    peeks();
     all_calls(fewer);
     has_small = true;
     all_calls(fewer);

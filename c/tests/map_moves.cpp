@@ -14,6 +14,7 @@ static void a_lookup_finds_a_key_that_moves_meanwhile() {
                 // It looks at the small table after it has looked at the main one twice.
                 {[](Numbers &numbers) { return numbers.find_many(the_key); }, 2},
                 {[](Numbers &numbers) { return numbers.update(the_key, same).value.value_or(0); }, 1},
+                {[](Numbers &numbers) { return numbers.peek(the_key); }, 1},
                 {[](Numbers &numbers) { return numbers.erase(the_key) == Status::ok ? 10u : 0u; }, 1}};
     for (uint64_t moved = 0; moved < 3; moved++) {
         for (const auto &row : rows) {

@@ -85,6 +85,16 @@ static void a_scan_evicts_only_what_was_scanned() {
     MUST(there == 36 && stays > 18 && numbers.size() == 40);
 }
 
+static void a_peek_finds_a_key_in_both_tables_and_moves_none() {
+    Numbers numbers;
+    Numbers::with_young(numbers);
+    MUST(numbers.put(last_old, 36) == Status::ok && numbers.peek(the_key) == 10 && numbers.peek(last_old) == 36);
+    MUST(numbers.table.peek({7, 7}).status == Status::absent && numbers.table.peek({the_key, 7}).status == Status::absent);
+    MUST(numbers.where(the_key) == In::small && numbers.peek(the_key) == 10);
+    numbers.while_held([&] { MUST(numbers.table.peek({the_key, the_key}).status == Status::held); });
+    MUST(numbers.find(the_key) == 10 && numbers.where(the_key) == In::main && numbers.peek(the_key) == 10);
+}
+
 // A miss costs a third call only after a key has moved.
 static void a_miss_looks_at_each_table_once() {
     Numbers numbers;
@@ -210,6 +220,7 @@ int main() {
     a_key_that_left_the_small_table_comes_back_to_the_main_one();
     a_removal_from_the_main_table_makes_room_for_a_new_key();
     a_scan_evicts_only_what_was_scanned();
+    a_peek_finds_a_key_in_both_tables_and_moves_none();
     a_miss_looks_at_each_table_once();
     each_lookup_counts_once();
     a_write_leaves_no_older_copy();

@@ -27,6 +27,10 @@ static cefrodil_status first_get_or_turn(cefrodil_handle *handle, uint64_t key, 
     }
     return cefrodil_get_or_turn_of_width(handle, key, value, words, reply);
 }
+static cefrodil_status first_peek(cefrodil_handle *handle, uint64_t key, uint64_t *value, size_t words, cefrodil_reply *reply) {
+    call_begins();
+    return cefrodil_peek(handle, key, value, words, reply);
+}
 static cefrodil_status first_put(cefrodil_handle *handle, uint64_t key, const uint64_t *value, size_t words, cefrodil_reply *reply) {
     call_begins();
     return cefrodil_put_of_width(handle, key, value, words, reply);
@@ -57,6 +61,7 @@ static cefrodil_status first_get_many(cefrodil_handle *handle, const uint64_t *k
     return cefrodil_get_many_or_none(handle, keys, count, values, words, answers, answer_count);
 }
 #define cefrodil_get_or_turn_of_width first_get_or_turn
+#define cefrodil_peek first_peek
 #define cefrodil_put_of_width first_put
 #define cefrodil_put_if first_put_if
 #define cefrodil_put_if_absent first_put_if_absent
@@ -118,6 +123,7 @@ class Numbers {
         table.find_few(&one, 1, &value);
         return value.value_or(0);
     }
+    uint64_t peek(uint64_t key) { return table.peek(identity(key)).value.value_or(0); }
     bool contains(uint64_t key) {
         std::optional<uint64_t> value;
         return table.find(identity(key), value) == Status::ok;
