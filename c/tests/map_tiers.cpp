@@ -67,6 +67,19 @@ static void a_removal_from_the_main_table_makes_room_for_a_new_key() {
     MUST(young.erase(the_key) == Status::ok && young.insert(2, 20) == Status::ok && young.where(2) == In::small);
 }
 
+// The first of two keys that move takes the room of one that was removed, and the second one evicts a key. So new keys go to the small table again.
+static void a_move_that_evicts_fills_the_main_table() {
+    Numbers numbers;
+    Numbers::with_young(numbers);
+    uint64_t there = first_old;
+    while (!numbers.contains(there)) {
+        there++;
+    }
+    MUST(numbers.put(2, 20) == Status::ok && numbers.where(2) == In::small && numbers.erase(there) == Status::ok);
+    MUST(numbers.find(the_key) == 10 && numbers.size() == 37 && numbers.find(2) == 20 && numbers.size() == 36);
+    MUST(numbers.put(3, 30) == Status::ok && numbers.where(3) == In::small);
+}
+
 // Keys that are asked for once evict none that are asked for again.
 static void a_scan_evicts_only_what_was_scanned() {
     Numbers numbers;
@@ -219,6 +232,7 @@ int main() {
     another_key_with_its_number_moves_nothing();
     a_key_that_left_the_small_table_comes_back_to_the_main_one();
     a_removal_from_the_main_table_makes_room_for_a_new_key();
+    a_move_that_evicts_fills_the_main_table();
     a_scan_evicts_only_what_was_scanned();
     a_peek_finds_a_key_in_both_tables_and_moves_none();
     a_miss_looks_at_each_table_once();
