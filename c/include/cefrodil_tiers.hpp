@@ -1,8 +1,8 @@
 // A small table before the main one, for cefrodil_map.hpp. A new key goes to the small one, and to the main one when it is found there. So keys that
 // are used once evict no keys that are used often. A map may do without: then it has the main table alone.
 //
-// All writes of a key have its lock. Lookups have none: they look into the main table first. map/SAFETY.md says why that suffices, of the same
-// code in Rust (map/src/tiers.rs). It differs in this: all calls of the index that a lookup or a try of a write makes are by one slot.
+// All writes of a key have its lock. Lookups have none: they look into the main table first. map/SAFETY.md says why that suffices, and in what this
+// differs from map/src/tiers.rs.
 #ifndef CEFRODIL_TIERS_HPP
 #define CEFRODIL_TIERS_HPP
 
@@ -53,7 +53,7 @@ template <size_t Words> class Tiers {
   public:
     using Value = std::array<uint64_t, Words>;
 
-    // With a small table, that has one tenth of the entries. Statuses are those of cefrodil::open. Unless ok, the tables are to be closed.
+    // A small table has a tenth of the entries. Statuses are those of cefrodil::open. Unless ok, end this without another call.
     [[nodiscard]] Status open(uint32_t entries, uint32_t shards, uint32_t passes, uint32_t tries, uint32_t mix, bool small_table) noexcept {
         const uint32_t small = std::max<uint32_t>(entries / small_part, 1);
         const uint32_t main = std::min(entries, std::max<uint32_t>(entries - std::min(entries, small), 1));
@@ -69,8 +69,8 @@ template <size_t Words> class Tiers {
     // Whether the moment is that of a put into the small table. No table counts so far.
     static constexpr bool is_of_small(uint64_t since) noexcept { return (since & of_small) != 0; }
 
-    // Looks a key up in both tables: ok, absent, or busy if it was that so often. A value that is found is written. If the small table has the key,
-    // and `moves`, the key moves to the main one.
+    // Looks a key up in both tables: ok, absent, or busy if it was that so often. A value that is found is written. With `moves`, a key that is found in
+    // the small table moves to the main one.
     Seen get(const Identity &key, uint32_t most, bool moves, Value &value) noexcept {
         cefrodil_reply reply;
         Slot<Words> *const slot = turns_.own_slot();

@@ -53,6 +53,11 @@ static_assert(noexcept(any<Texts>().open({1})) && noexcept(any<Texts>().clear())
 static_assert(noexcept(any<const Texts>().size()) && noexcept(any<const Texts>().capacity()) && noexcept(any<const Texts>().is_open()));
 static_assert(!noexcept(any<map<int, int, Throwing>>().find(1)) && !noexcept(any<map<int, int, Throwing>>().erase(1)));
 
+// Whether these maps have a small table.
+static bool has_small = false;
+
+static cefrodil::MapOptions sized(uint32_t entries, uint32_t shards = 0, uint32_t passes = 64) { return {entries, shards, passes, 10000, has_small}; }
+
 static void openings() {
     Numbers numbers;
     MUST(numbers.open({0}) == Status::bad_items && numbers.open({100, 3}) == Status::bad_shards && numbers.open({100, 4, 0}) == Status::bad_handles);
@@ -69,7 +74,7 @@ static void openings() {
     MUST(computed.status == Status::closed && computed.value == 7 && computed.computed);
     const cefrodil::MapOptions usual{100};
     MUST(usual.entries == 100 && usual.shards == 0 && usual.passes == 64 && usual.tries == 10000 && !usual.small_table);
-    MUST(numbers.open({100, 4, 1024}) == Status::ok && numbers.open({100}) == Status::in_use && numbers.is_open());
+    MUST(numbers.open(sized(100, 4, 1024)) == Status::ok && numbers.open({100}) == Status::in_use && numbers.is_open());
     cefrodil_shape shape{};
     MUST(cefrodil_shape_for_items(100, 4, &shape) == CEFRODIL_OK && numbers.capacity() == 4 * shape.items);
     MUST(numbers.insert(1, 10).status == Status::ok && numbers.find(1) == 10u && !numbers.find(2));
@@ -86,15 +91,10 @@ static void shards_by_default() {
     for (const auto &[entries, shards] : expected) {
         Numbers numbers;
         cefrodil_shape shape{};
-        MUST(numbers.open({entries}) == Status::ok && cefrodil_shape_for_items(entries, shards, &shape) == CEFRODIL_OK);
+        MUST(numbers.open(sized(entries)) == Status::ok && cefrodil_shape_for_items(entries, shards, &shape) == CEFRODIL_OK);
         MUST(numbers.capacity() == uint64_t(shape.items) * shards);
     }
 }
-
-// Whether the maps below have a small table.
-static bool has_small = false;
-
-static cefrodil::MapOptions sized(uint32_t entries, uint32_t shards = 0, uint32_t passes = 64) { return {entries, shards, passes, 10000, has_small}; }
 
 // A full map finds a place for each new key, though its shards are small.
 static void small_shards(const cefrodil::MapOptions &options, uint64_t keys) {
@@ -129,7 +129,7 @@ static void answers() {
 // A value that was only peeked at leaves as if nobody had looked. One that was found stays.
 static void peeks() {
     Numbers numbers;
-    MUST(numbers.open({100, 1}) == Status::ok && numbers.peek(0).status == Status::absent);
+    MUST(numbers.open(sized(100, 1)) == Status::ok && numbers.peek(0).status == Status::absent);
     for (uint64_t key = 0; key <= 100; key++) {
         MUST(numbers.insert(key, key).status == Status::ok);
     }
