@@ -206,7 +206,7 @@ template <size_t Words> class Tiers {
     Seen look_again(const Identity &key, uint32_t most, bool moves, Value &value) noexcept {
         cefrodil_reply reply{};
         const auto again = [&](Slot<Words> &slot) { return look(slot, key.index, value, reply); };
-        const Status status = turns_.repeated(Status::busy, again, most);
+        const Status status = turns_.repeated_lookup(again, most);
         const bool has_ended = status == Status::ok || status == Status::absent || status == Status::busy;
         return has_ended ? Seen{status, reply.since} : go_on(status, key, most, moves, value, reply.since);
     }

@@ -35,13 +35,13 @@ inline void wait_before(uint32_t repeat) noexcept {
 
 inline bool is_disturbed(Status status) noexcept { return status == Status::busy || status == Status::held; }
 
-// Repeats a call while its answer is busy or held, so often at most. `answer`: that of its first time.
-template <class Answer, class Call> Answer within(uint32_t most, Answer answer, Call call) noexcept {
-    for (uint32_t repeat = 0; repeat < most && is_disturbed(status_of(answer)); repeat++) {
+// Repeats a call while it is busy or held, so often at most. `status`: that of its first time. Returns that of the last one.
+template <class Call> Status within(uint32_t most, Status status, const Call &call) noexcept {
+    for (uint32_t repeat = 0; repeat < most && is_disturbed(status); repeat++) {
         wait_before(repeat);
-        answer = call();
+        status = call();
     }
-    return answer;
+    return status;
 }
 
 // What a lookup came to. ok: the moment of the put of what it found.
@@ -85,16 +85,27 @@ template <size_t Words> class Turns {
     Slot<Words> *own_slot() noexcept { return passes_.own_slot(); }
     // Makes a call by this thread's slot, or by the shared one.
     template <class Call> auto call(Call made) noexcept { return passes_.call(made); }
-    // The same, until it is neither busy nor held.
+    // The same, until it is neither busy nor held. An answer may be large, and copies of it would cost, so the loop is not that of `within`.
     template <class Call> auto repeated(Call call) noexcept { return repeated(call, tries_); }
-    template <class Call> auto repeated(Call call, uint32_t most) noexcept { return repeated(passes_.call(call), call, most); }
-    // The same after a first answer.
-    template <class Answer, class Call> Answer repeated(Answer answer, Call call, uint32_t most) noexcept {
-        answer = within(most, answer, [&] { return passes_.call(call); });
-        if (is_disturbed(status_of(answer))) {
-            give_up(most);
+    template <class Call> auto repeated(Call call, uint32_t most) noexcept {
+        auto answer = passes_.call(call);
+        for (uint32_t repeat = 0; is_disturbed(status_of(answer)); repeat++) {
+            if (repeat >= most) {
+                give_up(most);
+                break;
+            }
+            wait_before(repeat);
+            answer = passes_.call(call);
         }
         return answer;
+    }
+    // The same for a lookup that was busy once.
+    template <class Call> Status repeated_lookup(Call look, uint32_t most) noexcept {
+        const Status status = within(most, Status::busy, [&] { return passes_.call(look); });
+        if (is_disturbed(status)) {
+            give_up(most);
+        }
+        return status;
     }
     // Makes a put, and counts a new key.
     template <class Write> Written write(Write make) noexcept {
@@ -133,7 +144,7 @@ template <size_t Words> class Turns {
     [[gnu::cold]] [[gnu::noinline]] Seen get_again(uint64_t key, uint32_t most, std::array<uint64_t, Words> &value) noexcept {
         cefrodil_reply reply{};
         const auto again = [&](Slot<Words> &slot) { return Counting::get_or_turn(slot.handle, key, value, reply); };
-        const Status status = repeated(Status::busy, again, most);
+        const Status status = repeated_lookup(again, most);
         return {status, reply.since};
     }
 
