@@ -1,8 +1,8 @@
 #!/usr/bin/env python3
 """How many lookups find their key with a small table for new keys, beside models of other policies.
 
-The crate `cefrodil-map` makes the same lookups with one table and with a small one before it. The models are of CLOCK, LRU, S3-FIFO, W-TinyLFU
-with exact counts, and of the two tables. Of 100,000 keys, number n is drawn in proportion to 1 / n ** skew (Zipf). A key that is absent is put.
+The crate `cefrodil-map` and `cefrodil::map` make the same lookups with one table and with a small one before it. The models are of CLOCK, LRU,
+S3-FIFO, W-TinyLFU with exact counts, and of the two tables. Of 100,000 keys, number n is drawn in proportion to 1 / n ** skew (Zipf). A key that is absent is put.
 
 - plain: nothing else.
 - scans: after every ten lookups an item come as many fresh keys as items, which are never asked for again, and don't count.
@@ -13,7 +13,7 @@ Hits are counted in percent, the first tenth of the lookups left out. It prints 
 
 usage: bench/small_table.py [LOOKUPS]     LOOKUPS: 600,000 unless it says otherwise
 
-CEFRODIL_LIB names the folder of libcefrodil.a; none: that of the release. It needs cargo and takes some five minutes.
+CEFRODIL_LIB names the folder of libcefrodil.a; none: that of the release, and nothing of C++. It needs cargo and g++, and takes some seven minutes.
 """
 import array
 import itertools
@@ -21,6 +21,7 @@ import os
 import random
 import subprocess
 import sys
+import tempfile
 from collections import OrderedDict, deque
 
 from hit_ratios import KEYS, TOP, Lru
@@ -220,24 +221,45 @@ def of_map(program, items, tables, keys):
     return ratio(keys, [letter == ord('1') for letter in told.stdout.strip()])
 
 
-def built():
-    folder = os.path.join(TOP, 'bench/peers/ratio')
-    subprocess.run(['cargo', 'build', '--quiet', '--release', '--offline'], cwd=folder, check=True)
-    return os.path.join(os.environ.get('CARGO_TARGET_DIR', os.path.join(folder, 'target')), 'release/ratio')
+def built_of_rust(sources):
+    subprocess.run(['cargo', 'build', '--quiet', '--release', '--offline'], cwd=sources, check=True)
+    return os.path.join(os.environ.get('CARGO_TARGET_DIR', os.path.join(sources, 'target')), 'release/ratio')
+
+
+def built_of_cxx(sources, folder):
+    program, library = os.path.join(folder, 'ratio'), os.path.join(os.environ['CEFRODIL_LIB'], 'libcefrodil.a')
+    options = ['-std=c++17', '-O2', '-I', os.path.join(TOP, 'c/include'), '-o', program]
+    subprocess.run(['g++', *options, os.path.join(sources, 'ratio.cpp'), library, '-lpthread'], check=True)
+    return program
+
+
+def built(folder):
+    """The programs that make the lookups, each by how it is shown."""
+    sources = os.path.join(TOP, 'bench/peers/ratio')
+    programs = {'Rust': built_of_rust(sources)}
+    if 'CEFRODIL_LIB' in os.environ:
+        programs['C++'] = built_of_cxx(sources, folder)
+    return programs
 
 
 def main(arguments):
     if len(arguments) > 1 or (arguments and not arguments[0].isdigit()):
         sys.exit(__doc__)
     lookups = int(arguments[0]) if arguments else 600_000
-    program = built()
+    with tempfile.TemporaryDirectory() as folder:
+        show(built(folder), lookups)
+
+
+def show(programs, lookups):
     models = {'CLOCK': Clock, 'LRU': Lru, 'S3-FIFO': S3Fifo, 'W-TinyLFU': WTinyLfu, 'two tables': Tables}
-    print('|lookups|skew|items|`Map`|`Map`, small table|' + '|'.join(models) + '|')
-    print('|---' * (5 + len(models)) + '|')
+    heads = [f'{name}{tables}' for name in programs for tables in ('', ', small table')]
+    print('|lookups|skew|items|' + '|'.join([*heads, *models]) + '|')
+    print('|---' * (3 + len(heads) + len(models)) + '|')
     cases = [(make, skew, items) for make in (plain, scans, shifts) for skew in SKEWS for items in SIZES]
     for make, skew, items in [*cases, *((news, 1.1, items) for items in SIZES)]:
         keys = list(make(skew, items, lookups))
-        cells = [of_map(program, items, tables, keys) for tables in (1, 2)] + [of_model(model(items), keys) for model in models.values()]
+        cells = [of_map(program, items, tables, keys) for program in programs.values() for tables in (1, 2)]
+        cells += [of_model(model(items), keys) for model in models.values()]
         print(f'|{make.__name__}|{skew}|{items}|' + '|'.join(cells) + '|', flush=True)
 
 

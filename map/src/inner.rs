@@ -83,6 +83,12 @@ impl<K: Key + ?Sized, V: Copy, S: BuildHasher> Inner<K, V, S> {
         }
     }
 
+    // Whether the small table may have a key that the main one lacks.
+    #[inline]
+    fn may_be_small(&self) -> bool {
+        self.tiers.as_ref().is_some_and(Tiers::is_small_used)
+    }
+
     #[inline]
     fn miss(&self, print: Print) -> Miss {
         self.tiers.as_ref().map_or(Miss::Yes, |tiers| tiers.miss(print.key))
@@ -169,7 +175,7 @@ impl<K: Key + ?Sized, V: Copy, S: BuildHasher> Inner<K, V, S> {
                 counts.add_alone(Kind::Hit);
                 told(Ok(Some(Entry::of(words, Layout::laid::<TIMED>()).value)))
             }
-            Seen::Absent if self.tiers.is_none() => {
+            Seen::Absent if !self.may_be_small() => {
                 counts.add_alone(Kind::Miss);
                 told(Ok(None))
             }
@@ -237,7 +243,7 @@ impl<K: Key + ?Sized, V: Copy, S: BuildHasher> Inner<K, V, S> {
             let found = self.found(*print, Seen::of(reply)).or_else(|| self.look_again(*print, self.looks() - 1));
             match found {
                 // The small table is looked at right after the main one, and not after other keys.
-                Some(Found::Absent) if self.tiers.is_some() => self.get(*print, self.looks(), |told| told).unwrap_or(None),
+                Some(Found::Absent) if self.may_be_small() => self.get(*print, self.looks(), |told| told).unwrap_or(None),
                 found => {
                     self.note_use(*print, found.as_ref());
                     self.counted(found).unwrap_or(None)

@@ -11,6 +11,7 @@ mod flight;
 mod handle;
 mod inner;
 mod key;
+mod key_locks;
 mod map;
 mod moves;
 #[cfg(feature = "objects")]

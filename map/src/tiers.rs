@@ -3,6 +3,7 @@
 //!
 //! All writes of a key have its lock. Lookups have none: they look into the main table first. SAFETY.md says why that suffices.
 use crate::handle::AnyHandle;
+use crate::key_locks::KeyLocks;
 use crate::moves::{Moves, Rest};
 use crate::sketch::Sketch;
 use crate::slots::Slots;
@@ -11,18 +12,15 @@ use crate::wait::{in_turn, within};
 use crate::words::{Words, MOST};
 use cefrodil::{ListError, Put, PutError, PutIfAbsentError, PutIfError, Removal, Reply, Spent, TurnError};
 use std::sync::atomic::{AtomicBool, Ordering::Relaxed, Ordering::SeqCst};
-use std::sync::{Arc, Mutex, MutexGuard, TryLockError};
+use std::sync::Arc;
 
 /// The moment of a put into the small table has this bit. No table counts so far.
 pub(crate) const OF_SMALL: u64 = 1 << 63;
 
-const LOCKS: usize = 64;
-
 pub(crate) struct Tiers {
     main: Arc<Slots<AnyHandle>>,
     small: Arc<Slots<SmallHandle>>,
-    // By the key.
-    locks: Box<[Lock]>,
+    locks: KeyLocks,
     // Keys that left the small table.
     left: Sketch,
     // The last put of a new key into the main table evicted another one, and none was removed there since. Relaxed: it is a guess.
@@ -40,11 +38,6 @@ pub(crate) struct SmallHandle {
     // Noted when a thread missed a key by this handle.
     rest: Rest,
 }
-
-/// Some keys. Each lock is in a cache line of its own.
-#[derive(Default)]
-#[repr(align(64))]
-struct Lock(Mutex<()>);
 
 /// Whether a key that the main table didn't have is in no table.
 pub(crate) enum Miss {
@@ -87,7 +80,7 @@ impl Tiers {
         Tiers {
             main,
             small: Arc::new(Slots::new(small)),
-            locks: (0..LOCKS).map(|_| Lock::default()).collect(),
+            locks: KeyLocks::new(),
             left: Sketch::new(entries),
             is_full: AtomicBool::new(false),
             is_small_used: AtomicBool::new(false),
@@ -99,6 +92,12 @@ impl Tiers {
     /// The handles of the small table.
     pub fn small(&self) -> &Arc<Slots<SmallHandle>> {
         &self.small
+    }
+
+    /// Whether the small table may have keys that the main one lacks.
+    #[inline]
+    pub fn is_small_used(&self) -> bool {
+        self.is_small_used.load(SeqCst)
     }
 
     /// Whether a key misses that the main table didn't have, as the last that this thread looked up.
@@ -149,7 +148,7 @@ impl Tiers {
     /// Moves a key that was found in the small table to the main one. If another thread writes there now, the next lookup that finds the key tries
     /// it. If so many tries don't take the key out of the small table, both have it, with the same words.
     pub fn promote(&self, key: u64, tries: u32) {
-        let Some(_locked) = self.lock(key) else { return };
+        let Some(_locked) = self.locks.lock(key) else { return };
         let _moving = self.moves.begin();
         let Reply::Found { value, since, .. } = self.small.call(|small| small.handle.get_or_turn(key)) else { return };
         let is_new = match self.main.call(|handle| handle.put_if_absent(key, &value)) {
@@ -182,7 +181,7 @@ impl Tiers {
     }
 
     fn put(&self, key: u64, words: &Words) -> Result<Put, TurnError<PutError>> {
-        let _locked = self.lock(key).ok_or(TurnError::Held)?;
+        let _locked = self.locks.lock(key).ok_or(TurnError::Held)?;
         if !self.is_full.load(Relaxed) && !self.is_small_used() {
             return self.put_main(key, words);
         }
@@ -194,7 +193,7 @@ impl Tiers {
     }
 
     pub fn put_if_absent(&self, key: u64, words: &Words) -> Result<Put, TurnError<PutIfAbsentError>> {
-        let _locked = self.lock(key).ok_or(TurnError::Held)?;
+        let _locked = self.locks.lock(key).ok_or(TurnError::Held)?;
         match self.place(key).ok_or(TurnError::Held)? {
             Place::Main | Place::Small => Err(TurnError::Call(PutIfAbsentError::Present { since: 0 })),
             Place::Nowhere => self.put_beside_main(key, words).map_err(|why| match why {
@@ -231,7 +230,7 @@ impl Tiers {
         in_main: impl FnOnce(&mut AnyHandle) -> Result<u64, TurnError<PutIfError>>,
         in_small: impl FnOnce(&mut AnyHandle) -> Result<u64, TurnError<PutIfError>>,
     ) -> Result<u64, TurnError<PutIfError>> {
-        let _locked = self.lock(key).ok_or(TurnError::Held)?;
+        let _locked = self.locks.lock(key).ok_or(TurnError::Held)?;
         if since & OF_SMALL == 0 && !self.has_copies.load(SeqCst) {
             return self.main.call(in_main);
         }
@@ -245,33 +244,24 @@ impl Tiers {
     /// Whether no table has the key. A lookup may miss it while it moves, if the small table evicts it meanwhile. So a write asks this, too. `None`:
     /// other threads disturbed this.
     pub fn lacks(&self, key: u64) -> Option<bool> {
-        let _locked = self.lock(key)?;
+        let _locked = self.locks.lock(key)?;
         self.place(key).map(|place| matches!(place, Place::Nowhere))
     }
 
     /// Waits until the moves have ended that have begun before. A lock is tried so often.
     pub fn wait_for_moves(&self, tries: u32) -> Result<(), TurnError<ListError>> {
-        (0..LOCKS as u64).try_for_each(|key| within(tries, || self.lock(key)).map(drop)).ok_or(TurnError::Held)
+        (0..KeyLocks::COUNT as u64).try_for_each(|key| within(tries, || self.locks.lock(key)).map(drop)).ok_or(TurnError::Held)
     }
 
     /// Removes the key from both tables.
     pub fn remove(&self, key: u64) -> Result<Removal, TurnError<Spent>> {
-        let _locked = self.lock(key).ok_or(TurnError::Held)?;
+        let _locked = self.locks.lock(key).ok_or(TurnError::Held)?;
         match self.place(key).ok_or(TurnError::Held)? {
             Place::Small => self.small.call(|small| small.handle.remove(key)),
             Place::Main | Place::Nowhere => {
                 set(&self.is_full, false);
                 self.main.call(|handle| handle.remove(key))
             }
-        }
-    }
-
-    // The lock of a key, if no other thread has it. No code of the caller runs under it.
-    fn lock(&self, key: u64) -> Option<MutexGuard<'_, ()>> {
-        match self.locks[key as usize % LOCKS].0.try_lock() {
-            Ok(locked) => Some(locked),
-            Err(TryLockError::Poisoned(locked)) => Some(locked.into_inner()),
-            Err(TryLockError::WouldBlock) => None,
         }
     }
 
@@ -311,10 +301,6 @@ impl Tiers {
         } else {
             Some(false)
         }
-    }
-
-    fn is_small_used(&self) -> bool {
-        self.is_small_used.load(SeqCst)
     }
 
     // Puts a key that the main table doesn't have. A young one is put into the small table, whether that has it or not.

@@ -68,6 +68,14 @@ fn a_new_key_moves_when_it_is_found() {
 }
 
 #[test]
+fn with_one_shard_both_tables_have_room_for_what_was_asked_for() {
+    for (entries, most) in [(2, 3), (10, 11), (1_000, 1_100), (10_000, 11_000)] {
+        assert_eq!(Numbers::builder(entries).shards(1).threads(1).open().unwrap().capacity(), most);
+    }
+    assert!(Numbers::builder(10_000).threads(1).open().unwrap().capacity() > 11_000);
+}
+
+#[test]
 fn each_call_that_uses_a_value_moves_it() {
     let uses: [fn(&Numbers); 6] = [
         |map| assert_eq!(map.try_get(&KEY), Ok(Some(10))),
