@@ -197,7 +197,7 @@ template <size_t Words> class Tiers {
         }
         // What is found under the number of another key is no use of that key.
         if (moves && value[0] == key.check) {
-            promote(key.index, most);
+            promote(key.index, std::min(most, turns_.looks()));
         }
         return {Status::ok, since};
     }
