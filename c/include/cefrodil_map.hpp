@@ -1,5 +1,4 @@
-// A cache as a map of a program's own types, for any number of threads. A new key evicts another one when its shard is full. If many keys are used
-// once, open the map with a small table for new keys (`small_table` of MapOptions).
+// A cache as a map of a program's own types, for any number of threads. A new key evicts another one when its shard is full.
 //
 //     #include "cefrodil_map.hpp"
 //     int main() {

@@ -6,8 +6,8 @@ static uint64_t same(uint64_t old) { return old; }
 static void a_new_key_moves_when_it_is_found() {
     Numbers numbers;
     Numbers::with_young(numbers);
-    MUST(numbers.size() == 37 && numbers.find(the_key) == 10 && numbers.where(the_key) == In::main);
-    MUST(numbers.find(the_key) == 10 && numbers.size() == 36 && numbers.table.turns().meter().counts().evictions == 2);
+    MUST(numbers.size() == 41 && numbers.find(the_key) == 10 && numbers.where(the_key) == In::main);
+    MUST(numbers.find(the_key) == 10 && numbers.size() == 40 && numbers.table.turns().meter().counts().evictions == 2);
 }
 
 // A removal and a put leave it where it is.
@@ -25,8 +25,8 @@ static void each_call_that_uses_a_value_moves_it() {
     Numbers numbers;
     Numbers::with_young(numbers);
     MUST(numbers.insert(the_key, 11) == Status::present && numbers.where(the_key) == In::small);
-    MUST(numbers.put(the_key, 11) == Status::ok && numbers.where(the_key) == In::small && numbers.size() == 37);
-    MUST(numbers.erase(the_key) == Status::ok && numbers.where(the_key) == In::none && numbers.size() == 36 && !numbers.contains(the_key));
+    MUST(numbers.put(the_key, 11) == Status::ok && numbers.where(the_key) == In::small && numbers.size() == 41);
+    MUST(numbers.erase(the_key) == Status::ok && numbers.where(the_key) == In::none && numbers.size() == 40 && !numbers.contains(the_key));
 }
 
 // What is found under the number of another key is no use of it.
@@ -48,7 +48,7 @@ static void a_key_that_left_the_small_table_comes_back_to_the_main_one() {
         MUST(numbers.insert(key, key) == Status::ok);
     }
     MUST(numbers.where(the_key) == In::none && numbers.put(the_key, 11) == Status::ok);
-    MUST(numbers.where(the_key) == In::main && numbers.where(5) == In::small && numbers.size() == 40);
+    MUST(numbers.where(the_key) == In::main && numbers.where(5) == In::small && numbers.size() == 44);
 }
 
 // From then on new keys go to the main table, until that evicts one.
@@ -76,7 +76,7 @@ static void a_move_that_evicts_fills_the_main_table() {
         there++;
     }
     MUST(numbers.put(2, 20) == Status::ok && numbers.where(2) == In::small && numbers.erase(there) == Status::ok);
-    MUST(numbers.find(the_key) == 10 && numbers.size() == 37 && numbers.find(2) == 20 && numbers.size() == 36);
+    MUST(numbers.find(the_key) == 10 && numbers.size() == 41 && numbers.find(2) == 20 && numbers.size() == 40);
     MUST(numbers.put(3, 30) == Status::ok && numbers.where(3) == In::small);
 }
 
@@ -95,13 +95,13 @@ static void a_scan_evicts_only_what_was_scanned() {
         stays += numbers.contains(key);
     }
     // The sketch takes some for keys that left.
-    MUST(there == 36 && stays > 18 && numbers.size() == 40);
+    MUST(there == 40 && stays > 20 && numbers.size() == 44);
 }
 
 static void a_peek_finds_a_key_in_both_tables_and_moves_none() {
     Numbers numbers;
     Numbers::with_young(numbers);
-    MUST(numbers.put(last_old, 36) == Status::ok && numbers.peek(the_key) == 10 && numbers.peek(last_old) == 36);
+    MUST(numbers.put(last_old, 40) == Status::ok && numbers.peek(the_key) == 10 && numbers.peek(last_old) == 40);
     MUST(numbers.table.peek({7, 7}).status == Status::absent && numbers.table.peek({the_key, 7}).status == Status::absent);
     MUST(numbers.where(the_key) == In::small && numbers.peek(the_key) == 10);
     numbers.while_held([&] { MUST(numbers.table.peek({the_key, the_key}).status == Status::held); });
@@ -145,7 +145,7 @@ static void each_lookup_counts_once() {
 static Numbers &with_both(Numbers &numbers) {
     Numbers::with_young(numbers);
     numbers.while_held([&] { MUST(numbers.find(the_key) == 10); });
-    MUST(numbers.where(the_key) == In::both && numbers.size() == 37);
+    MUST(numbers.where(the_key) == In::both && numbers.size() == 41);
     return numbers;
 }
 
@@ -155,11 +155,11 @@ static void a_write_leaves_no_older_copy() {
     const struct {
         std::function<bool(Numbers &)> write;
         uint64_t value, entries;
-    } rows[] = {{[](Numbers &numbers) { return numbers.put(the_key, 11) == Status::ok; }, 11, 36},
-                {[&](Numbers &numbers) { return numbers.update(the_key, next).value == 11u; }, 11, 36},
-                {[&](Numbers &numbers) { return numbers.update(the_key, 5, next).value == 11u; }, 11, 36},
-                {[](Numbers &numbers) { return numbers.insert(the_key, 11) == Status::present; }, 10, 36},
-                {[](Numbers &numbers) { return numbers.erase(the_key) == Status::ok; }, 0, 35},
+    } rows[] = {{[](Numbers &numbers) { return numbers.put(the_key, 11) == Status::ok; }, 11, 40},
+                {[&](Numbers &numbers) { return numbers.update(the_key, next).value == 11u; }, 11, 40},
+                {[&](Numbers &numbers) { return numbers.update(the_key, 5, next).value == 11u; }, 11, 40},
+                {[](Numbers &numbers) { return numbers.insert(the_key, 11) == Status::present; }, 10, 40},
+                {[](Numbers &numbers) { return numbers.erase(the_key) == Status::ok; }, 0, 39},
                 {[](Numbers &numbers) { return numbers.table.clear() == Status::ok; }, 0, 0}};
     for (const auto &row : rows) {
         Numbers numbers;
@@ -173,9 +173,9 @@ static void a_write_that_cannot_remove_a_copy_changes_nothing() {
     with_both(numbers).while_held([&] {
         MUST(numbers.put(the_key, 11) == Status::held && numbers.insert(the_key, 11) == Status::held);
         MUST(numbers.update(the_key, same).status == Status::held && numbers.erase(the_key) == Status::held);
-        MUST(numbers.table.clear() == Status::held && numbers.find(the_key) == 10 && numbers.size() == 37);
+        MUST(numbers.table.clear() == Status::held && numbers.find(the_key) == 10 && numbers.size() == 41);
     });
-    MUST(numbers.erase(the_key) == Status::ok && numbers.find(the_key) == 0 && numbers.size() == 35);
+    MUST(numbers.erase(the_key) == Status::ok && numbers.find(the_key) == 0 && numbers.size() == 39);
 }
 
 // A copy that is evicted, or found after the main table has evicted the key, is the same value.
@@ -185,12 +185,12 @@ static void a_copy_goes_like_any_key() {
     for (uint64_t key = 2; key < 8; key++) {
         MUST(numbers.insert(key, key) == Status::ok);
     }
-    MUST(numbers.where(the_key) == In::main && numbers.find(the_key) == 10 && numbers.size() == 40);
+    MUST(numbers.where(the_key) == In::main && numbers.find(the_key) == 10 && numbers.size() == 44);
 }
 
-// The tables have a tenth and the rest of the entries, and one at least. With one shard they have room for just these.
+// The small table has room for a tenth more entries, and for one at least. With one shard the main one has room for just what was asked for.
 static void capacities() {
-    const uint32_t expected[][3] = {{1, 1, 1}, {2, 1, 1}, {9, 8, 1}, {10, 9, 1}, {20, 18, 2}, {39, 36, 3}, {1000, 900, 100}, {10000, 9000, 1000}};
+    const uint32_t expected[][3] = {{1, 1, 1}, {2, 2, 1}, {9, 9, 1}, {10, 10, 1}, {20, 20, 2}, {39, 39, 3}, {1000, 1000, 100}, {10000, 10000, 1000}};
     for (const auto &[entries, main, small] : expected) {
         Numbers::Table table, one, many;
         MUST(table.open(entries, 1, 2, 5, CEFRODIL_MIX_FULL, true) == Status::ok && one.open(entries, 1, 2, 5, CEFRODIL_MIX_FULL, false) == Status::ok);

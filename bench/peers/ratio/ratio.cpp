@@ -31,12 +31,13 @@ int main(int argc, char **argv) {
     if (argc != 3) {
         return 2;
     }
-    // One shard, so that the map has room for as many entries as were asked for.
+    // One shard, so that the map has room for as many entries as were asked for. A small table is a tenth of the main one.
     const auto capacity = static_cast<uint32_t>(std::strtoul(argv[1], nullptr, 10));
-    cefrodil::MapOptions options{capacity, 1, 2};
-    options.small_table = std::atoi(argv[2]) == 2;
+    const bool small_table = std::atoi(argv[2]) == 2;
+    cefrodil::MapOptions options{small_table ? capacity * 10 / 11 : capacity, 1, 2};
+    options.small_table = small_table;
     cefrodil::map<uint64_t, uint64_t> map;
-    if (map.open(options) != Status::ok || map.capacity() != capacity) {
+    if (map.open(options) != Status::ok || map.capacity() > capacity || map.capacity() + 1 < capacity) {
         return 1;
     }
     std::string hits;
