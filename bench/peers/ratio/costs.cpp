@@ -1,7 +1,7 @@
 // What a call of a cefrodil::map costs, for valgrind's callgrind: values of 32 bytes in a map for 1,000 entries. Run it for a smaller and a larger
 // number of calls, and divide what the second run has more.
 //
-// usage: costs KIND CALLS TABLES     KIND: hit, miss, over (a put over a value) or new; TABLES: 1, or 2 with a small table
+// usage: costs KIND CALLS TABLES [full]     KIND: hit, miss, over (a put over a value) or new; TABLES: 1, or 2 with a small table; full: the map is full
 #include "cefrodil_map.hpp"
 #include <cstdio>
 #include <cstdlib>
@@ -28,18 +28,20 @@ static uint64_t call(Map &map, char kind, uint64_t n) {
     }
 }
 
-// Some keys are known, and new keys find the map full.
-static void fill(Map &map, char kind) {
-    for (uint64_t key = 0; key < known; key++) {
-        static_cast<void>(put(map, key));
-    }
-    for (uint64_t key = 0; kind == 'n' && key < 4000; key++) {
-        static_cast<void>(put(map, 2 * fresh + key));
+// Some keys are known. A full map has had many others, and the known ones are used again and again.
+static void fill(Map &map, bool is_full) {
+    for (uint64_t key = 0; key < (is_full ? 20 * known : known); key++) {
+        if (!map.contains(key % known)) {
+            static_cast<void>(put(map, key % known));
+        }
+        if (is_full) {
+            static_cast<void>(put(map, 2 * fresh + key));
+        }
     }
 }
 
 int main(int argc, char **argv) {
-    if (argc != 4) {
+    if (argc != 4 && argc != 5) {
         return 2;
     }
     cefrodil::MapOptions options{1000};
@@ -48,7 +50,7 @@ int main(int argc, char **argv) {
     if (map.open(options) != cefrodil::Status::ok) {
         return 1;
     }
-    fill(map, *argv[1]);
+    fill(map, argc == 5);
     uint64_t sum = 0;
     for (uint64_t n = 0, calls = std::strtoull(argv[2], nullptr, 10); n < calls; n++) {
         sum += call(map, *argv[1], n);
