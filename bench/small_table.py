@@ -1,8 +1,9 @@
 #!/usr/bin/env python3
-"""How many lookups find their key with a small table for new keys, beside models of other policies.
+"""How many lookups find their key with a small table or queue for new keys, beside models of other policies.
 
-The crate `cefrodil-map` makes the same lookups with one table and with a small one before it. The models are of CLOCK, LRU, S3-FIFO, W-TinyLFU
-with exact counts, and of the two tables. Of 100,000 keys, number n is drawn in proportion to 1 / n ** skew (Zipf). A key that is absent is put.
+`Map` and `ObjectMap` of the crate `cefrodil-map` and the server make the same lookups, each without and with the small table or queue. An `ObjectMap` is
+bounded by weights. The server gets its commands without a connection. The models are of CLOCK, LRU, S3-FIFO, W-TinyLFU with exact counts, and of
+the two tables. Of 100,000 keys, number n is drawn in proportion to 1 / n ** skew (Zipf). A key that is absent is put.
 
 - plain: nothing else.
 - scans: after every ten lookups an item come as many fresh keys as items, which are never asked for again, and don't count.
@@ -13,7 +14,8 @@ Hits are counted in percent, the first tenth of the lookups left out. It prints 
 
 usage: bench/small_table.py [LOOKUPS]     LOOKUPS: 600,000 unless it says otherwise
 
-CEFRODIL_LIB names the folder of libcefrodil.a; none: that of the release. It needs cargo and takes some five minutes.
+CEFRODIL_LIB names the folder of libcefrodil.a; none: that of the release. It takes some five minutes. It needs cargo and, of Debian: apt-get
+install librust-mio-dev.
 """
 import array
 import itertools
@@ -24,10 +26,15 @@ import sys
 from collections import OrderedDict, deque
 
 from hit_ratios import KEYS, TOP, Lru
+from servers import CRATES
 
 # Keys from here on are never asked for again.
 FRESH = 10 ** 9
 SKEWS, SIZES = (0.7, 0.99), (KEYS // 100, KEYS // 10)
+
+# What the program calls the caches, and the table's heads.
+CACHES = {'map': '`Map`', 'map+': '`Map`, small table', 'objects': '`ObjectMap`, one queue', 'objects+': '`ObjectMap`', 'server': 'server, one queue',
+          'server+': 'server'}
 
 
 class Clock:
@@ -215,14 +222,15 @@ def of_model(model, keys):
     return ratio(keys, [model.look_up(key) for key in keys])
 
 
-def of_map(program, items, tables, keys):
-    told = subprocess.run([program, str(items), str(tables)], input=array.array('Q', keys).tobytes(), capture_output=True, check=True)
+def of_cache(program, items, cache, keys):
+    told = subprocess.run([program, str(items), cache], input=array.array('Q', keys).tobytes(), capture_output=True, check=True)
     return ratio(keys, [letter == ord('1') for letter in told.stdout.strip()])
 
 
 def built():
     folder = os.path.join(TOP, 'bench/peers/ratio')
-    subprocess.run(['cargo', 'build', '--quiet', '--release', '--offline'], cwd=folder, check=True)
+    source = ['--config', 'source.crates-io.replace-with="debian"', '--config', f'source.debian.directory="{CRATES}"']
+    subprocess.run(['cargo', 'build', '--quiet', '--release', '--offline', *source], cwd=folder, check=True)
     return os.path.join(os.environ.get('CARGO_TARGET_DIR', os.path.join(folder, 'target')), 'release/ratio')
 
 
@@ -232,12 +240,12 @@ def main(arguments):
     lookups = int(arguments[0]) if arguments else 600_000
     program = built()
     models = {'CLOCK': Clock, 'LRU': Lru, 'S3-FIFO': S3Fifo, 'W-TinyLFU': WTinyLfu, 'two tables': Tables}
-    print('|lookups|skew|items|`Map`|`Map`, small table|' + '|'.join(models) + '|')
-    print('|---' * (5 + len(models)) + '|')
+    print('|lookups|skew|items|' + '|'.join([*CACHES.values(), *models]) + '|')
+    print('|---' * (3 + len(CACHES) + len(models)) + '|')
     cases = [(make, skew, items) for make in (plain, scans, shifts) for skew in SKEWS for items in SIZES]
     for make, skew, items in [*cases, *((news, 1.1, items) for items in SIZES)]:
         keys = list(make(skew, items, lookups))
-        cells = [of_map(program, items, tables, keys) for tables in (1, 2)] + [of_model(model(items), keys) for model in models.values()]
+        cells = [of_cache(program, items, cache, keys) for cache in CACHES] + [of_model(model(items), keys) for model in models.values()]
         print(f'|{make.__name__}|{skew}|{items}|' + '|'.join(cells) + '|', flush=True)
 
 

@@ -1,5 +1,6 @@
-//! Items that give way: those in the queue for longest that were not read lately.
+//! Items that give way: those in their queue for longest that were not read lately.
 use crate::index::{Outcome, Stamp};
+use crate::queue::{Line, Queued};
 use crate::store::{Fault, Store};
 use std::thread::{sleep, yield_now};
 use std::time::Duration;
@@ -15,7 +16,7 @@ const FAILURES: u32 = 100;
 const WAITS: u32 = 500;
 const WAIT: Duration = Duration::from_micros(200);
 
-/// How many entries a command looks at, at most, if the queue is too long. A removal makes the queue too long by two entries.
+/// How many entries a command looks at, at most, if the queues are too long. A removal makes them too long by two entries.
 const TIDIED: u32 = 8;
 
 /// An item that a command is about to replace. It must not give way to the one that replaces it.
@@ -25,10 +26,11 @@ pub(crate) struct Kept {
     pub bytes: u64,
 }
 
-/// What an entry of the queue is.
+/// What an entry of a queue is.
 enum Entry {
     Old,
-    Spared,
+    /// It goes to the end of this queue.
+    Spared(Line),
     Victim,
 }
 
@@ -78,27 +80,27 @@ impl Store {
     }
 
     /// Notes that an item was stored.
-    pub(crate) fn enqueue(&self, stamp: Stamp) {
-        self.queue.push(stamp);
+    pub(crate) fn enqueue(&self, queued: Queued<Stamp>) {
+        self.queue.push(queued);
         self.tidy();
     }
 
     /// Removes one item. Returns whether there was one that could be removed.
     fn evict(&self, kept: Option<Stamp>) -> bool {
         for looked in 0..2 * LOOKS {
-            let Some(stamp) = self.queue.pop() else { return false };
-            let entry = if kept == Some(stamp) { Entry::Spared } else { self.judge(stamp, looked < LOOKS) };
-            match entry {
+            let Some(queued) = self.queue.pop(self.room.limit()) else { return false };
+            match self.judge(queued, kept, looked < LOOKS) {
                 Entry::Old => {}
-                Entry::Spared => self.queue.push(stamp),
-                Entry::Victim => match self.index.remove_stamped(stamp) {
+                Entry::Spared(line) => self.queue.push(Queued { line, ..queued }),
+                Entry::Victim => match self.index.remove_stamped(queued.entry) {
                     Ok(Outcome::Done(_)) => {
+                        self.queue.gave_way(queued, queued.entry.hash);
                         self.room.count_eviction();
                         return true;
                     }
                     Ok(_) => {}
                     Err(_) => {
-                        self.queue.push(stamp);
+                        self.queue.push(queued);
                         return false;
                     }
                 },
@@ -107,33 +109,34 @@ impl Store {
         false
     }
 
-    fn judge(&self, stamp: Stamp, may_spare: bool) -> Entry {
+    fn judge(&self, queued: Queued<Stamp>, kept: Option<Stamp>, may_spare: bool) -> Entry {
         let mut entry = Entry::Old;
-        self.index.look_stamped(stamp, &mut |seen| {
+        self.index.look_stamped(queued.entry, &mut |seen| {
             entry = match seen {
                 Ok(Some((item, _))) => {
-                    let was_used = item.take_used();
-                    if was_used && may_spare && self.is_live(item) {
-                        Entry::Spared
+                    let is_kept = kept == Some(queued.entry);
+                    if is_kept || (item.take_used() && may_spare && self.is_live(item)) {
+                        item.set_line(Line::Main);
+                        Entry::Spared(Line::Main)
                     } else {
                         Entry::Victim
                     }
                 }
                 Ok(None) => Entry::Old,
-                Err(_) => Entry::Spared,
+                Err(_) => Entry::Spared(queued.line),
             }
         });
         entry
     }
 
-    /// While the queue is too long, looks at its first entries. Those that are not old go to its end.
+    /// While the queues are too long, looks at some of their first entries. Those that are not old go to the end of the same queue.
     pub(crate) fn tidy(&self) {
         for _ in 0..TIDIED {
-            let Some(stamp) = self.queue.pop_if_long(self.room.items()) else { return };
+            let Some(queued) = self.queue.pop_if_long(self.room.items() as usize) else { return };
             let mut is_old = false;
-            self.index.look_stamped(stamp, &mut |seen| is_old = matches!(seen, Ok(None)));
+            self.index.look_stamped(queued.entry, &mut |seen| is_old = matches!(seen, Ok(None)));
             if !is_old {
-                self.queue.push(stamp);
+                self.queue.push(queued);
             }
         }
     }

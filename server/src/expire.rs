@@ -28,7 +28,7 @@ impl Store {
     /// Removes the key's item if it has this token and is not live. The turn keeps a new time to live from coming between.
     fn remove_dead(&self, key: &[u8], token: Token) {
         let _turn = self.turns.wait(key);
-        if !matches!(self.find(key, |_, _| ()), Ok(Found::Dead(found)) if found == token) {
+        if !matches!(self.find(key, |_, _| ()), Ok(Found::Dead(found, _)) if found == token) {
             return;
         }
         if matches!(self.index.remove_if(key, token), Ok(Outcome::Done(_))) {

@@ -50,8 +50,8 @@ pub trait Index: Send + Sync {
     /// Does the same for tidying: the index does not take it for a use of the item.
     fn peek_stamped(&self, stamp: Stamp, see: &mut dyn FnMut(Seen<'_>));
 
-    /// Puts the item, whatever its key has.
-    fn put(&self, item: NewItem) -> Result<Token, Refused>;
+    /// Puts the item, whatever its key has. Then calls `see` with it, and with the one that it has replaced.
+    fn put(&self, item: NewItem, see: &mut dyn FnMut(&Item, Option<&Item>)) -> Result<Token, Refused>;
 
     /// Puts the item if its key is absent.
     fn put_new(&self, item: NewItem) -> Result<Outcome, Refused>;

@@ -147,9 +147,9 @@ impl Index for Objects {
         });
     }
 
-    fn put(&self, item: NewItem) -> Result<Token, Refused> {
+    fn put(&self, item: NewItem, see: &mut dyn FnMut(&Item, Option<&Item>)) -> Result<Token, Refused> {
         let logged = self.logged(&item);
-        let put = self.map.put(item).map_err(answers::of_put)?;
+        let (put, ()) = self.map.put_seen(item, see).map_err(answers::of_put)?;
         self.log_put(logged, put);
         Ok(put.at)
     }

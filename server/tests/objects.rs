@@ -9,7 +9,7 @@ use std::sync::Arc;
 /// Puts an item with these flags.
 fn put(objects: &Objects, room: &Room, key: &[u8], flags: u32) -> Token {
     room.take(cost(key.len(), 1));
-    objects.put(new_item(1, flags, u64::MAX, key, &[&[0]])).expect("there is room")
+    objects.put(new_item(1, flags, u64::MAX, key, &[&[0]]), &mut |_, _| {}).expect("there is room")
 }
 
 /// The flags of the item with this stamp, if it is there.

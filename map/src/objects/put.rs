@@ -103,6 +103,13 @@ pub(crate) struct Done {
     old: Option<(u64, Reason)>,
 }
 
+impl Done {
+    // What the put has replaced: by the call that is pinned, so that it alone can retire it.
+    fn replaced<'a, O: Held, S>(&self, pinned: &'a Pinned<'_, O, S>) -> Option<&'a O> {
+        self.old.filter(|(_, reason)| *reason == Reason::Replaced).map(|(word, _)| pinned.object(word))
+    }
+}
+
 /// A put, or the object that comes back.
 pub(crate) type Offered<O> = Result<Done, (<O as Held>::Owner, Fail)>;
 
@@ -142,6 +149,29 @@ impl<O: Held, S> ObjectInner<O, S> {
             Ok(done) => Ok(self.end(hash, done)),
             Err((object, Fail::Insert(why))) => Err((object, why)),
             Err(_) => unreachable!("this put does not ask what is there"),
+        }
+    }
+
+    /// The same. Then calls `see` with the object, and with the one that it has replaced. Both are pinned.
+    pub fn put_seen<R>(
+        &self,
+        hash: u64,
+        object: O::Owner,
+        see: impl FnOnce(&O, Option<&O>) -> R,
+    ) -> Result<(Put, R), (O::Owner, InsertError)> {
+        self.detach(hash);
+        let mut seen = None;
+        let offered = self.offer(object, |word| {
+            let put = self.in_pinned_turn(self.tries, || self.slots.call(|handle| handle.try_swap(hash, &[word])));
+            let (swapped, pinned) = put.map_err(|why| Fail::Insert(InsertError::of(why)))?;
+            let done = self.swapped(swapped);
+            seen = Some(see(pinned.object(word), done.replaced(&pinned)));
+            Ok(done)
+        });
+        match (offered, seen) {
+            (Ok(done), Some(seen)) => Ok((self.end(hash, done), seen)),
+            (Err((object, Fail::Insert(why))), _) => Err((object, why)),
+            _ => unreachable!("this put does not ask what is there"),
         }
     }
 
@@ -215,6 +245,18 @@ impl<O: Held, S> ObjectInner<O, S> {
             // SAFETY: `into_word` made the word of this very object. A call of the index that returns an error has put nothing, and each `put`
             // here fails only if its last call did. So no other thread has seen the word.
             (unsafe { O::of_word(word) }, why)
+        })
+    }
+
+    // Like `Slots::in_turn`. The try that succeeds was pinned before it, and stays so. It isn't pinned while it waits for the turn.
+    fn in_pinned_turn<T, E>(
+        &self,
+        tries: u32,
+        mut put: impl FnMut() -> Result<T, TurnError<E>>,
+    ) -> Result<(T, Pinned<'_, O, S>), TurnError<E>> {
+        self.slots.in_turn(tries, || {
+            let pinned = self.pin();
+            put().map(|put| (put, pinned))
         })
     }
 
@@ -296,4 +338,3 @@ impl<K, V, S> ObjectInner<Object<K, V>, S> {
         Refused { why: self.refused(why), key, value }
     }
 }
-

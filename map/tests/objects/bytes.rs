@@ -116,6 +116,41 @@ impl Hasher for Same {
 }
 
 #[test]
+fn a_put_shows_the_block_and_the_one_that_it_replaces() {
+    let map = BytesMap::<Counted>::builder(100).shards(1).threads(1).open().unwrap();
+    let numbers = |new: &Bytes<Counted>, old: Option<&Bytes<Counted>>| (new.number, old.map(|old| old.number));
+    let (first, seen) = map.put_seen(make(1, 1), numbers).unwrap();
+    assert_eq!((seen, map.len()), ((1, None), 1));
+    let (second, seen) = map.put_seen(make(1, 2), numbers).unwrap();
+    assert!((seen, map.len()) == ((2, Some(1)), 1) && second.at > first.at);
+    // Both stay while they are looked at, though the new one leaves the map meanwhile.
+    let (_, ()) = map
+        .put_seen(make(1, 3), |new, old| {
+            let since = map.look_hash(map.hash_of(b"1"), |look| match look {
+                Ok(Look::Found { since, .. }) => since,
+                other => panic!("{}", other.is_ok()),
+            });
+            map.remove_if(b"1", since).unwrap();
+            (0..100).for_each(|number| done(map.put(make(2, number))));
+            map.free_unused();
+            check(1, new);
+            check(1, old.unwrap());
+        })
+        .unwrap();
+    assert_eq!((map.len(), map.free_unused()), (1, 0));
+}
+
+#[test]
+fn a_block_that_is_evicted_is_not_replaced() {
+    let map = BytesMap::<Counted>::builder(10).shards(1).threads(1).open().unwrap();
+    for key in 0..50 {
+        let (_, replaced) = map.put_seen(make(key, 1), |_, old| old.is_some()).unwrap();
+        assert!(!replaced);
+    }
+    assert!(map.stats().evicted >= 30);
+}
+
+#[test]
 fn a_key_is_not_taken_for_another_one_with_its_hash() {
     let map = BytesMap::<Counted>::builder(100).threads(1).hasher(BuildHasherDefault::<Same>::default()).open().unwrap();
     let at = map.put(make(1, 10)).unwrap().at;

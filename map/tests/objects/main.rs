@@ -14,6 +14,7 @@ mod ledger;
 mod listener;
 mod model;
 mod panics;
+mod queues;
 mod stamps;
 mod texts;
 mod threads;
