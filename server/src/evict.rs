@@ -87,8 +87,14 @@ impl Store {
 
     /// Removes one item. Returns whether there was one that could be removed.
     fn evict(&self, kept: Option<Stamp>) -> bool {
+        let mut from = None;
         for looked in 0..2 * LOOKS {
-            let Some(queued) = self.queue.pop(self.room.limit()) else { return false };
+            let popped = from.map_or_else(|| self.queue.pop(self.room.limit()), |line| self.queue.pop_from(line));
+            let Some(queued) = popped else { return false };
+            if kept == Some(queued.entry) {
+                // All that were before it in its queue were looked at.
+                from = Some(queued.line.other());
+            }
             match self.judge(queued, kept, looked < LOOKS) {
                 Entry::Old => {}
                 Entry::Spared(line) => self.queue.push(Queued { line, ..queued }),

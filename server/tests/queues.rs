@@ -87,6 +87,10 @@ fn a_key_that_is_read_while_it_is_new_is_kept() {
     scan(&mut client, &mut first, ITEMS);
     let there = (300..310).filter(|key| has(&mut client, *key)).collect::<Vec<_>>();
     assert_eq!(there, (300..305).collect::<Vec<_>>());
+    // Another value stays in the main queue.
+    (300..305).for_each(|key| set(&mut client, key));
+    scan(&mut client, &mut first, ITEMS);
+    assert!((300..305).all(|key| has(&mut client, key)));
 }
 
 #[test]
@@ -137,6 +141,20 @@ fn a_new_key_that_is_changed_stays_in_the_small_queue() {
         scan(&mut client, &mut first, ITEMS);
         assert!(!has(&mut client, 307), "{change}");
     }
+}
+
+/// What is in the small queue takes less than its part, and there is nothing else but the item that a command changes.
+#[test]
+fn new_items_give_way_to_a_change_of_the_only_other_one() {
+    let mut client = Client::with(10_000, "-t1");
+    let value = |length| "x".repeat(length);
+    client.ask(&format!("set main 0 0 4600\n{}\nget main\n", value(4_600)));
+    for (key, length) in [("cold", 5_000), ("new", 900)] {
+        assert_eq!(client.ask(&format!("set {key} 0 0 {length}\n{}\n", value(length))), "STORED\n");
+    }
+    assert_eq!(client.ask("mg main\nmg cold\nmg new\n"), "HD\nEN\nHD\n");
+    assert_eq!(client.ask("append main 0 0 1\nx\n"), "STORED\n");
+    assert_eq!(client.ask("mg main s\nmg new\n"), "HD s4601\nEN\n");
 }
 
 #[test]

@@ -35,6 +35,17 @@ pub enum Line {
     Main,
 }
 
+impl Line {
+    /// The other queue.
+    #[must_use]
+    pub fn other(self) -> Line {
+        match self {
+            Line::Small => Line::Main,
+            Line::Main => Line::Small,
+        }
+    }
+}
+
 /// An entry of a queue.
 #[derive(Clone, Copy, Debug, PartialEq, Eq)]
 pub struct Queued<E> {
@@ -112,9 +123,9 @@ impl<E: Copy> Queues<E> {
         lines.pop(first)
     }
 
-    /// The same, but the first of the main queue if there is one.
-    pub fn pop_main(&self) -> Option<Queued<E>> {
-        lock(&self.lines).pop(Line::Main)
+    /// The same, but the first of this queue if it has one.
+    pub fn pop_from(&self, line: Line) -> Option<Queued<E>> {
+        lock(&self.lines).pop(line)
     }
 
     /// Takes an entry out if there are so many beside so many entries of the cache that old ones should be dropped. It is called after each push of a

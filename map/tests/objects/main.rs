@@ -15,6 +15,7 @@ mod listener;
 mod model;
 mod panics;
 mod queues;
+mod small_queue;
 mod stamps;
 mod texts;
 mod threads;

@@ -54,7 +54,7 @@ fn map(capacity: usize, is_small: bool) -> Result<Box<dyn Cache>, Failure> {
 /// Bounded by weight alone: its index has room for more.
 fn objects(capacity: usize, is_small: bool) -> Result<Box<dyn Cache>, Failure> {
     let builder = ObjectMap::<u64, u64>::builder(2 * capacity).threads(1).max_weight(capacity as u64, |_, _| 1);
-    Ok(Box::new(if is_small { builder.open()? } else { builder.open()? }))
+    Ok(Box::new(if is_small { builder.open()? } else { builder.one_queue().open()? }))
 }
 
 fn main() -> Result<(), Failure> {
