@@ -71,6 +71,8 @@ struct Lines<E> {
 /// Entries in blocks. All but the last are full.
 struct Blocks<T> {
     blocks: VecDeque<Vec<T>>,
+    /// The last block that became empty: a queue whose length stays the same takes no memory.
+    spare: Option<Vec<T>>,
     /// How many entries of the first block have been taken out.
     taken: usize,
     count: usize,
@@ -159,7 +161,7 @@ impl<E: Copy> Queues<E> {
     /// For how many entries there is memory.
     pub fn capacity(&self) -> usize {
         let lines = lock(&self.lines);
-        (lines.small.blocks.len() + lines.main.blocks.len()) * ENTRIES_OF_A_BLOCK
+        lines.small.capacity() + lines.main.capacity()
     }
 }
 
@@ -226,14 +228,14 @@ impl<E: Copy> Lines<E> {
 
 impl<T: Copy> Blocks<T> {
     fn new() -> Blocks<T> {
-        Blocks { blocks: VecDeque::new(), taken: 0, count: 0, gone: 0, next_look: 0 }
+        Blocks { blocks: VecDeque::new(), spare: None, taken: 0, count: 0, gone: 0, next_look: 0 }
     }
 
     fn push(&mut self, entry: T) {
         match self.blocks.back_mut() {
             Some(block) if block.len() < ENTRIES_OF_A_BLOCK => block.push(entry),
             _ => {
-                let mut block = Vec::with_capacity(ENTRIES_OF_A_BLOCK);
+                let mut block = self.spare.take().unwrap_or_else(|| Vec::with_capacity(ENTRIES_OF_A_BLOCK));
                 block.push(entry);
                 self.blocks.push_back(block);
             }
@@ -248,10 +250,15 @@ impl<T: Copy> Blocks<T> {
         self.count -= 1;
         self.gone += 1;
         if self.taken == first.len() {
-            self.blocks.pop_front();
+            self.spare = self.blocks.pop_front();
+            self.spare.iter_mut().for_each(Vec::clear);
             self.taken = 0;
         }
         Some(entry)
+    }
+
+    fn capacity(&self) -> usize {
+        (self.blocks.len() + usize::from(self.spare.is_some())) * ENTRIES_OF_A_BLOCK
     }
 
     // Calls `see` with the next entries, at most so many. Returns whether the last one was among them: then it begins anew at the first.

@@ -39,7 +39,11 @@ fn the_small_queue_gives_way_while_it_is_above_its_part() {
     // The small queue weighs 15, then 10.
     assert_eq!(pop_all(&queues), [1, 11, 12, 13, 2, 3]);
     (1..=2).for_each(|entry| queues.push(small(entry, 5)));
-    assert_eq!((queues.pop_from(Line::Main), queues.pop(MOST)), (Some(small(1, 5)), Some(small(2, 5))), "the main queue is empty");
+    assert_eq!(
+        (queues.pop_from(Line::Main), queues.pop(MOST)),
+        (Some(small(1, 5)), Some(small(2, 5))),
+        "the main queue is empty"
+    );
     queues.push(small(1, u64::MAX));
     queues.push(main(11));
     assert_eq!((queues.pop_from(Line::Main), queues.pop(MOST)), (Some(main(11)), Some(small(1, u64::MAX))));
