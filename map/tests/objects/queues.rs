@@ -1,5 +1,6 @@
 //! The order in which entries give way, by itself.
 use cefrodil_map::{Line, Queued, Queues};
+use std::ops::Range;
 
 type Numbers = Queues<u64>;
 
@@ -66,6 +67,18 @@ fn a_key_that_left_the_small_queue_is_known_once() {
     let one = Numbers::one();
     assert_eq!(one.pop(MOST), None);
     assert_eq!(one.line_of_new(7), Line::Main);
+}
+
+#[test]
+fn about_as_many_keys_are_known_as_there_are_entries() {
+    let (queues, hash) = (Numbers::new(1 << 20), |key: u64| key.wrapping_mul(0x0123_4567_89ab_cdef));
+    assert_eq!(queues.pop(MOST), None);
+    // There could be a million entries, and there are a thousand.
+    (0..100).for_each(|_| assert_eq!(queues.pop_if_long(1_000), None));
+    (0..10_000).for_each(|key| queues.gave_way(small(key, 1), hash(key)));
+    let known = |keys: Range<u64>| keys.filter(|key| queues.line_of_new(hash(*key)) == Line::Main).count();
+    let (late, early) = (known(9_500..10_000), known(0..5_000));
+    assert!(late > 250 && early < 100, "{late} late and {early} early keys");
 }
 
 #[test]
