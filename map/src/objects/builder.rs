@@ -161,9 +161,9 @@ impl<K, V, S> ObjectBuilder<K, V, S> {
     /// # Ok::<(), Box<dyn std::error::Error>>(())
     /// ```
     ///
-    /// - A put that brings the sum above `most` evicts entries before it returns, those that were put first and not used since, and new ones before
-    ///   others: see [`one_queue`](Self::one_queue). So the sum is above `most` only while a put runs. It stays above until the next put if the evicting call gets no turn for over a second, as a write that is
-    ///   refused.
+    /// - A put that brings the sum above `most` evicts entries before it returns: those that were put first and not used since, and new ones before
+    ///   others ([`one_queue`](Self::one_queue) says how). So the sum is above `most` only while a put runs. It stays above until the next put if the
+    ///   evicting call gets no turn for over a second, as a write that is refused.
     /// - An entry that alone is heavier than `most` is refused: [`InsertError::TooHeavy`](crate::InsertError::TooHeavy). What its key had stays.
     /// - The map is still bounded by its number of entries, too. Take a capacity for as many entries as fit by their weight.
     /// - [`weight`](ObjectMap::weight) is the sum. Objects that have left and wait to be freed don't count.
@@ -172,12 +172,12 @@ impl<K, V, S> ObjectBuilder<K, V, S> {
         self
     }
 
-    /// In a map with [`max_weight`](Self::max_weight), evicts by the time of the put and by use alone, as a map without it does, roughly.
+    /// Leaves out the small queue for new keys that a map with [`max_weight`](Self::max_weight) has. Then those entries are evicted that were put first
+    /// and not used since, new or not. In a map without a bound on weights this has no effect.
     ///
     /// By default new keys go to a small queue first, with a tenth of the weight. An entry that is used there moves to the main queue, and another one
-    /// is evicted. If its key is put again soon, it goes to the main queue. So keys that are used once evict none that are used often, and more
-    /// lookups hit, most of all where many keys are used once or in scans. An entry that weighs more than a tenth of the sum leaves early, unless it is
-    /// used. Without a bound on weights this has no effect.
+    /// is evicted. If its key is put again soon, it goes to the main queue. So keys that are used once evict none that are used often. More lookups
+    /// hit, most of all where many keys are used once or in scans. An entry that weighs more than a tenth of `most` leaves early, unless it is used.
     pub fn one_queue(mut self) -> Self {
         self.hears.one_queue = true;
         self

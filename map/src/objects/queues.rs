@@ -61,7 +61,7 @@ struct Lines<E> {
     small: Blocks<(E, u64)>,
     main: Blocks<E>,
     /// Of the entries of the small queue, also of old ones.
-    small_weight: u64,
+    small_weight: u128,
     /// Which queue is tidied next: each in proportion to its entries.
     turn: usize,
     /// Which queue is looked at.
@@ -121,7 +121,7 @@ impl<E: Copy> Queues<E> {
             self.is_full.store(true, Relaxed);
         }
         let mut lines = lock(&self.lines);
-        let first = if lines.small_weight > most / SMALL_PART { Line::Small } else { Line::Main };
+        let first = if lines.small_weight > u128::from(most / SMALL_PART) { Line::Small } else { Line::Main };
         lines.pop(first)
     }
 
@@ -173,7 +173,7 @@ impl<E: Copy> Lines<E> {
     fn push(&mut self, Queued { entry, line, weight }: Queued<E>) {
         match line {
             Line::Small => {
-                self.small_weight = self.small_weight.saturating_add(weight);
+                self.small_weight += u128::from(weight);
                 self.small.push((entry, weight));
             }
             Line::Main => self.main.push(entry),
@@ -190,7 +190,7 @@ impl<E: Copy> Lines<E> {
 
     fn pop_small(&mut self) -> Option<Queued<E>> {
         let (entry, weight) = self.small.pop()?;
-        self.small_weight -= weight;
+        self.small_weight -= u128::from(weight);
         Some(Queued { entry, line: Line::Small, weight })
     }
 

@@ -48,6 +48,9 @@ fn the_small_queue_gives_way_while_it_is_above_its_part() {
     queues.push(small(1, u64::MAX));
     queues.push(main(11));
     assert_eq!((queues.pop_from(Line::Main), queues.pop(MOST)), (Some(main(11)), Some(small(1, u64::MAX))));
+    // No sum of weights is too large.
+    (1..=4).for_each(|entry| queues.push(small(entry, u64::MAX)));
+    assert_eq!(pop_all(&queues), [1, 2, 3, 4]);
     queues.push(small(1, 1));
     queues.push(main(11));
     let others = [Line::Main, Line::Small].map(Line::other);
