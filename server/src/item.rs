@@ -1,5 +1,7 @@
 //! What is stored under a key.
+use crate::slabs;
 use cefrodil_map::{Block, Bytes, Head};
+use std::alloc::Layout;
 use std::mem::offset_of;
 use std::sync::atomic::{AtomicBool, AtomicU64, Ordering::Acquire, Ordering::Relaxed, Ordering::SeqCst};
 use std::sync::Mutex;
@@ -24,12 +26,22 @@ pub struct About {
     is_used: AtomicBool,
 }
 
-// SAFETY: `is_used` is the last field, and has one byte. Nobody changes the lengths.
+// SAFETY: `is_used` is the last field, and has one byte. Nobody changes the lengths. The memory is that of an allocator.
 unsafe impl Head for About {
     const SIZE: usize = offset_of!(About, is_used) + 1;
 
     fn lengths(&self) -> (usize, usize) {
         (self.key.into(), self.value as usize)
+    }
+
+    unsafe fn allocate(layout: Layout) -> *mut u8 {
+        // SAFETY: the caller says that it may be called.
+        unsafe { slabs::take(layout) }
+    }
+
+    unsafe fn deallocate(at: *mut u8, layout: Layout) {
+        // SAFETY: as above.
+        unsafe { slabs::give_back(at, layout) }
     }
 }
 
@@ -44,7 +56,9 @@ pub fn new_item(born: u64, flags: u32, deadline: u64, key: &[u8], value: &[&[u8]
         key: key.len().try_into().expect("the longest key has 250 bytes"),
         is_used: AtomicBool::new(false),
     };
-    NewItem::new(about, key, value)
+    let item = NewItem::new(about, key, value);
+    slabs::note(&item);
+    item
 }
 
 /// Which items `flush_all` has made invalid: those that are no younger than one of these times, once it has come.

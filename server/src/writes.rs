@@ -107,14 +107,14 @@ impl Store {
         put: impl FnOnce() -> Result<Outcome, Refused>,
     ) -> Result<Option<Token>, Fault> {
         let bytes = cost(key.len(), length);
-        self.make_room(bytes, kept)?;
+        let expected = self.make_room(bytes, kept)?;
         let outcome = put();
+        drop(expected);
         if length >= LARGE {
             self.index.sweep();
         }
         if let Ok(Outcome::Done(token)) = outcome {
             self.enqueue(self.stamp(key, token));
-            self.look_at_memory();
             return Ok(Some(token));
         }
         self.room.give_back(bytes);
