@@ -89,8 +89,8 @@ impl Ceiling {
     }
 
     fn look_in_turn(&self, room: &Room, buffers: u64, bytes: u64) -> io::Result<bool> {
-        // Items that wait to be freed have room of their own, and are freed without a cut of the limit.
-        let apart = buffers + room.waiting();
+        // Items that wait to be freed have room of their own, as far as it goes. They are freed without a cut of the limit.
+        let apart = buffers + room.waiting().min(room.reserve());
         let mut taken = self.taken()?.saturating_sub(apart);
         if taken > self.bytes {
             allocator::trim();

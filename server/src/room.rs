@@ -109,9 +109,13 @@ impl Room {
         self.waiting() > self.limit() / PART_OF_WAITING
     }
 
+    /// The bytes that items may take which have left and are not freed yet, beside the limit.
+    pub fn reserve(&self) -> u64 {
+        self.limit() / PART_OF_RESERVE
+    }
+
     /// Whether no item may be put before some are freed that have left.
     pub fn is_crowded(&self) -> bool {
-        let limit = self.limit();
-        self.allocated.load(Relaxed) > limit + limit / PART_OF_RESERVE
+        self.allocated.load(Relaxed) > self.limit() + self.reserve()
     }
 }
