@@ -117,10 +117,10 @@ impl Connection {
         self.input.bytes.capacity() + self.output.capacity()
     }
 
-    /// Counts large buffers also within a turn. Small ones are the worker's.
+    /// Counts large buffers also within a turn, and that they are gone. Small ones are the worker's.
     fn count_large(&mut self) {
         let capacity = self.capacity();
-        if capacity > LARGE {
+        if capacity > LARGE || self.seat.bytes() > LARGE as u64 {
             self.seat.hold(capacity);
         }
     }

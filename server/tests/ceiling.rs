@@ -61,6 +61,20 @@ fn buffers_of_connections_are_no_loss() {
 }
 
 #[test]
+fn what_waits_to_be_freed_is_no_loss_within_its_reserve() {
+    // The process takes more than that, and less than what waits.
+    let ceiling = Ceiling::new(1).expect("the system tells");
+    let exceeds = |limit| {
+        let room = Room::new(limit);
+        room.take(1 << 40);
+        room.leave(1 << 40);
+        ceiling.look(&room, 0, 0)
+    };
+    assert!(!exceeds(1 << 46));
+    assert!(exceeds(32));
+}
+
+#[test]
 fn what_is_about_to_be_taken_counts() {
     let (room, ceiling) = (Room::new(0), high());
     let expected = ceiling.expect(1 << 40);
