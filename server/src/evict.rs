@@ -1,6 +1,8 @@
 //! Items that give way: those in their queue for longest that were not read lately.
-use crate::index::{Outcome, Stamp};
+use crate::ceiling::Expected;
+use crate::index::{Outcome, Refused, Stamp};
 use crate::queue::{Line, Queued};
+use crate::slabs;
 use crate::store::{Fault, Store};
 use std::thread::{sleep, yield_now};
 use std::time::Duration;
@@ -16,6 +18,9 @@ const FAILURES: u32 = 100;
 const WAITS: u32 = 500;
 const WAIT: Duration = Duration::from_micros(200);
 
+/// How often a command looks at the memory and evicts, at most, if the process exceeds its ceiling.
+const LOOKS_OF_A_PUT: u32 = 4;
+
 /// How many entries a command looks at, at most, if the queues are too long. A removal makes them too long by two entries.
 const TIDIED: u32 = 8;
 
@@ -24,6 +29,13 @@ const TIDIED: u32 = 8;
 pub(crate) struct Kept {
     pub stamp: Stamp,
     pub bytes: u64,
+}
+
+/// Whether an item gives way alone, or with its neighbours in memory: then the system gets that memory back.
+#[derive(Clone, Copy, PartialEq, Eq)]
+enum Way {
+    Alone,
+    WithNeighbours,
 }
 
 /// What an entry of a queue is.
@@ -35,24 +47,42 @@ enum Entry {
 }
 
 impl Store {
-    /// Makes room for an item, and counts its bytes. If another one is to be kept meanwhile, there must be room for both.
-    pub(crate) fn make_room(&self, bytes: u64, kept: Option<Kept>) -> Result<(), Fault> {
+    /// Makes room for an item, and counts its bytes. If another one is to be kept meanwhile, there must be room for both. Drop what it returns when
+    /// the item was put.
+    pub(crate) fn make_room(&self, bytes: u64, kept: Option<Kept>) -> Result<Option<Expected<'_>>, Fault> {
         if bytes + kept.map_or(0, |kept| kept.bytes) > self.room.limit() {
             return Err(Fault::NoRoom);
         }
         self.room.take(bytes);
-        if self.evict_enough(kept.map(|kept| kept.stamp)) && self.wait_for_frees() {
-            return Ok(());
+        let kept = kept.map(|kept| kept.stamp);
+        let expected = self.look_at_memory(bytes, kept);
+        if self.evict_enough(kept, Way::Alone) && self.wait_for_frees() {
+            return Ok(expected);
         }
         self.room.give_back(bytes);
         Err(Fault::NoRoom)
     }
 
+    /// Looks at the memory of the process if much was put since the last look, with the item that is about to be. If the process exceeds its
+    /// ceiling, items give way with their neighbours.
+    fn look_at_memory(&self, bytes: u64, kept: Option<Stamp>) -> Option<Expected<'_>> {
+        let ceiling = self.ceiling.as_ref().filter(|ceiling| ceiling.is_time(&self.room))?;
+        let expected = ceiling.expect(bytes);
+        for _ in 0..LOOKS_OF_A_PUT {
+            if !ceiling.look(&self.room, self.seats.bytes(), bytes) {
+                break;
+            }
+            self.evict_enough(kept, Way::WithNeighbours);
+            self.index.sweep();
+        }
+        Some(expected)
+    }
+
     /// Removes items until the others are within the limit. Returns whether they are.
-    fn evict_enough(&self, kept: Option<Stamp>) -> bool {
+    fn evict_enough(&self, kept: Option<Stamp>, way: Way) -> bool {
         let mut failed = 0;
         while self.room.is_over() {
-            if self.evict(kept) {
+            if self.evict(kept, way) {
                 continue;
             }
             failed += 1;
@@ -85,8 +115,8 @@ impl Store {
         self.tidy();
     }
 
-    /// Removes one item. Returns whether there was one that could be removed.
-    fn evict(&self, kept: Option<Stamp>) -> bool {
+    /// Removes one item, or also its neighbours. Returns whether there was one that could be removed.
+    fn evict(&self, kept: Option<Stamp>, way: Way) -> bool {
         let mut from = None;
         for looked in 0..2 * LOOKS {
             let popped = from.map_or_else(|| self.queue.pop(self.room.limit()), |line| self.queue.pop_from(line));
@@ -98,13 +128,9 @@ impl Store {
             match self.judge(queued, kept, looked < LOOKS) {
                 Entry::Old => {}
                 Entry::Spared(line) => self.queue.push(Queued { line, ..queued }),
-                Entry::Victim => match self.index.remove_stamped(queued.entry) {
-                    Ok(Outcome::Done(_)) => {
-                        self.queue.gave_way(queued, queued.entry.hash);
-                        self.room.count_eviction();
-                        return true;
-                    }
-                    Ok(_) => {}
+                Entry::Victim => match self.remove_in(way, queued, kept) {
+                    Ok(true) => return true,
+                    Ok(false) => {}
                     Err(_) => {
                         self.queue.push(queued);
                         return false;
@@ -113,6 +139,51 @@ impl Store {
             }
         }
         false
+    }
+
+    /// Removes an item in this way. One that is kept stays. Returns whether the item was still there.
+    fn remove_in(&self, way: Way, queued: Queued<Stamp>, kept: Option<Stamp>) -> Result<bool, Refused> {
+        let neighbours = if way == Way::WithNeighbours { self.neighbours(queued.entry) } else { Vec::new() };
+        let was_there = self.remove(queued.entry)?;
+        if was_there {
+            self.queue.gave_way(queued, queued.entry.hash);
+        }
+        let stamps = neighbours.into_iter().filter_map(|(hash, at)| self.stamp_at(hash, at));
+        for neighbour in stamps.filter(|stamp| Some(*stamp) != kept) {
+            // If it can't be removed, it stays.
+            let _ = self.remove(neighbour);
+        }
+        Ok(was_there)
+    }
+
+    fn remove(&self, stamp: Stamp) -> Result<bool, Refused> {
+        let was_there = matches!(self.index.remove_stamped(stamp)?, Outcome::Done(_));
+        if was_there {
+            self.room.count_eviction();
+        }
+        Ok(was_there)
+    }
+
+    /// The hashes and addresses of all items that lie in one chunk with this one.
+    fn neighbours(&self, stamp: Stamp) -> Vec<(u64, usize)> {
+        let mut found = Vec::new();
+        self.index.peek_stamped(stamp, &mut |seen| {
+            if let Ok(Some((item, _))) = seen {
+                slabs::look_around(item, |other| found.push((self.index.hash_of(other.key()), slabs::address_of(other))));
+            }
+        });
+        found
+    }
+
+    /// The stamp of the item with this hash, if it lies at this address.
+    fn stamp_at(&self, hash: u64, at: usize) -> Option<Stamp> {
+        let mut stamp = None;
+        self.index.peek(hash, &mut |seen| {
+            if let Ok(Some((item, token))) = seen {
+                stamp = (slabs::address_of(item) == at).then_some(Stamp { hash, token });
+            }
+        });
+        stamp
     }
 
     fn judge(&self, queued: Queued<Stamp>, kept: Option<Stamp>, may_spare: bool) -> Entry {

@@ -40,7 +40,7 @@ impl Store {
     pub(crate) fn tidy_up(&self) {
         self.expire();
         if let Some(ceiling) = &self.ceiling {
-            ceiling.look(&self.room, self.seats.bytes());
+            ceiling.look(&self.room, self.seats.bytes(), 0);
         }
     }
 }

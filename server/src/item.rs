@@ -1,5 +1,7 @@
 //! What is stored under a key.
+use crate::slabs;
 use cefrodil_map::{Block, Bytes, Head, Line};
+use std::alloc::Layout;
 use std::mem::offset_of;
 use std::sync::atomic::{AtomicU64, AtomicU8, Ordering::Acquire, Ordering::Relaxed, Ordering::SeqCst};
 use std::sync::Mutex;
@@ -31,12 +33,22 @@ const USED: u8 = 1;
 /// Its entry is in the main queue.
 const IN_MAIN: u8 = 2;
 
-// SAFETY: `marks` is the last field, and has one byte. Nobody changes the lengths.
+// SAFETY: `marks` is the last field, and has one byte. Nobody changes the lengths. The memory is that of an allocator.
 unsafe impl Head for About {
     const SIZE: usize = offset_of!(About, marks) + 1;
 
     fn lengths(&self) -> (usize, usize) {
         (self.key.into(), self.value as usize)
+    }
+
+    unsafe fn allocate(layout: Layout) -> *mut u8 {
+        // SAFETY: the caller says that it may be called.
+        unsafe { slabs::take(layout) }
+    }
+
+    unsafe fn deallocate(at: *mut u8, layout: Layout) {
+        // SAFETY: as above.
+        unsafe { slabs::give_back(at, layout) }
     }
 }
 
@@ -51,7 +63,9 @@ pub fn new_item(born: u64, flags: u32, deadline: u64, key: &[u8], value: &[&[u8]
         key: key.len().try_into().expect("the longest key has 250 bytes"),
         marks: AtomicU8::new(0),
     };
-    NewItem::new(about, key, value)
+    let item = NewItem::new(about, key, value);
+    slabs::note(&item);
+    item
 }
 
 /// Which items `flush_all` has made invalid: those that are no younger than one of these times, once it has come.

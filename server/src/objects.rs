@@ -141,10 +141,8 @@ impl Index for Objects {
         });
     }
 
-    fn peek_stamped(&self, stamp: Stamp, see: &mut dyn FnMut(Seen<'_>)) {
-        self.map.peek_hash(stamp.hash, |found| {
-            see(answers::seen(found).map(|seen| seen.filter(|(_, token)| *token == stamp.token)));
-        });
+    fn peek(&self, hash: u64, see: &mut dyn FnMut(Seen<'_>)) {
+        self.map.peek_hash(hash, |found| see(answers::seen(found)));
     }
 
     fn put(&self, item: NewItem, see: &mut dyn FnMut(&Item, Option<&Item>)) -> Result<Token, Refused> {

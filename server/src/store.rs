@@ -94,13 +94,6 @@ impl Store {
         Store { ceiling: Some(ceiling), ..self }
     }
 
-    /// Looks at the memory of the process if much was put since that was done last.
-    pub(crate) fn look_at_memory(&self) {
-        if let Some(ceiling) = &self.ceiling {
-            ceiling.look_at_times(&self.room, self.seats.bytes());
-        }
-    }
-
     /// Looks the keys up in order, and calls `each` with the position of each that has a value. It returns whether it goes on: if not, the
     /// keys behind are not looked at. Returns how many keys were looked at.
     pub fn look(&self, keys: &[&[u8]], mut each: impl FnMut(usize, &Item, Token) -> bool) -> usize {

@@ -126,14 +126,14 @@ impl Store {
         put: impl FnOnce(u64) -> Result<(Outcome, Line), Refused>,
     ) -> Result<Option<Token>, Fault> {
         let (bytes, hash) = (cost(key.len(), length), self.index.hash_of(key));
-        self.make_room(bytes, kept)?;
+        let expected = self.make_room(bytes, kept)?;
         let outcome = put(hash);
+        drop(expected);
         if length >= LARGE {
             self.index.sweep();
         }
         if let Ok((Outcome::Done(token), line)) = outcome {
             self.enqueue(Queued { entry: Stamp { hash, token }, line, weight: bytes });
-            self.look_at_memory();
             return Ok(Some(token));
         }
         self.room.give_back(bytes);

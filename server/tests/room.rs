@@ -20,18 +20,18 @@ fn bytes_and_items_are_added_and_subtracted() {
 
 #[test]
 fn what_has_left_is_counted_until_it_is_freed() {
-    let room = Room::new(160);
+    let room = Room::new(320);
     let state = || (room.used(), room.waiting(), room.items(), room.is_crowded());
-    room.take(160);
-    room.leave(160);
-    assert_eq!(state(), (0, 160, 0, false));
+    room.take(320);
+    room.leave(320);
+    assert_eq!(state(), (0, 320, 0, false));
     room.take(10);
-    assert_eq!(state(), (10, 160, 1, false), "a sixteenth of the limit is beside it");
+    assert_eq!(state(), (10, 320, 1, false), "a part of the limit is beside it");
     room.take(1);
-    assert_eq!(state(), (11, 160, 2, true));
-    room.free(160);
+    assert_eq!(state(), (11, 320, 2, true));
+    room.free(320);
     assert_eq!(state(), (11, 0, 2, false));
-    assert_eq!(room.taken(), 171);
+    assert_eq!(room.taken(), 331);
 }
 
 #[test]

@@ -1,9 +1,10 @@
 //! Maps of bytes: what a block has, and that the map takes none for another, loses none and frees each once.
 use crate::ledger::{done, next};
 use cefrodil_map::{AbsentError, Block, Bytes, BytesMap, Head, IfError, Look, Reason};
+use std::alloc::{alloc, dealloc, Layout};
 use std::hash::{BuildHasher, BuildHasherDefault, Hasher, RandomState};
 use std::mem::offset_of;
-use std::sync::atomic::{AtomicU64, Ordering::Relaxed, Ordering::SeqCst};
+use std::sync::atomic::{AtomicU64, AtomicUsize, Ordering::Relaxed, Ordering::SeqCst};
 use std::sync::Arc;
 use std::thread;
 
@@ -42,6 +43,42 @@ fn check(key: u64, found: &Bytes<Counted>) {
 
 fn make(key: u64, number: u64) -> Block<Counted> {
     block(number, key.to_string().as_bytes(), &[&value_of(key, number)])
+}
+
+/// A head that counts the bytes of its blocks.
+#[repr(C)]
+struct Own(u8);
+
+static OWN: AtomicUsize = AtomicUsize::new(0);
+
+// SAFETY: its one field has one byte, and the lengths are constant. The memory is that of the global allocator.
+unsafe impl Head for Own {
+    const SIZE: usize = 1;
+
+    fn lengths(&self) -> (usize, usize) {
+        (2, 3)
+    }
+
+    unsafe fn allocate(layout: Layout) -> *mut u8 {
+        OWN.fetch_add(layout.size(), Relaxed);
+        // SAFETY: the caller says that it may be called.
+        unsafe { alloc(layout) }
+    }
+
+    unsafe fn deallocate(at: *mut u8, layout: Layout) {
+        OWN.fetch_sub(layout.size(), Relaxed);
+        // SAFETY: as above.
+        unsafe { dealloc(at, layout) }
+    }
+}
+
+#[test]
+fn a_head_may_have_memory_of_its_own() {
+    let blocks = [7, 8].map(|number| Block::new(Own(number), b"ab", &[b"cde"]));
+    assert_eq!(OWN.load(Relaxed), 12);
+    assert_eq!((blocks[1].key(), blocks[1].value()), (&b"ab"[..], &b"cde"[..]));
+    drop(blocks);
+    assert_eq!(OWN.load(Relaxed), 0);
 }
 
 #[test]

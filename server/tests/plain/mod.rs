@@ -106,8 +106,12 @@ impl Index for Plain {
         see(Ok(entry.map(|entry| (&*entry.item, entry.token))));
     }
 
-    fn peek_stamped(&self, stamp: Stamp, see: &mut dyn FnMut(Seen<'_>)) {
-        self.look_stamped(stamp, see);
+    fn peek(&self, hash: u64, see: &mut dyn FnMut(Seen<'_>)) {
+        if self.control.refuses_looks.load(SeqCst) {
+            return see(Err(Refused::Held));
+        }
+        let (items, _) = &*self.items.lock().unwrap();
+        see(Ok(items.get(&hash).map(|entry| (&*entry.item, entry.token))));
     }
 
     fn put(&self, item: NewItem, see: &mut dyn FnMut(&Item, Option<&Item>)) -> Result<Token, Refused> {
