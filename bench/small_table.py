@@ -1,9 +1,9 @@
 #!/usr/bin/env python3
 """How many lookups find their key with a small table or queue for new keys, beside models of other policies.
 
-`Map` and `ObjectMap` of the crate `cefrodil-map` and the server make the same lookups, each without and with the small table or queue. An `ObjectMap` is
-bounded by weights. The server gets its commands without a connection. The models are of CLOCK, LRU, S3-FIFO, W-TinyLFU with exact counts, and of
-the two tables. Of 100,000 keys, number n is drawn in proportion to 1 / n ** skew (Zipf). A key that is absent is put.
+`Map` and `ObjectMap` of the crate `cefrodil-map`, `cefrodil::map` and the server make the same lookups, each without and with the small table or
+queue. An `ObjectMap` is bounded by weights. The server gets its commands without a connection. The models are of CLOCK, LRU, S3-FIFO, W-TinyLFU with
+exact counts, and of the two tables. Of 100,000 keys, number n is drawn in proportion to 1 / n ** skew (Zipf). A key that is absent is put.
 
 - plain: nothing else.
 - scans: after every ten lookups an item come as many fresh keys as items, which are never asked for again, and don't count.
@@ -14,8 +14,8 @@ Hits are counted in percent, the first tenth of the lookups left out. It prints 
 
 usage: bench/small_table.py [LOOKUPS]     LOOKUPS: 600,000 unless it says otherwise
 
-CEFRODIL_LIB names the folder of libcefrodil.a; none: that of the release. It takes some five minutes. It needs cargo and, of Debian: apt-get
-install librust-mio-dev.
+CEFRODIL_LIB names the folder of libcefrodil.a; none: that of the release, and nothing of C++. It takes some eight minutes. It needs cargo and g++
+and, of Debian: apt-get install librust-mio-dev.
 """
 import array
 import itertools
@@ -23,6 +23,7 @@ import os
 import random
 import subprocess
 import sys
+import tempfile
 from collections import OrderedDict, deque
 
 from hit_ratios import KEYS, TOP, Lru
@@ -32,9 +33,12 @@ from servers import CRATES
 FRESH = 10 ** 9
 SKEWS, SIZES = (0.7, 0.99), (KEYS // 100, KEYS // 10)
 
-# What the program calls the caches, and the table's heads.
-CACHES = {'map': '`Map`', 'map+': '`Map`, small table', 'objects': '`ObjectMap`, one queue', 'objects+': '`ObjectMap`', 'server': 'server, one queue',
-          'server+': 'server'}
+# What each program calls its caches, and the table's heads.
+CACHES = {
+    'Rust': {'map': '`Map`', 'map+': '`Map`, small table', 'objects': '`ObjectMap`, one queue', 'objects+': '`ObjectMap`',
+             'server': 'server, one queue', 'server+': 'server'},
+    'C++': {'1': '`cefrodil::map`', '2': '`cefrodil::map`, small table'},
+}
 
 
 class Clock:
@@ -227,25 +231,46 @@ def of_cache(program, items, cache, keys):
     return ratio(keys, [letter == ord('1') for letter in told.stdout.strip()])
 
 
-def built():
-    folder = os.path.join(TOP, 'bench/peers/ratio')
+def built_of_rust(sources):
     source = ['--config', 'source.crates-io.replace-with="debian"', '--config', f'source.debian.directory="{CRATES}"']
-    subprocess.run(['cargo', 'build', '--quiet', '--release', '--offline', *source], cwd=folder, check=True)
-    return os.path.join(os.environ.get('CARGO_TARGET_DIR', os.path.join(folder, 'target')), 'release/ratio')
+    subprocess.run(['cargo', 'build', '--quiet', '--release', '--offline', *source], cwd=sources, check=True)
+    return os.path.join(os.environ.get('CARGO_TARGET_DIR', os.path.join(sources, 'target')), 'release/ratio')
+
+
+def built_of_cxx(sources, folder):
+    program, library = os.path.join(folder, 'ratio'), os.path.join(os.environ['CEFRODIL_LIB'], 'libcefrodil.a')
+    options = ['-std=c++17', '-O2', '-I', os.path.join(TOP, 'c/include'), '-o', program]
+    subprocess.run(['g++', *options, os.path.join(sources, 'ratio.cpp'), library, '-lpthread'], check=True)
+    return program
+
+
+def built(folder):
+    """The programs that make the lookups, each by how it is shown."""
+    sources = os.path.join(TOP, 'bench/peers/ratio')
+    programs = {'Rust': built_of_rust(sources)}
+    if 'CEFRODIL_LIB' in os.environ:
+        programs['C++'] = built_of_cxx(sources, folder)
+    return programs
 
 
 def main(arguments):
     if len(arguments) > 1 or (arguments and not arguments[0].isdigit()):
         sys.exit(__doc__)
     lookups = int(arguments[0]) if arguments else 600_000
-    program = built()
+    with tempfile.TemporaryDirectory() as folder:
+        show(built(folder), lookups)
+
+
+def show(programs, lookups):
     models = {'CLOCK': Clock, 'LRU': Lru, 'S3-FIFO': S3Fifo, 'W-TinyLFU': WTinyLfu, 'two tables': Tables}
-    print('|lookups|skew|items|' + '|'.join([*CACHES.values(), *models]) + '|')
-    print('|---' * (3 + len(CACHES) + len(models)) + '|')
+    caches = {head: (programs[name], cache) for name in programs for cache, head in CACHES[name].items()}
+    print('|lookups|skew|items|' + '|'.join([*caches, *models]) + '|')
+    print('|---' * (3 + len(caches) + len(models)) + '|')
     cases = [(make, skew, items) for make in (plain, scans, shifts) for skew in SKEWS for items in SIZES]
     for make, skew, items in [*cases, *((news, 1.1, items) for items in SIZES)]:
         keys = list(make(skew, items, lookups))
-        cells = [of_cache(program, items, cache, keys) for cache in CACHES] + [of_model(model(items), keys) for model in models.values()]
+        cells = [of_cache(program, items, cache, keys) for program, cache in caches.values()]
+        cells += [of_model(model(items), keys) for model in models.values()]
         print(f'|{make.__name__}|{skew}|{items}|' + '|'.join(cells) + '|', flush=True)
 
 

@@ -4,6 +4,7 @@
 #include "cxx_epochs.hpp"
 #include "cxx_flights.hpp"
 #include "cxx_passes.hpp"
+#include "cxx_tiers.hpp"
 #include "cxx_weights.hpp"
 #include "rust_epochs.hpp"
 #include "rust_flights.hpp"
@@ -48,6 +49,7 @@ int main(int argc, char **argv) {
     explore<CxxEpochs>("C++ epochs", schedules);
     explore<CxxFlights>("C++ flights", schedules);
     explore<CxxPasses>("C++ passes", schedules);
+    explore<CxxTiers>("C++ tiers", schedules);
     explore<CxxWeights>("C++ weights", schedules);
     explore<RustFlights>("Rust flights", schedules);
     explore<RustSlots>("Rust slots", schedules);

@@ -5,16 +5,18 @@
 // finds an older value than was written before it, or any after the removal. None misses the key before it is evicted or removed.
 //
 // A table is one entry, and a call of the index one step of it. All steps are sequentially consistent, as those of the crate are.
+//
+// cxx_tiers.hpp is the same for C++. `Model` counts the moves, and notes a rest.
 #ifndef RUST_TIERS_HPP
 #define RUST_TIERS_HPP
 
 #include "explored.hpp"
 
-struct RustTiers : rl::test_suite<RustTiers, 3> {
+template <class Model> struct TiersOf : rl::test_suite<Model, 3> {
     static constexpr unsigned interruptions = 2;
-    static constexpr std::array<std::string_view, 8> steps{
-        "lock of a move",         "lock of a write",   "removal of the copy",            "beginning of a move",
-        "put before the removal", "ends of all moves", "another look into the main one", "lock of a removal that finds nothing"};
+    static constexpr std::array<std::string_view, 7> steps_of_both{
+        "lock of a move", "lock of a write", "removal of the copy", "beginning of a move",
+        "put before the removal", "another look into the main one", "lock of a removal that finds nothing"};
 
     using Guard = std::lock_guard<explored::Mutex>;
     static constexpr std::memory_order all = std::memory_order_seq_cst;
@@ -23,19 +25,20 @@ struct RustTiers : rl::test_suite<RustTiers, 3> {
     // The words of the key in each table.
     explored::Atomic<int> main{none}, small{1};
     explored::Mutex key_lock{};
-    explored::Atomic<int> begun{0}, ended{0};
     // What was written before. Whether an eviction or the removal has begun that may leave no value.
     explored::Atomic<int> written{1}, leaves{0};
+
+    Model &model() { return static_cast<Model &>(*this); }
 
     void move() {
         const explored::Mutex::Off off("lock of a move");
         const Guard guard(key_lock);                                  //| let Some(_locked) = self.lock(key) else { return };
         if (!explored::without("beginning of a move")) {
-            begun.fetch_add(1, all);                                  //| let _moving = self.moves.begin();
+            model().begin();                                          //| let _moving = self.moves.begin();
         }
         const int words = small.load(all);
         if (words == none) {
-            ended.fetch_add(1, all);
+            model().end();
             return;
         }
         const bool is_late = explored::without("put before the removal");
@@ -44,7 +47,7 @@ struct RustTiers : rl::test_suite<RustTiers, 3> {
         if (!is_late && rl::rand(2) == 0) { // or it can't
             small.compare_exchange(words, none, all);                 //| let taken = in_turn(tries, || self.small.call(|small| small.handle.take_if(key, since)));
         }
-        ended.fetch_add(1, all);
+        model().end();
     }
 
     // From the small table. If the main table has the key, there is a value all the time.
@@ -74,32 +77,23 @@ struct RustTiers : rl::test_suite<RustTiers, 3> {
 
     // What a thread notes, and the lookups of that thread.
     struct Reader {
-        int rest = -1; //| in map/src/moves.rs
+        typename Model::Rest rest{};
 
-        bool has_lasted(RustTiers &tiers) {
-            const int now = tiers.begun.load(all);                    //| let begun = moves.begun.load(SeqCst);
-            if (rest == now) {                                        //| if self.moves == begun && self.thread == this_thread() {
-                return true;
-            }
-            const bool have_ended = tiers.ended.load(all) == now;     //| let have_ended = moves.ended.load(SeqCst) == begun;
-            rest = have_ended || explored::without("ends of all moves") ? now : -1;
-            return false;
-        }
-        int look_up(RustTiers &tiers) {
+        int look_up(Model &tiers) {
             if (const int words = tiers.main.load(all); words != none) {
                 return words;
             }
             if (const int words = tiers.small.load(all); words != none) {
                 return words;
             }
-            const bool is_sure = has_lasted(tiers) || explored::without("another look into the main one");
+            const bool is_sure = tiers.has_lasted(rest) || explored::without("another look into the main one");
             return is_sure ? none : tiers.main.load(all);
         }
     };
 
     void look_up(Reader &reader) {
         const int least = written.load(all);
-        const int words = reader.look_up(*this);
+        const int words = reader.look_up(model());
         RL_ASSERT(words >= least || (words == none && leaves.load(all) != 0));
     }
 
@@ -112,15 +106,37 @@ struct RustTiers : rl::test_suite<RustTiers, 3> {
             if (rl::rand(2) == 0) {
                 write(2);
                 written.store(2, all);
-                RL_ASSERT(reader.look_up(*this) == 2);
+                RL_ASSERT(reader.look_up(model()) == 2);
             }
             remove();
-            RL_ASSERT(reader.look_up(*this) == none);
+            RL_ASSERT(reader.look_up(model()) == none);
         } else {
-            reader.has_lasted(*this); // at the end of a lookup of another key
+            model().has_lasted(reader.rest); // at the end of a lookup of another key
             look_up(reader);
             look_up(reader);
         }
+    }
+};
+
+struct RustTiers : TiersOf<RustTiers> {
+    static constexpr std::array<std::string_view, 8> steps{steps_of_both[0], steps_of_both[1], steps_of_both[2], steps_of_both[3],
+                                                           steps_of_both[4], steps_of_both[5], steps_of_both[6], "ends of all moves"};
+
+    struct Rest {
+        int moves = -1; //| in map/src/moves.rs
+    };
+    explored::Atomic<int> begun{0}, ended{0};
+
+    void begin() { begun.fetch_add(1, all); }                         //| self.begun.fetch_add(1, SeqCst);
+    void end() { ended.fetch_add(1, all); }                           //| self.0.ended.fetch_add(1, SeqCst);
+    bool has_lasted(Rest &rest) {
+        const int now = begun.load(all);                              //| let begun = moves.begun.load(SeqCst);
+        if (rest.moves == now) {                                      //| if self.moves == begun && self.thread == this_thread() {
+            return true;
+        }
+        const bool have_ended = ended.load(all) == now;               //| let have_ended = moves.ended.load(SeqCst) == begun;
+        rest.moves = have_ended || explored::without("ends of all moves") ? now : -1;
+        return false;
     }
 };
 

@@ -165,6 +165,12 @@ class Counter {
             }
         }
     }
+    // So many lookups that this counted as misses go on elsewhere, and are counted there.
+    void take_back_misses(uint64_t number) noexcept {
+        if (line_ != nullptr) {
+            line_->add(misses, 0 - number);
+        }
+    }
     void tried(cefrodil_status status) noexcept {
         if (line_ != nullptr && status == CEFRODIL_HELD) {
             line_->add(held, 1);

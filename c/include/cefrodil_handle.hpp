@@ -191,6 +191,8 @@ struct Counting {
         handle.counter_.tried(status);
         return static_cast<Status>(status);
     }
+    static void looked(OpenHandle &handle, cefrodil_status status) noexcept { handle.counter_.looked(status); }
+    static void take_back_misses(OpenHandle &handle, uint64_t number) noexcept { handle.counter_.take_back_misses(number); }
     // Like Handle::get_or_turn, but a value that is found is written where it stays.
     template <size_t Words>
     static Status get_or_turn(OpenHandle &handle, uint64_t key, std::array<uint64_t, Words> &value, cefrodil_reply &reply) noexcept {

@@ -1,4 +1,5 @@
-// A cache as a map of a program's own types, for any number of threads. A new key evicts another one when its shard is full.
+// A cache as a map of a program's own types, for any number of threads. A new key evicts another one when its shard is full. If many keys are used
+// once, open the map with a small table for new keys (`small_table` of MapOptions).
 //
 //     #include "cefrodil_map.hpp"
 //     int main() {
@@ -60,6 +61,11 @@ struct MapOptions {
     uint32_t passes = 64;   // 1 to 1,024, with the shared one
     uint32_t tries = 10000; // how often a call is repeated that other threads keep from its turn. This takes over a second. A lookup is repeated
                             // 1,000 times at most, which takes over a tenth of a second.
+    // Whether new keys go to a small table first, with a tenth of the entries and no more shards than these. A key that is found there moves to the
+    // main table. So keys that are used once evict none that are used often, and more lookups hit (docs/PERFORMANCE.md). A lookup that misses the main
+    // table looks into the small one, too. If it finds the key there, it moves it: that is a write, for which another entry may be evicted. A write
+    // of a key looks into both tables. An object_map has one table, whatever this says.
+    bool small_table = false;
 };
 
 // The answers of lookups, updates and puts are `Found` and `Stored`, in cefrodil_table.hpp.
@@ -101,7 +107,7 @@ template <class K, class V, class Hash = SipHash<K>> class map {
         if (!opened->identities.draw()) {
             return Status::no_random;
         }
-        const Status status = opened->table.open(options.entries, options.shards, options.passes, options.tries, mix);
+        const Status status = opened->table.open(options.entries, options.shards, options.passes, options.tries, mix, options.small_table);
         return status == Status::ok && !inner_.own(std::move(opened)) ? Status::no_memory : status;
     }
     bool is_open() const noexcept { return bool(inner_); }
@@ -121,6 +127,11 @@ template <class K, class V, class Hash = SipHash<K>> class map {
         return found;
     }
     [[nodiscard]] bool contains(Key key) const noexcept(never_throws) { return get(key).status == Status::ok; }
+    // The key's value, which doesn't count as used: it is evicted as if nobody had looked. It takes the turn at the key's shard, as a write does. ok,
+    // absent, held or closed.
+    [[nodiscard]] Found<V> peek(Key key) const noexcept(never_throws) {
+        return inner_ ? inner_->table.peek(inner_->identities.of(key)) : Found<V>{Status::closed, std::nullopt};
+    }
     // Writes to `values` what `find` returns for each of `count` keys, with fewer calls of the index. `Each` is what a call takes as a key: of a map
     // of strings, std::string or std::string_view. Returns how many keys were found.
     template <class Each> size_t find_many(const Each *keys, size_t count, std::optional<V> *values) const noexcept(never_throws) {
@@ -198,14 +209,15 @@ template <class K, class V, class Hash = SipHash<K>> class map {
         return inner_->table.clear();
     }
 
-    // How many keys there are. Calls that run meanwhile count or not.
+    // How many keys there are. Calls that run meanwhile count or not. With a small table, a key whose move others disturbed for a tenth of a second counts
+    // twice until it is written, or leaves one of the tables.
     uint64_t size() const noexcept { return inner_ ? inner_->table.turns().keys() : 0; }
     // How many keys all shards hold together. Each evicts for itself, so the first eviction comes before the map is full.
     uint64_t capacity() const noexcept { return inner_ ? inner_->table.turns().capacity() : 0; }
     // How many calls of the index threads without a pass of their own made. They wait for each other. If there are many, open the map with more passes.
     uint64_t shared_calls() const noexcept { return inner_ ? inner_->table.turns().shared_calls() : 0; }
     // What the calls of the index came to. A repeated call counts each time, and a call of the map may make several, so no exact hit rate follows:
-    // for that, count the answers of your own calls.
+    // for that, count the answers of your own calls. A lookup that goes on in a small table counts once.
     Meter meter() const noexcept { return inner_ ? inner_->table.turns().meter() : Meter(nullptr); }
 
   private:

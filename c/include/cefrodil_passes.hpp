@@ -1,5 +1,5 @@
 // Handles of the index that threads take by themselves (passes), for cefrodil_map.hpp. A thread takes one at its first call, and gives it back at its
-// end. A thread that finds none shares one with others, behind a lock. Calls by them are repeated until they have their turn.
+// end. A thread that finds none shares one with others, behind a lock. cefrodil_turns.hpp repeats calls by them.
 #ifndef CEFRODIL_PASSES_HPP
 #define CEFRODIL_PASSES_HPP
 
@@ -9,11 +9,9 @@
 #include <algorithm>
 #include <array>
 #include <atomic>
-#include <chrono>
 #include <memory>
 #include <mutex>
 #include <numeric>
-#include <thread>
 #include <unordered_map>
 #include <utility>
 #include <vector>
@@ -145,6 +143,9 @@ class Claims {
 // A handle with what its thread alone writes, in pairs of cache lines of its own.
 template <size_t Words> struct alignas(128) Slot {
     Handle<Words> handle{};
+    // Of a second index, if there is one: the small table of cefrodil_tiers.hpp. `rest` is what Moves of cefrodil_moves.hpp notes here.
+    Handle<Words> small{};
+    uint64_t rest = 0;
     // How many keys its calls added, less those that they removed. It is only added up, so its steps need no order.
     std::atomic<int64_t> keys{0};
 
@@ -184,6 +185,24 @@ template <size_t Words> class Passes {
         return Status::ok;
     }
 
+    // Opens a second index. Its handles are in the same slots, and each meter counts the calls of both.
+    [[nodiscard]] Status open_small(const cefrodil_shape &shape, uint32_t shards) noexcept {
+        std::vector<Handle<Words>> handles;
+        const auto lines = [&] { return Counting::lines(shared()); };
+        const Status status = open_all(handles, count_, lines, [&](cefrodil_handle *raw, size_t many) {
+            return cefrodil_open(&shape, shards, Words, raw, many);
+        });
+        for (size_t i = 0; status == Status::ok && i < count_; i++) {
+            slots_[i].small = std::move(handles[i]);
+        }
+        return status;
+    }
+
+    // The slot of this thread. Null: it uses the shared one.
+    Slot<Words> *own_slot() noexcept {
+        const RecentSlots::Place &last = recent_slots().last;
+        return last.passes == free_.get() ? static_cast<Slot<Words> *>(last.slot) : find_slot();
+    }
     // Makes one call with the slot of this thread, or with the shared one. The call must run no code of the user, since that might call, too.
     template <class Call> auto call(Call made) noexcept {
         Slot<Words> *const slot = own_slot();
@@ -215,10 +234,6 @@ template <size_t Words> class Passes {
         shared_calls_.fetch_add(1, std::memory_order_relaxed);
         return made(slots_[0]);
     }
-    Slot<Words> *own_slot() noexcept {
-        const RecentSlots::Place &last = recent_slots().last;
-        return last.passes == free_.get() ? static_cast<Slot<Words> *>(last.slot) : find_slot();
-    }
     [[gnu::noinline]] Slot<Words> *find_slot() noexcept {
         RecentSlots &recent = recent_slots();
         const RecentSlots::Place &place = recent.places[place_];
@@ -244,145 +259,6 @@ template <size_t Words> class Passes {
     const uint8_t place_ = next_place();
     std::mutex sharing_{};
     std::atomic<uint64_t> shared_calls_{0};
-};
-
-// map/SETTINGS has these numbers, and those of Rust's maps.
-// So many repetitions spin at first, and from a later one on a call sleeps before it is repeated.
-inline constexpr uint32_t spins = 7, sleeps_from = 200;
-// How often a lookup is repeated that is a miss if it stays busy.
-inline constexpr uint32_t most_looks = 1000;
-
-// Waits before a call is repeated for this time. At first it spins, each time twice as long. Then it yields, and at last it sleeps: the thread that
-// has the turn may have to wait for a processor.
-inline void wait_before(uint32_t repeat) noexcept {
-    if (repeat < spins) {
-        for (uint32_t step = 0; step < uint32_t(1) << repeat; step++) {
-            __builtin_ia32_pause();
-        }
-    } else if (repeat < sleeps_from) {
-        std::this_thread::yield();
-    } else {
-        std::this_thread::sleep_for(std::chrono::microseconds(100));
-    }
-}
-
-// What a lookup came to. ok: the moment of the put of what it found.
-struct Seen {
-    Status status;
-    uint64_t since;
-};
-
-// Calls by the passes of an index. A call that other threads keep from its turn is repeated.
-template <size_t Words> class Turns {
-  public:
-    // 0 shards: as many as these entries ask for.
-    [[nodiscard]] Status open(uint32_t entries, uint32_t asked_shards, uint32_t passes, uint32_t tries, uint32_t mix) noexcept {
-        if (!same_version()) {
-            return Status::other_version;
-        }
-        const uint32_t shards = asked_shards == 0 ? shards_for(entries) : asked_shards;
-        cefrodil_shape shape{};
-        const auto status = static_cast<Status>(cefrodil_shape_for_items(entries, shards, &shape));
-        if (status != Status::ok) {
-            return status;
-        }
-        shape.mix = mix;
-        shape.stripes = std::min(shape.stripes, std::max(stripes_of_a_shard, all_stripes / shards));
-        tries_ = tries;
-        looks_ = std::min(tries, most_looks);
-        capacity_ = uint64_t(shape.items) * shards;
-        return passes_.open(shape, shards, passes);
-    }
-
-    // Looks a key up: ok, absent, or busy if it was that once and then so often. A value that is found is written. By `get_or_turn`, whose export
-    // is shorter.
-    Seen get(uint64_t key, uint32_t most, std::array<uint64_t, Words> &value) noexcept {
-        cefrodil_reply reply;
-        const Status status = passes_.call([&](Slot<Words> &slot) { return Counting::get_or_turn(slot.handle, key, value, reply); });
-        return status == Status::busy ? get_again(key, most, value) : Seen{status, reply.since};
-    }
-
-    // Makes a call by this thread's slot, or by the shared one.
-    template <class Call> auto call(Call made) noexcept { return passes_.call(made); }
-    // The same, until it is neither busy nor held.
-    template <class Call> auto repeated(Call call) noexcept { return repeated(call, tries_); }
-    template <class Call> auto repeated(Call call, uint32_t most) noexcept {
-        auto answer = passes_.call(call);
-        for (uint32_t repeat = 0; is_disturbed(status_of(answer)); repeat++) {
-            if (repeat >= most) {
-                give_up(most);
-                break;
-            }
-            wait_before(repeat);
-            answer = passes_.call(call);
-        }
-        return answer;
-    }
-    // Makes a put, and counts a new key.
-    template <class Write> Written write(Write make) noexcept {
-        return repeated([&](Slot<Words> &slot) {
-            const Written tried = make(slot.handle);
-            slot.add(tried.status == Status::ok && !tried.renewed && !tried.evicted ? 1 : 0);
-            return tried;
-        });
-    }
-    // Makes a removal, and counts it.
-    template <class Removal> Status removal(Removal make) noexcept {
-        return repeated([&](Slot<Words> &slot) {
-            const Status status = make(slot.handle);
-            slot.add(status == Status::ok ? -1 : 0);
-            return status;
-        });
-    }
-
-    size_t place() noexcept { return passes_.place(); }
-    uint32_t tries() const noexcept { return tries_; }
-    // How often a lookup is repeated that is a miss if it stays busy.
-    uint32_t looks() const noexcept { return looks_; }
-    uint64_t keys() const noexcept { return static_cast<uint64_t>(std::max<int64_t>(0, passes_.keys())); }
-    uint64_t capacity() const noexcept { return capacity_; }
-    Meter meter() const noexcept { return passes_.shared().meter(); }
-    uint64_t shared_calls() const noexcept { return passes_.shared_calls(); }
-
-  private:
-    static bool is_disturbed(Status status) noexcept { return status == Status::busy || status == Status::held; }
-    // Counts a call that ends without an answer, if it slept.
-    [[gnu::cold]] [[gnu::noinline]] void give_up(uint32_t most) noexcept {
-        const std::shared_ptr<Lines> &lines = Counting::lines(passes_.shared());
-        if (lines && most > sleeps_from) {
-            lines->stalls().give_up();
-        }
-    }
-    [[gnu::cold]] [[gnu::noinline]] Seen get_again(uint64_t key, uint32_t most, std::array<uint64_t, Words> &value) noexcept {
-        for (uint32_t repeat = 0; repeat < most; repeat++) {
-            wait_before(repeat);
-            const Answer<Words> found = passes_.call([&](Slot<Words> &slot) { return slot.handle.get_or_turn(key); });
-            if (found.status != Status::busy) {
-                value = found.value.value_or(value);
-                return {found.status, found.since};
-            }
-        }
-        give_up(most);
-        return {Status::busy, 0};
-    }
-
-    // The most stripes that all shards have together, but each may have `stripes_of_a_shard`. Each stripe has a version of 8 bytes, and more of them
-    // would leave less room for entries in the processor's caches.
-    static constexpr uint32_t all_stripes = 4096, stripes_of_a_shard = 64;
-
-    // By default a shard has so many entries or more, and there are so many shards at most.
-    static constexpr uint32_t most_shards = 16, entries_of_a_shard = 64;
-    static uint32_t shards_for(uint32_t entries) noexcept {
-        uint32_t shards = 1;
-        while (shards < most_shards && shards * 2 <= entries / entries_of_a_shard) {
-            shards *= 2;
-        }
-        return shards;
-    }
-
-    Passes<Words> passes_{};
-    uint32_t tries_ = 0, looks_ = 0;
-    uint64_t capacity_ = 0;
 };
 
 } // namespace inside

@@ -3,7 +3,7 @@
 #define CEFRODIL_TABLE_HPP
 
 #include "cefrodil_packing.hpp"
-#include "cefrodil_passes.hpp"
+#include "cefrodil_tiers.hpp"
 #include <algorithm>
 #include <array>
 #include <optional>
@@ -40,56 +40,68 @@ template <class V> class Table : private Packing<V> {
         uint64_t since;
     };
 
-    [[nodiscard]] Status open(uint32_t entries, uint32_t shards, uint32_t passes, uint32_t tries, uint32_t mix) noexcept {
-        return turns_.open(entries, shards, passes, tries, mix);
+    [[nodiscard]] Status open(uint32_t entries, uint32_t shards, uint32_t passes, uint32_t tries, uint32_t mix, bool small_table) noexcept {
+        return tiers_.open(entries, shards, passes, tries, mix, small_table);
     }
 
     // A lookup for its value, which is set if the status is ok. If it stays busy, that is a miss.
-    Status find(const Identity &key, std::optional<V> &value) noexcept { return looked(key, turns_.looks(), value).status; }
-    // The same for a few keys, by one call of the index. Sets the values that are there. A key that is busy is looked up again by itself.
+    Status find(const Identity &key, std::optional<V> &value) noexcept { return looked(key, turns().looks(), true, value).status; }
+    // The same for a few keys, by one call of the index. Sets the values that are there. A key that is busy is looked up again by itself, and so is one
+    // that the main table lacks if there is a small one.
     static constexpr size_t few = 32;
     void find_few(const Identity *keys, size_t count, std::optional<V> *values) noexcept {
         std::array<uint64_t, few> indices;
         std::array<Words, few> found;
         std::array<cefrodil_answer, few> answers;
         std::transform(keys, keys + count, indices.begin(), [](const Identity &key) { return key.index; });
-        // An open handle has an answer for each key.
-        static_cast<void>(turns_.call([&](Slot<words> &slot) { return slot.handle.get_many(indices.data(), count, found.data(), answers.data()); }));
+        tiers_.get_many(indices.data(), count, found.data(), answers.data());
         for (size_t i = 0; i < count; i++) {
             if (answers[i].status == CEFRODIL_OK) {
                 static_cast<void>(set_value(keys[i], found[i], values[i]));
-            } else if (answers[i].status == CEFRODIL_BUSY) {
+            } else if (answers[i].status == CEFRODIL_BUSY || tiers_.has_small()) {
                 static_cast<void>(find(keys[i], values[i]));
             }
         }
     }
-    // A lookup for a write, which is repeated as often as a put.
-    Entry look(const Identity &key) noexcept {
-        Entry entry{};
-        const Seen seen = looked(key, turns_.tries(), entry.value);
-        entry.status = seen.status, entry.since = seen.since;
-        return entry;
+    // A lookup that is no use of the key. It is repeated as often as a put.
+    Found<V> peek(const Identity &key) noexcept {
+        const Answer<words> answer = tiers_.peek(key.index);
+        Found<V> found{answer.status, std::nullopt};
+        if (answer.value && !set_value(key, *answer.value, found.value)) {
+            found.status = Status::absent;
+        }
+        return found;
+    }
+    // A lookup for a write, which is repeated as often as a put. `moves`: as of Tiers::get.
+    Entry look(const Identity &key, bool moves) noexcept {
+        for (uint32_t repeat = 0;; repeat++) {
+            const Entry entry = look_once(key, moves);
+            if (entry.status != Status::absent || entry.since != 0 || !tiers_.has_small()) {
+                return entry;
+            }
+            const Status status = tiers_.lacks(key.index);
+            if (status != Status::present || repeat >= turns().tries()) {
+                return {status == Status::present ? Status::changed : status, std::nullopt, 0};
+            }
+        }
     }
 
-    Stored put(const Identity &key, const V &value) noexcept {
-        const Words packed = pack(key, value);
-        return write([&](Handle<words> &handle) { return handle.try_put(key.index, packed); });
-    }
+    Stored put(const Identity &key, const V &value) noexcept { return stored(tiers_.put(key.index, pack(key, value))); }
 
     // Another key's entry under the same number gives way.
     Stored put_if_absent(const Identity &key, const V &value) noexcept {
         const Words packed = pack(key, value);
         for (uint32_t repeat = 0;; repeat++) {
-            const Stored stored = write([&](Handle<words> &handle) { return handle.try_put_if_absent(key.index, packed); });
-            if (stored.status != Status::present) {
-                return stored;
+            const Stored put = stored(tiers_.put_if_absent(key.index, packed));
+            if (put.status != Status::present) {
+                return put;
             }
-            const Entry entry = look(key);
+            const Entry entry = look(key, false);
             if (entry.status != Status::absent) {
                 return {entry.status == Status::ok ? Status::present : entry.status, false, false};
             }
             const Status status = entry.since != 0 ? put_over(key, entry.since, packed) : Status::changed;
-            if (!is_lost(status) || repeat >= turns_.tries()) {
+            if (!is_lost(status) || repeat >= turns().tries()) {
                 return {is_lost(status) ? Status::changed : status, false, status == Status::ok};
             }
         }
@@ -98,7 +110,7 @@ template <class V> class Table : private Packing<V> {
     // Puts what the function makes of the key's value. If the key is absent, puts `first`, or nothing if that is null.
     template <class Function> Found<V> update(const Identity &key, const V *first, const Function &function) {
         for (uint32_t repeat = 0;; repeat++) {
-            const Entry entry = look(key);
+            const Entry entry = look(key, true);
             if (entry.status != Status::ok && (entry.status != Status::absent || first == nullptr)) {
                 return {entry.status, std::nullopt};
             }
@@ -107,7 +119,7 @@ template <class V> class Table : private Packing<V> {
                 return tried;
             }
             const bool is_late = is_lost(tried.status) || tried.status == Status::present;
-            if (!is_late || repeat >= turns_.tries()) {
+            if (!is_late || repeat >= turns().tries()) {
                 return {is_late ? Status::changed : tried.status, std::nullopt};
             }
         }
@@ -115,12 +127,12 @@ template <class V> class Table : private Packing<V> {
 
     Status erase(const Identity &key) noexcept {
         for (uint32_t repeat = 0;; repeat++) {
-            const Entry entry = look(key);
+            const Entry entry = look(key, false);
             if (entry.status != Status::ok) {
                 return entry.status;
             }
-            const Status status = turns_.removal([&](Handle<words> &handle) { return handle.try_take_if(key.index, entry.since).status; });
-            if (status != Status::changed || repeat >= turns_.tries()) {
+            const Status status = tiers_.take_if(key.index, entry.since);
+            if (status != Status::changed || repeat >= turns().tries()) {
                 return status;
             }
         }
@@ -128,41 +140,55 @@ template <class V> class Table : private Packing<V> {
 
     // Each shard is listed at a moment of its own, and each key that is listed is removed.
     Status clear() noexcept {
-        std::vector<uint64_t> list;
-        Status status = turns_.repeated([&](Slot<words> &slot) { return slot.handle.try_entries(list); });
+        std::vector<uint64_t> small, main;
+        Status status = tiers_.list(small, main);
+        status = status == Status::ok ? remove_all(small) : status;
+        return status == Status::ok ? remove_all(main) : status;
+    }
+
+    Tiers<words> &tiers() noexcept { return tiers_; }
+    const Turns<words> &turns() const noexcept { return tiers_.turns(); }
+
+  private:
+    // Compiled into `find`.
+    [[gnu::always_inline]] Seen looked(const Identity &key, uint32_t most, bool moves, std::optional<V> &value) noexcept {
+        Words packed;
+        const Seen seen = tiers_.get(key, most, moves, packed);
+        return {seen.status == Status::ok && !set_value(key, packed, value) ? Status::absent : seen.status, seen.since};
+    }
+    Entry look_once(const Identity &key, bool moves) noexcept {
+        const Entry entry = looked_once(key, moves);
+        // If it has moved, it has another moment.
+        const bool has_moved = moves && entry.status == Status::ok && tiers_.is_of_small(entry.since);
+        return has_moved ? looked_once(key, false) : entry;
+    }
+    [[gnu::noinline]] Entry looked_once(const Identity &key, bool moves) noexcept {
+        Entry entry{};
+        const Seen seen = looked(key, turns().tries(), moves, entry.value);
+        entry.status = seen.status, entry.since = seen.since;
+        return entry;
+    }
+    Status remove_all(const std::vector<uint64_t> &list) noexcept {
+        Status status = Status::ok;
         for (size_t at = 0; at < list.size() && status == Status::ok; at += 1 + words) {
-            status = turns_.removal([&](Handle<words> &handle) { return handle.try_remove(list[at]).status; });
+            status = tiers_.remove(list[at]);
             status = status == Status::absent ? Status::ok : status;
         }
         return status;
     }
 
-    const Turns<words> &turns() const noexcept { return turns_; }
-
-  private:
-    Seen looked(const Identity &key, uint32_t most, std::optional<V> &value) noexcept {
-        Words packed;
-        const Seen seen = turns_.get(key.index, most, packed);
-        return {seen.status == Status::ok && !set_value(key, packed, value) ? Status::absent : seen.status, seen.since};
-    }
-
     // Whether the entry is another one than was looked up.
     static bool is_lost(Status status) noexcept { return status == Status::changed || status == Status::absent; }
 
-    template <class Write> Stored write(Write make) noexcept {
-        const Written written = turns_.write(make);
-        return {written.status, written.renewed, written.evicted.has_value()};
-    }
-    Status put_over(const Identity &key, uint64_t since, const Words &packed) noexcept {
-        return write([&](Handle<words> &handle) { return handle.try_put_if(key.index, since, packed); }).status;
-    }
+    static Stored stored(const Written &written) noexcept { return {written.status, written.renewed, written.evicted.has_value()}; }
+    Status put_over(const Identity &key, uint64_t since, const Words &packed) noexcept { return tiers_.put_if(key.index, since, packed).status; }
     // Puts what the function makes of an entry's value, if the entry is still the same.
     template <class Function> Found<V> renew(const Identity &key, const Entry &entry, const Function &function) {
         const V value = function(*entry.value);
         return {put_over(key, entry.since, pack(key, value)), value};
     }
 
-    Turns<words> turns_{};
+    Tiers<words> tiers_{};
 };
 
 } // namespace inside

@@ -46,7 +46,7 @@ impl<K: ?Sized, V> Builder<K, V> {
 impl<K: ?Sized, V, S> Builder<K, V, S> {
     /// How many shards: a power of two, 1 to 256. Threads that write to different shards don't wait for each other. Each shard evicts for
     /// itself, and several shards together have more room than was asked for. The default is one for each 64 entries, 16 at most: then it is less than
-    /// twice as much. One shard has just what was asked for.
+    /// twice as much. One shard has just what was asked for. A small table has no more shards than this.
     pub fn shards(mut self, shards: u32) -> Self {
         self.settings.shards = Some(shards);
         self

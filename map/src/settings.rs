@@ -60,10 +60,11 @@ impl<S> Settings<S> {
         self.shape_for(self.capacity.min(capacity), self.shards.unwrap_or_else(|| shards_for(capacity)))
     }
 
-    /// Those of the small table.
+    /// Those of the small table. It has no more shards than were asked for.
     pub fn small_shape(&self) -> Result<(Shape, u32), OpenError> {
         let capacity = self.small_capacity();
-        self.shape_for(capacity, shards_for(capacity))
+        let shards = shards_for(capacity);
+        self.shape_for(capacity, self.shards.map_or(shards, |asked| asked.min(shards)))
     }
 
     fn small_capacity(&self) -> usize {

@@ -67,6 +67,14 @@ fn a_new_key_moves_when_it_is_found() {
 }
 
 #[test]
+fn with_one_shard_both_tables_have_room_for_what_was_asked_for() {
+    for entries in [2, 10, 1_000, 10_000] {
+        assert_eq!(Map::<u64, u64>::builder(entries).shards(1).threads(1).small_table().open().unwrap().capacity(), entries);
+    }
+    assert!(Numbers::builder(10_000).threads(1).small_table().open().unwrap().capacity() > 10_000);
+}
+
+#[test]
 fn each_call_that_uses_a_value_moves_it() {
     let uses: [fn(&Numbers); 6] = [
         |map| assert_eq!(map.try_get(&KEY), Ok(Some(10))),

@@ -1,0 +1,68 @@
+// Which keys left a table lately, roughly, for cefrodil_tiers.hpp. It is that of map/src/sketch.rs, which says how it works.
+#ifndef CEFRODIL_SKETCH_HPP
+#define CEFRODIL_SKETCH_HPP
+
+#include <atomic>
+#include <cstddef>
+#include <cstdint>
+#include <memory>
+
+namespace cefrodil {
+
+namespace inside {
+
+// Relaxed: it says nothing of other memory. If two threads change a row at once, one change is lost.
+class Sketch {
+  public:
+    // For a table of so many entries.
+    explicit Sketch(uint64_t entries)
+        : count_((entries + entries_of_a_row - 1) / entries_of_a_row), rows_(std::make_unique<std::atomic<uint16_t>[]>(count_)) {}
+
+    // Notes a key.
+    void note(uint64_t key) noexcept {
+        const Place place = place_of(key);
+        const uint16_t tags = place.row.load(std::memory_order_relaxed);
+        place.row.store(static_cast<uint16_t>(tags << bits_of_a_tag | place.tag), std::memory_order_relaxed);
+    }
+    // Whether the key is noted. It isn't afterwards.
+    bool take(uint64_t key) noexcept {
+        const Place place = place_of(key);
+        const uint16_t tags = place.row.load(std::memory_order_relaxed);
+        const uint16_t kept = without(tags, place.tag);
+        if (kept != tags) {
+            place.row.store(kept, std::memory_order_relaxed);
+        }
+        return kept != tags;
+    }
+
+  private:
+    static constexpr size_t entries_of_a_row = 4;
+    static constexpr unsigned bits_of_a_tag = 8, low_tag = 0xff;
+
+    struct Place {
+        std::atomic<uint16_t> &row;
+        uint16_t tag;
+    };
+
+    // No key has the tag 0.
+    Place place_of(uint64_t key) noexcept {
+        // An odd number whose bits look random: keys may be spread badly.
+        const uint64_t mixed = (key ^ key >> 32) * 0x9e3779b97f4a7c15;
+        const auto row = static_cast<size_t>(static_cast<Wide>(mixed) * count_ >> 64);
+        return {rows_[row], static_cast<uint16_t>(1 + (mixed >> 4 & 0xfff) % 255)};
+    }
+    static uint16_t without(uint16_t tags, uint16_t tag) noexcept {
+        const unsigned first = tags & low_tag, second = tags >> bits_of_a_tag;
+        return static_cast<uint16_t>((second == tag ? 0 : second) << bits_of_a_tag | (first == tag ? 0 : first));
+    }
+
+    __extension__ typedef unsigned __int128 Wide;
+    size_t count_;
+    std::unique_ptr<std::atomic<uint16_t>[]> rows_;
+};
+
+} // namespace inside
+
+} // namespace cefrodil
+
+#endif

@@ -1,0 +1,362 @@
+// A small table before the main one, for cefrodil_map.hpp. A new key goes to the small one, and to the main one when it is found there. So keys that
+// are used once evict no keys that are used often. A map may do without: then it has the main table alone.
+//
+// All writes of a key have its lock. Lookups have none: they look into the main table first. map/SAFETY.md says why that suffices, and in what this
+// differs from map/src/tiers.rs.
+#ifndef CEFRODIL_TIERS_HPP
+#define CEFRODIL_TIERS_HPP
+
+#include "cefrodil_hash.hpp"
+#include "cefrodil_moves.hpp"
+#include "cefrodil_sketch.hpp"
+#include "cefrodil_turns.hpp"
+#include <algorithm>
+#include <array>
+#include <atomic>
+#include <memory>
+#include <mutex>
+#include <optional>
+#include <vector>
+
+namespace cefrodil {
+
+namespace inside {
+
+// What the tables have in common: locks by the key, the keys that left the small table, and the moves.
+struct BetweenTables {
+    explicit BetweenTables(uint64_t entries) : left(entries) {}
+    BetweenTables(const BetweenTables &) = delete;
+    BetweenTables &operator=(const BetweenTables &) = delete;
+
+    // Some keys. Each lock is in a cache line of its own. No code of the user runs under one, and none is waited for.
+    struct alignas(64) Lock {
+        std::mutex mutex{};
+    };
+    using Guard = std::unique_lock<std::mutex>;
+    Guard lock(uint64_t key) noexcept { return Guard(locks[key % locks.size()].mutex, std::try_to_lock); }
+
+    // Most calls find it as it is to be, and write nothing that other threads read. Relaxed: it is a guess.
+    void set_full(bool now) noexcept {
+        if (is_full.load(std::memory_order_relaxed) != now) {
+            is_full.store(now, std::memory_order_relaxed);
+        }
+    }
+
+    std::array<Lock, 64> locks{};
+    Sketch left;
+    // The last put of a new key into the main table evicted another one, and none was removed there since.
+    std::atomic<bool> is_full{false};
+    Moves moves{};
+};
+
+template <size_t Words> class Tiers {
+  public:
+    using Value = std::array<uint64_t, Words>;
+
+    // A small table has a tenth of the entries. Statuses are those of cefrodil::open. Unless ok, end this without another call.
+    [[nodiscard]] Status open(uint32_t entries, uint32_t shards, uint32_t passes, uint32_t tries, uint32_t mix, bool small_table) noexcept {
+        const uint32_t small = std::max<uint32_t>(entries / small_part, 1);
+        const uint32_t main = std::min(entries, std::max<uint32_t>(entries - std::min(entries, small), 1));
+        Status status = turns_.open(small_table ? main : entries, shards, passes, tries, mix);
+        if (status != Status::ok || !small_table) {
+            return status;
+        }
+        status = turns_.open_small(small, shards, mix);
+        const auto grow = [&] { between_ = std::make_unique<BetweenTables>(turns_.capacity()); };
+        return status == Status::ok && !has_memory(grow) ? Status::no_memory : status;
+    }
+    bool has_small() const noexcept { return between_ != nullptr; }
+    // Whether the moment is that of a put into the small table. No table counts so far.
+    static constexpr bool is_of_small(uint64_t since) noexcept { return (since & of_small) != 0; }
+
+    // Looks a key up in both tables: ok, absent, or busy if it was that so often. A value that is found is written. With `moves`, a key that is found in
+    // the small table moves to the main one.
+    Seen get(const Identity &key, uint32_t most, bool moves, Value &value) noexcept {
+        cefrodil_reply reply;
+        Slot<Words> *const slot = turns_.own_slot();
+        const Status status = slot != nullptr ? look(*slot, key.index, value, reply) : look_shared(key.index, value, reply);
+        return status == Status::ok || status == Status::absent ? Seen{status, reply.since} : go_on(status, key, most, moves, value, reply.since);
+    }
+    // Looks keys up in the main table, by one call of the index. Each that it lacks is to be looked up by `get` if there is a small one.
+    void get_many(const uint64_t *keys, size_t count, Value *values, cefrodil_answer *answers) noexcept {
+        turns_.call([&](Slot<Words> &slot) {
+            // An open handle has an answer for each key.
+            static_cast<void>(slot.handle.get_many(keys, count, values, answers));
+            const auto is_absent = [](const cefrodil_answer &answer) { return answer.status == CEFRODIL_ABSENT; };
+            Counting::take_back_misses(slot.handle, between_ ? static_cast<uint64_t>(std::count_if(answers, answers + count, is_absent)) : 0);
+        });
+    }
+    // Looks a key up in both tables, in a turn at each, which is no use of it: ok, absent, or held.
+    Answer<Words> peek(uint64_t key) noexcept {
+        return turns_.repeated([&](Slot<Words> &slot) {
+            Answer<Words> answer = slot.handle.try_peek(key);
+            if (answer.status == Status::absent && between_) {
+                answer = slot.small.try_peek(key);
+                // It may have moved.
+                answer = answer.status == Status::absent ? slot.handle.try_peek(key) : answer;
+            }
+            return answer;
+        });
+    }
+    // Whether no table has the key: absent, or else present; held if other threads disturbed this. A lookup may miss the key while it moves, if the
+    // small table evicts it meanwhile. So a write asks this, too.
+    Status lacks(uint64_t key) noexcept {
+        return turns_.repeated([&](Slot<Words> &slot) {
+            return in_place(slot, key, Status::held, [](Place at) { return at == Place::nowhere ? Status::absent : Status::present; });
+        });
+    }
+
+    Written put(uint64_t key, const Value &value) noexcept {
+        return between_ ? put_in_two(key, value) : turns_.write([&](Handle<Words> &handle) { return handle.try_put(key, value); });
+    }
+    Written put_if_absent(uint64_t key, const Value &value) noexcept {
+        return between_ ? put_in_two_if_absent(key, value)
+                        : turns_.write([&](Handle<Words> &handle) { return handle.try_put_if_absent(key, value); });
+    }
+    // `since` is of `get`.
+    Written put_if(uint64_t key, uint64_t since, const Value &value) noexcept {
+        if (!between_) {
+            return turns_.write([&](Handle<Words> &handle) { return handle.try_put_if(key, since, value); });
+        }
+        return change_if(key, since, refused(Status::held), refused(Status::changed), [&](Slot<Words> &, Handle<Words> &handle, uint64_t moment) {
+            return handle.try_put_if(key, moment, value);
+        });
+    }
+    // `since` is of `get`.
+    Status take_if(uint64_t key, uint64_t since) noexcept {
+        if (!between_) {
+            return turns_.removal([&](Handle<Words> &handle) { return handle.try_take_if(key, since).status; });
+        }
+        return change_if(key, since, Status::held, Status::changed, [&](Slot<Words> &slot, Handle<Words> &handle, uint64_t moment) {
+            return removed(slot, handle, handle.try_take_if(key, moment).status);
+        });
+    }
+    // Removes the key from both tables.
+    Status remove(uint64_t key) noexcept {
+        if (!between_) {
+            return turns_.removal([&](Handle<Words> &handle) { return handle.try_remove(key).status; });
+        }
+        return turns_.repeated([&](Slot<Words> &slot) {
+            return in_place(slot, key, Status::held, [&](Place at) {
+                Handle<Words> &handle = at == Place::small ? slot.small : slot.handle;
+                return removed(slot, handle, handle.try_remove(key).status);
+            });
+        });
+    }
+    // Lists all entries: the small table first, from where a key goes to the main one. One that was on its way has come there, too, when that is
+    // listed.
+    Status list(std::vector<uint64_t> &small, std::vector<uint64_t> &main) noexcept {
+        Status status = Status::ok;
+        if (between_) {
+            status = turns_.repeated([&](Slot<Words> &slot) { return slot.small.try_entries(small); });
+            status = status == Status::ok ? wait_for_moves() : status;
+        }
+        return status != Status::ok ? status : turns_.repeated([&](Slot<Words> &slot) { return slot.handle.try_entries(main); });
+    }
+
+    Turns<Words> &turns() noexcept { return turns_; }
+    const Turns<Words> &turns() const noexcept { return turns_; }
+
+  private:
+    // map/SETTINGS has this number, and that of Rust's maps.
+    static constexpr uint32_t small_part = 10;
+    static constexpr uint64_t of_small = uint64_t(1) << 63;
+
+    enum class Place { main, small, nowhere };
+
+    static Written refused(Status status) noexcept { return {status, std::nullopt, 0, 0, false}; }
+
+    // Looks a key up by one slot: ok, absent, busy; present if the small table has it; changed if a key has moved meanwhile, perhaps this one. Then
+    // it is in the main table.
+    Status look(Slot<Words> &slot, uint64_t key, Value &value, cefrodil_reply &reply) noexcept {
+        const Status status = Counting::get_or_turn(slot.handle, key, value, reply);
+        return status == Status::absent && between_ ? look_small(slot, key, value, reply) : status;
+    }
+    [[gnu::cold]] [[gnu::noinline]] Status look_shared(uint64_t key, Value &value, cefrodil_reply &reply) noexcept {
+        return turns_.call([&](Slot<Words> &slot) { return look(slot, key, value, reply); });
+    }
+    // The main table counted a miss. It stays one if the small table lacks the key, too.
+    [[gnu::noinline]] Status look_small(Slot<Words> &slot, uint64_t key, Value &value, cefrodil_reply &reply) noexcept {
+        const cefrodil_status status = cefrodil_get_or_turn_of_width(slot.small.raw(), key, value.data(), Words, &reply);
+        if (status == CEFRODIL_ABSENT && between_->moves.has_lasted(slot.rest)) {
+            return Status::absent;
+        }
+        Counting::take_back_misses(slot.handle, 1);
+        if (status == CEFRODIL_ABSENT) {
+            return Status::changed;
+        }
+        Counting::looked(slot.small, status);
+        reply.since |= of_small;
+        return status == CEFRODIL_OK ? Status::present : static_cast<Status>(status);
+    }
+    // Ends a lookup that neither found the key in the main table nor missed it.
+    [[gnu::cold]] [[gnu::noinline]] Seen go_on(Status status, const Identity &key, uint32_t most, bool moves, Value &value, uint64_t since) noexcept {
+        if (status == Status::busy) {
+            return look_again(key, most, moves, value);
+        }
+        if (status == Status::changed) {
+            return turns_.get(key.index, most, value);
+        }
+        // What is found under the number of another key is no use of that key.
+        if (moves && value[0] == key.check) {
+            promote(key.index, std::min(most, turns_.looks()));
+        }
+        return {Status::ok, since};
+    }
+    Seen look_again(const Identity &key, uint32_t most, bool moves, Value &value) noexcept {
+        cefrodil_reply reply{};
+        const auto again = [&](Slot<Words> &slot) { return look(slot, key.index, value, reply); };
+        const Status status = turns_.repeated_lookup(again, most);
+        const bool has_ended = status == Status::ok || status == Status::absent || status == Status::busy;
+        return has_ended ? Seen{status, reply.since} : go_on(status, key, most, moves, value, reply.since);
+    }
+
+    // Moves a key that was found in the small table to the main one. If another thread writes there now, the next lookup that finds the key tries it.
+    // If so many tries don't take the key out of the small table, both have it, with the same words.
+    void promote(uint64_t key, uint32_t tries) noexcept {
+        const BetweenTables::Guard locked = between_->lock(key);
+        if (!locked) {
+            return;
+        }
+        const Moving moving(between_->moves);
+        Value value;
+        cefrodil_reply found;
+        const auto is_there = [&](Slot<Words> &slot) {
+            return cefrodil_get_or_turn_of_width(slot.small.raw(), key, value.data(), Words, &found) == CEFRODIL_OK;
+        };
+        if (!turns_.call(is_there)) {
+            return;
+        }
+        const Written put = turns_.call([&](Slot<Words> &slot) { return slot.handle.try_put_if_absent(key, value); });
+        // present: an earlier move could not take the key out of the small table.
+        if (put.status != Status::ok && put.status != Status::present) {
+            return;
+        }
+        const auto take = [&](Slot<Words> &slot) { return slot.small.try_take_if(key, found.since).status; };
+        const bool is_taken = within(tries, turns_.call(take), [&] { return turns_.call(take); }) == Status::ok;
+        if (put.evicted) {
+            between_->set_full(true);
+        }
+        const int more = put.status == Status::ok ? !put.evicted : 0;
+        turns_.call([&](Slot<Words> &slot) { return slot.add(more - is_taken); });
+    }
+
+    // Calls with the place of a key, which can't be written meanwhile. `held`: what is returned if other threads disturb this.
+    template <class Answer, class Call> Answer in_place(Slot<Words> &slot, uint64_t key, Answer held, Call call) noexcept {
+        const BetweenTables::Guard locked = between_->lock(key);
+        const std::optional<Place> at = locked ? place(slot, key) : std::nullopt;
+        return at ? call(*at) : held;
+    }
+    // Where the key is, for who has its lock. If it is in the main table, the small one has it no more. None: other threads disturbed this.
+    std::optional<Place> place(Slot<Words> &slot, uint64_t key) noexcept {
+        const cefrodil_status in_main = status_in(slot.handle, key), in_small = status_in(slot.small, key);
+        if (in_main == CEFRODIL_BUSY || in_small == CEFRODIL_BUSY) {
+            return std::nullopt;
+        }
+        if (in_main != CEFRODIL_OK) {
+            return in_small == CEFRODIL_OK ? Place::small : Place::nowhere;
+        }
+        if (in_small == CEFRODIL_OK) {
+            // A move could not take it out.
+            const Status removed = slot.small.try_remove(key).status;
+            if (removed != Status::ok && removed != Status::absent) {
+                return std::nullopt;
+            }
+            slot.add(removed == Status::ok ? -1 : 0);
+        }
+        return Place::main;
+    }
+    // It isn't counted.
+    static cefrodil_status status_in(Handle<Words> &handle, uint64_t key) noexcept {
+        cefrodil_reply reply;
+        Value value;
+        return cefrodil_get_or_turn_of_width(handle.raw(), key, value.data(), Words, &reply);
+    }
+
+    [[gnu::noinline]] Written put_in_two(uint64_t key, const Value &value) noexcept {
+        return turns_.repeated([&](Slot<Words> &slot) {
+            return in_place(slot, key, refused(Status::held), [&](Place at) {
+                switch (at) {
+                case Place::main: return put_main(slot, key, value);
+                case Place::small: return put_small(slot, key, value);
+                default: return admit(slot, key, value);
+                }
+            });
+        });
+    }
+    [[gnu::noinline]] Written put_in_two_if_absent(uint64_t key, const Value &value) noexcept {
+        return turns_.repeated([&](Slot<Words> &slot) {
+            return in_place(slot, key, refused(Status::held), [&](Place at) {
+                return at == Place::nowhere ? admit(slot, key, value) : refused(Status::present);
+            });
+        });
+    }
+    // Puts a new key.
+    Written admit(Slot<Words> &slot, uint64_t key, const Value &value) noexcept {
+        if (!between_->is_full.load(std::memory_order_relaxed) || between_->left.take(key)) {
+            return put_main(slot, key, value);
+        }
+        const Written put = put_small(slot, key, value);
+        return put.status == Status::no_path || put.status == Status::all_recent ? put_main(slot, key, value) : put;
+    }
+    Written put_main(Slot<Words> &slot, uint64_t key, const Value &value) noexcept {
+        const Written put = slot.handle.try_put(key, value);
+        if (put.evicted) {
+            between_->set_full(true);
+        }
+        return counted(slot, put);
+    }
+    Written put_small(Slot<Words> &slot, uint64_t key, const Value &value) noexcept {
+        const Written put = slot.small.try_put(key, value);
+        if (put.evicted) {
+            between_->left.note(*put.evicted);
+        }
+        return counted(slot, put);
+    }
+    static Written counted(Slot<Words> &slot, const Written &put) noexcept {
+        slot.add(put.status == Status::ok && !put.renewed && !put.evicted ? 1 : 0);
+        return put;
+    }
+
+    // Notes a removal. There is room in the main table if it was there.
+    Status removed(Slot<Words> &slot, const Handle<Words> &handle, Status status) noexcept {
+        if (status == Status::ok) {
+            slot.add(-1);
+        }
+        if (status == Status::ok && &handle == &slot.handle) {
+            between_->set_full(false);
+        }
+        return status;
+    }
+
+    // Makes the change in the table of which `since` is. If the key is elsewhere by now, or nowhere, it was changed.
+    template <class Answer, class Change> Answer change_if(uint64_t key, uint64_t since, Answer held, Answer changed, Change change) noexcept {
+        return turns_.repeated([&](Slot<Words> &slot) {
+            return in_place(slot, key, held, [&](Place at) {
+                if (at != (is_of_small(since) ? Place::small : Place::main)) {
+                    return changed;
+                }
+                return change(slot, at == Place::small ? slot.small : slot.handle, since & ~of_small);
+            });
+        });
+    }
+
+    // Each lock once.
+    Status wait_for_moves() noexcept {
+        const auto try_lock = [&](uint64_t key) { return between_->lock(key) ? Status::ok : Status::held; };
+        Status status = Status::ok;
+        for (uint64_t key = 0; key < between_->locks.size() && status == Status::ok; key++) {
+            status = within(turns_.tries(), try_lock(key), [&] { return try_lock(key); });
+        }
+        return status;
+    }
+
+    Turns<Words> turns_{};
+    std::unique_ptr<BetweenTables> between_{};
+};
+
+} // namespace inside
+
+} // namespace cefrodil
+
+#endif

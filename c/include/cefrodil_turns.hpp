@@ -1,0 +1,185 @@
+// Calls by the passes of cefrodil_passes.hpp, for cefrodil_map.hpp. A call that other threads keep from its turn is repeated.
+#ifndef CEFRODIL_TURNS_HPP
+#define CEFRODIL_TURNS_HPP
+
+#include "cefrodil_passes.hpp"
+#include <algorithm>
+#include <array>
+#include <chrono>
+#include <memory>
+#include <thread>
+
+namespace cefrodil {
+
+namespace inside {
+
+// map/SETTINGS has these numbers, and those of Rust's maps.
+// So many repetitions spin at first, and from a later one on a call sleeps before it is repeated.
+inline constexpr uint32_t spins = 7, sleeps_from = 200;
+// How often a lookup is repeated that is a miss if it stays busy.
+inline constexpr uint32_t most_looks = 1000;
+
+// Waits before a call is repeated for this time. At first it spins, each time twice as long. Then it yields, and at last it sleeps: the thread that
+// has the turn may have to wait for a processor.
+inline void wait_before(uint32_t repeat) noexcept {
+    if (repeat < spins) {
+        for (uint32_t step = 0; step < uint32_t(1) << repeat; step++) {
+            __builtin_ia32_pause();
+        }
+    } else if (repeat < sleeps_from) {
+        std::this_thread::yield();
+    } else {
+        std::this_thread::sleep_for(std::chrono::microseconds(100));
+    }
+}
+
+inline bool is_disturbed(Status status) noexcept { return status == Status::busy || status == Status::held; }
+
+// Repeats a call while it is busy or held, so often at most. `status`: that of its first time. Returns that of the last one.
+template <class Call> Status within(uint32_t most, Status status, const Call &call) noexcept {
+    for (uint32_t repeat = 0; repeat < most && is_disturbed(status); repeat++) {
+        wait_before(repeat);
+        status = call();
+    }
+    return status;
+}
+
+// What a lookup came to. ok: the moment of the put of what it found.
+struct Seen {
+    Status status;
+    uint64_t since;
+};
+
+// Calls by the passes of an index. A call that other threads keep from its turn is repeated.
+template <size_t Words> class Turns {
+  public:
+    // 0 shards: as many as these entries ask for.
+    [[nodiscard]] Status open(uint32_t entries, uint32_t asked_shards, uint32_t passes, uint32_t tries, uint32_t mix) noexcept {
+        if (!same_version()) {
+            return Status::other_version;
+        }
+        tries_ = tries;
+        looks_ = std::min(tries, most_looks);
+        const uint32_t shards = asked_shards == 0 ? shards_for(entries) : asked_shards;
+        cefrodil_shape shape{};
+        const Status status = choose(entries, shards, mix, shape);
+        return status == Status::ok ? passes_.open(shape, shards, passes) : status;
+    }
+    // Opens a second index, with as many passes. It has no more shards than were asked for.
+    [[nodiscard]] Status open_small(uint32_t entries, uint32_t asked_shards, uint32_t mix) noexcept {
+        const uint32_t shards = std::min(shards_for(entries), asked_shards == 0 ? most_shards : asked_shards);
+        cefrodil_shape shape{};
+        const Status status = choose(entries, shards, mix, shape);
+        return status == Status::ok ? passes_.open_small(shape, shards) : status;
+    }
+
+    // Looks a key up: ok, absent, or busy if it was that once and then so often. A value that is found is written. By `get_or_turn`, whose export
+    // is shorter.
+    Seen get(uint64_t key, uint32_t most, std::array<uint64_t, Words> &value) noexcept {
+        cefrodil_reply reply;
+        const Status status = passes_.call([&](Slot<Words> &slot) { return Counting::get_or_turn(slot.handle, key, value, reply); });
+        return status == Status::busy ? get_again(key, most, value) : Seen{status, reply.since};
+    }
+
+    // As of Passes.
+    Slot<Words> *own_slot() noexcept { return passes_.own_slot(); }
+    // Makes a call by this thread's slot, or by the shared one.
+    template <class Call> auto call(Call made) noexcept { return passes_.call(made); }
+    // The same, until it is neither busy nor held. An answer may be large, and copies of it would cost, so the loop is not that of `within`.
+    template <class Call> auto repeated(Call call) noexcept { return repeated(call, tries_); }
+    template <class Call> auto repeated(Call call, uint32_t most) noexcept {
+        auto answer = passes_.call(call);
+        for (uint32_t repeat = 0; is_disturbed(status_of(answer)); repeat++) {
+            if (repeat >= most) {
+                give_up(most);
+                break;
+            }
+            wait_before(repeat);
+            answer = passes_.call(call);
+        }
+        return answer;
+    }
+    // The same for a lookup that was busy once.
+    template <class Call> Status repeated_lookup(Call look, uint32_t most) noexcept {
+        const Status status = within(most, Status::busy, [&] { return passes_.call(look); });
+        if (is_disturbed(status)) {
+            give_up(most);
+        }
+        return status;
+    }
+    // Makes a put, and counts a new key.
+    template <class Write> Written write(Write make) noexcept {
+        return repeated([&](Slot<Words> &slot) {
+            const Written tried = make(slot.handle);
+            slot.add(tried.status == Status::ok && !tried.renewed && !tried.evicted ? 1 : 0);
+            return tried;
+        });
+    }
+    // Makes a removal, and counts it.
+    template <class Removal> Status removal(Removal make) noexcept {
+        return repeated([&](Slot<Words> &slot) {
+            const Status status = make(slot.handle);
+            slot.add(status == Status::ok ? -1 : 0);
+            return status;
+        });
+    }
+
+    size_t place() noexcept { return passes_.place(); }
+    uint32_t tries() const noexcept { return tries_; }
+    // How often a lookup is repeated that is a miss if it stays busy.
+    uint32_t looks() const noexcept { return looks_; }
+    uint64_t keys() const noexcept { return static_cast<uint64_t>(std::max<int64_t>(0, passes_.keys())); }
+    uint64_t capacity() const noexcept { return capacity_; }
+    Meter meter() const noexcept { return passes_.shared().meter(); }
+    uint64_t shared_calls() const noexcept { return passes_.shared_calls(); }
+
+  private:
+    // Counts a call that ends without an answer, if it slept.
+    [[gnu::cold]] [[gnu::noinline]] void give_up(uint32_t most) noexcept {
+        const std::shared_ptr<Lines> &lines = Counting::lines(passes_.shared());
+        if (lines && most > sleeps_from) {
+            lines->stalls().give_up();
+        }
+    }
+    [[gnu::cold]] [[gnu::noinline]] Seen get_again(uint64_t key, uint32_t most, std::array<uint64_t, Words> &value) noexcept {
+        cefrodil_reply reply{};
+        const auto again = [&](Slot<Words> &slot) { return Counting::get_or_turn(slot.handle, key, value, reply); };
+        const Status status = repeated_lookup(again, most);
+        return {status, reply.since};
+    }
+
+    // The shape of each of so many shards.
+    [[nodiscard]] Status choose(uint32_t entries, uint32_t shards, uint32_t mix, cefrodil_shape &shape) noexcept {
+        const auto status = static_cast<Status>(cefrodil_shape_for_items(entries, shards, &shape));
+        if (status == Status::ok) {
+            shape.mix = mix;
+            shape.stripes = std::min(shape.stripes, std::max(stripes_of_a_shard, all_stripes / shards));
+            capacity_ += uint64_t(shape.items) * shards;
+        }
+        return status;
+    }
+
+    // The most stripes that all shards have together, but each may have `stripes_of_a_shard`. Each stripe has a version of 8 bytes, and more of them
+    // would leave less room for entries in the processor's caches.
+    static constexpr uint32_t all_stripes = 4096, stripes_of_a_shard = 64;
+
+    // By default a shard has so many entries or more, and there are so many shards at most.
+    static constexpr uint32_t most_shards = 16, entries_of_a_shard = 64;
+    static uint32_t shards_for(uint32_t entries) noexcept {
+        uint32_t shards = 1;
+        while (shards < most_shards && shards * 2 <= entries / entries_of_a_shard) {
+            shards *= 2;
+        }
+        return shards;
+    }
+
+    Passes<Words> passes_{};
+    uint32_t tries_ = 0, looks_ = 0;
+    uint64_t capacity_ = 0;
+};
+
+} // namespace inside
+
+} // namespace cefrodil
+
+#endif
