@@ -10,12 +10,12 @@ most=1
 [ $# -eq 1 ] || { usage >&2 && exit 2; }
 
 mkdir -p "$1"
-built=$(realpath "$1") sources=$top/bench/peers/ratio
+built=$(realpath "$1") sources=$top/bench/peers/costs
 CEFRODIL_LIB=$(realpath "${CEFRODIL_LIB:-$built}")
 export CEFRODIL_LIB
 [ -f "$CEFRODIL_LIB/libcefrodil.a" ] || fail "there is no $CEFRODIL_LIB/libcefrodil.a; c/build builds it"
 g++ -O2 -std=c++17 -I"$top/c/include" "$sources/costs.cpp" "$CEFRODIL_LIB/libcefrodil.a" -lpthread -o "$built/costs_cpp" >&2
-(cd "$sources" && CARGO_TARGET_DIR=$built/target cargo build --quiet --release --offline --bin costs >&2)
+(cd "$sources" && CARGO_TARGET_DIR=$built/target cargo build --quiet --release --offline >&2)
 cp "$built/target/release/costs" "$built/costs_rust"
 
 # instructions WORD..: of so many calls.

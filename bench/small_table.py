@@ -1,8 +1,9 @@
 #!/usr/bin/env python3
-"""How many lookups find their key with a small table for new keys, beside models of other policies.
+"""How many lookups find their key with a small table or queue for new keys, beside models of other policies.
 
-The crate `cefrodil-map` and `cefrodil::map` make the same lookups with one table and with a small one before it. The models are of CLOCK, LRU,
-S3-FIFO, W-TinyLFU with exact counts, and of the two tables. Of 100,000 keys, number n is drawn in proportion to 1 / n ** skew (Zipf). A key that is absent is put.
+`Map` and `ObjectMap` of the crate `cefrodil-map`, `cefrodil::map` and the server make the same lookups, each without and with the small table or
+queue. An `ObjectMap` is bounded by weights. The server gets its commands without a connection. The models are of CLOCK, LRU, S3-FIFO, W-TinyLFU with
+exact counts, and of the two tables. Of 100,000 keys, number n is drawn in proportion to 1 / n ** skew (Zipf). A key that is absent is put.
 
 - plain: nothing else.
 - scans: after every ten lookups an item come as many fresh keys as items, which are never asked for again, and don't count.
@@ -13,7 +14,8 @@ Hits are counted in percent, the first tenth of the lookups left out. It prints 
 
 usage: bench/small_table.py [LOOKUPS]     LOOKUPS: 600,000 unless it says otherwise
 
-CEFRODIL_LIB names the folder of libcefrodil.a; none: that of the release, and nothing of C++. It needs cargo and g++, and takes some seven minutes.
+CEFRODIL_LIB names the folder of libcefrodil.a; none: that of the release, and nothing of C++. It takes some eight minutes. It needs cargo and g++
+and, of Debian: apt-get install librust-mio-dev.
 """
 import array
 import itertools
@@ -25,10 +27,18 @@ import tempfile
 from collections import OrderedDict, deque
 
 from hit_ratios import KEYS, TOP, Lru
+from servers import CRATES
 
 # Keys from here on are never asked for again.
 FRESH = 10 ** 9
 SKEWS, SIZES = (0.7, 0.99), (KEYS // 100, KEYS // 10)
+
+# What each program calls its caches, and the table's heads.
+CACHES = {
+    'Rust': {'map': '`Map`', 'map+': '`Map`, small table', 'objects': '`ObjectMap`, one queue', 'objects+': '`ObjectMap`',
+             'server': 'server, one queue', 'server+': 'server'},
+    'C++': {'1': '`cefrodil::map`', '2': '`cefrodil::map`, small table'},
+}
 
 
 class Clock:
@@ -216,13 +226,14 @@ def of_model(model, keys):
     return ratio(keys, [model.look_up(key) for key in keys])
 
 
-def of_map(program, items, tables, keys):
-    told = subprocess.run([program, str(items), str(tables)], input=array.array('Q', keys).tobytes(), capture_output=True, check=True)
+def of_cache(program, items, cache, keys):
+    told = subprocess.run([program, str(items), cache], input=array.array('Q', keys).tobytes(), capture_output=True, check=True)
     return ratio(keys, [letter == ord('1') for letter in told.stdout.strip()])
 
 
 def built_of_rust(sources):
-    subprocess.run(['cargo', 'build', '--quiet', '--release', '--offline'], cwd=sources, check=True)
+    source = ['--config', 'source.crates-io.replace-with="debian"', '--config', f'source.debian.directory="{CRATES}"']
+    subprocess.run(['cargo', 'build', '--quiet', '--release', '--offline', *source], cwd=sources, check=True)
     return os.path.join(os.environ.get('CARGO_TARGET_DIR', os.path.join(sources, 'target')), 'release/ratio')
 
 
@@ -252,13 +263,13 @@ def main(arguments):
 
 def show(programs, lookups):
     models = {'CLOCK': Clock, 'LRU': Lru, 'S3-FIFO': S3Fifo, 'W-TinyLFU': WTinyLfu, 'two tables': Tables}
-    heads = [f'{name}{tables}' for name in programs for tables in ('', ', small table')]
-    print('|lookups|skew|items|' + '|'.join([*heads, *models]) + '|')
-    print('|---' * (3 + len(heads) + len(models)) + '|')
+    caches = {head: (programs[name], cache) for name in programs for cache, head in CACHES[name].items()}
+    print('|lookups|skew|items|' + '|'.join([*caches, *models]) + '|')
+    print('|---' * (3 + len(caches) + len(models)) + '|')
     cases = [(make, skew, items) for make in (plain, scans, shifts) for skew in SKEWS for items in SIZES]
     for make, skew, items in [*cases, *((news, 1.1, items) for items in SIZES)]:
         keys = list(make(skew, items, lookups))
-        cells = [of_map(program, items, tables, keys) for program in programs.values() for tables in (1, 2)]
+        cells = [of_cache(program, items, cache, keys) for program, cache in caches.values()]
         cells += [of_model(model(items), keys) for model in models.values()]
         print(f'|{make.__name__}|{skew}|{items}|' + '|'.join(cells) + '|', flush=True)
 

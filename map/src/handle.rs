@@ -98,10 +98,15 @@ impl AnyHandle {
 
     /// Whether the key is there. `None`: the lookup was busy.
     pub fn has(&mut self, key: u64) -> Option<bool> {
-        any!(self, handle => match handle.get_or_turn(key) {
-            Reply::Found { .. } => Some(true),
-            Reply::Absent { .. } => Some(false),
-            Reply::Busy => None,
+        any!(self, handle => {
+            // In place, so that no words are copied.
+            let mut reply = Reply::Busy;
+            handle.get_or_turn_into(key, &mut reply);
+            match reply {
+                Reply::Found { .. } => Some(true),
+                Reply::Absent { .. } => Some(false),
+                Reply::Busy => None,
+            }
         })
     }
 

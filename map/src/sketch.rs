@@ -1,9 +1,13 @@
 //! Which keys left a table lately, roughly, in four bits for each of its entries.
-use std::sync::atomic::{AtomicU16, Ordering::Relaxed};
+use std::sync::atomic::{AtomicU16, AtomicUsize, Ordering::Relaxed};
 
 /// A tag of eight bits for each two entries, in rows of two. A key has one row. The next key there is put before it, and the second drives it out.
 /// So the sketch forgets keys, and with a chance of 2 in 255 it takes a key for one that left.
-pub(crate) struct Sketch(Box<[AtomicU16]>);
+pub(crate) struct Sketch {
+    rows: Box<[AtomicU16]>,
+    // So many of them are in use.
+    used: AtomicUsize,
+}
 
 const ENTRIES_OF_A_ROW: usize = 4;
 const BITS_OF_A_TAG: u32 = 8;
@@ -12,7 +16,20 @@ const BITS_OF_A_TAG: u32 = 8;
 impl Sketch {
     /// For a table of so many entries.
     pub fn new(entries: usize) -> Sketch {
-        Sketch((0..entries.div_ceil(ENTRIES_OF_A_ROW)).map(|_| AtomicU16::new(0)).collect())
+        let rows: Box<[_]> = (0..entries.div_ceil(ENTRIES_OF_A_ROW)).map(|_| AtomicU16::new(0)).collect();
+        Sketch { used: AtomicUsize::new(rows.len()), rows }
+    }
+
+    /// The table has so many entries now, and may have had room for many more of them that are smaller. Uses fewer rows then, or else more: a key
+    /// that left long ago should be forgotten. Each change forgets all keys, so there are few: one call doubles or halves the rows.
+    #[cfg(feature = "objects")]
+    pub fn fit(&self, entries: usize) {
+        let (used, wanted) = (self.used.load(Relaxed), entries.div_ceil(ENTRIES_OF_A_ROW).max(1));
+        if used < wanted && used < self.rows.len() {
+            self.used.store((2 * used).min(self.rows.len()), Relaxed);
+        } else if used > 4 * wanted {
+            self.used.store(used / 2, Relaxed);
+        }
     }
 
     /// Notes a key.
@@ -36,7 +53,7 @@ impl Sketch {
     fn place(&self, key: u64) -> (&AtomicU16, u16) {
         // An odd number whose bits look random: keys may be spread badly.
         let mixed = (key ^ key >> 32).wrapping_mul(0x9e37_79b9_7f4a_7c15);
-        let row = ((u128::from(mixed) * self.0.len() as u128) >> 64) as usize;
-        (&self.0[row], 1 + (mixed as u16 >> 4) % 255)
+        let row = ((u128::from(mixed) * self.used.load(Relaxed) as u128) >> 64) as usize;
+        (&self.rows[row], 1 + (mixed as u16 >> 4) % 255)
     }
 }

@@ -117,10 +117,10 @@ impl Connection {
         self.input.bytes.capacity() + self.output.capacity()
     }
 
-    /// Counts large buffers also within a turn. Small ones are the worker's.
+    /// Counts large buffers also within a turn, and that they are gone. Small ones are the worker's.
     fn count_large(&mut self) {
         let capacity = self.capacity();
-        if capacity > LARGE {
+        if capacity > LARGE || self.seat.bytes() > LARGE as u64 {
             self.seat.hold(capacity);
         }
     }
@@ -180,7 +180,9 @@ impl Connection {
         if self.is_dry && !self.is_half_closed {
             return Ok(false);
         }
-        let room = self.input.room(self.needs);
+        self.input.make_room(self.needs);
+        self.count_large();
+        let room = &mut self.input.bytes[self.input.end..];
         match retry(|| self.stream.read(room))? {
             Some(0) => self.is_ending = true,
             Some(count) => {
@@ -254,8 +256,8 @@ impl Input {
         }
     }
 
-    /// Room to read into, if so many bytes must be there. A client can make the buffer twice as large as what it has sent, and no larger.
-    fn room(&mut self, needs: usize) -> &mut [u8] {
+    /// Makes room to read into, if so many bytes must be there. A client can make the buffer twice as large as what it has sent, and no larger.
+    fn make_room(&mut self, needs: usize) {
         if self.start > 0 {
             self.bytes.copy_within(self.start..self.end, 0);
             (self.start, self.end) = (0, self.len());
@@ -264,6 +266,5 @@ impl Input {
         if self.bytes.len() < wanted {
             self.bytes.resize(wanted, 0);
         }
-        &mut self.bytes[self.end..]
     }
 }

@@ -1,5 +1,8 @@
-//! Items that give way: those in the queue for longest that were not read lately.
-use crate::index::{Outcome, Stamp};
+//! Items that give way: those in their queue for longest that were not read lately.
+use crate::ceiling::Expected;
+use crate::index::{Outcome, Refused, Stamp};
+use crate::queue::{Line, Queued};
+use crate::slabs;
 use crate::store::{Fault, Store};
 use std::thread::{sleep, yield_now};
 use std::time::Duration;
@@ -15,7 +18,10 @@ const FAILURES: u32 = 100;
 const WAITS: u32 = 500;
 const WAIT: Duration = Duration::from_micros(200);
 
-/// How many entries a command looks at, at most, if the queue is too long. A removal makes the queue too long by two entries.
+/// How often a command looks at the memory and evicts, at most, if the process exceeds its ceiling.
+const LOOKS_OF_A_PUT: u32 = 4;
+
+/// How many entries a command looks at, at most, if the queues are too long. A removal makes them too long by two entries.
 const TIDIED: u32 = 8;
 
 /// An item that a command is about to replace. It must not give way to the one that replaces it.
@@ -25,32 +31,58 @@ pub(crate) struct Kept {
     pub bytes: u64,
 }
 
-/// What an entry of the queue is.
+/// Whether an item gives way alone, or with its neighbours in memory: then the system gets that memory back.
+#[derive(Clone, Copy, PartialEq, Eq)]
+enum Way {
+    Alone,
+    WithNeighbours,
+}
+
+/// What an entry of a queue is.
 enum Entry {
     Old,
-    Spared,
+    /// It goes to the end of this queue.
+    Spared(Line),
     Victim,
 }
 
 impl Store {
-    /// Makes room for an item, and counts its bytes. If another one is to be kept meanwhile, there must be room for both.
-    pub(crate) fn make_room(&self, bytes: u64, kept: Option<Kept>) -> Result<(), Fault> {
+    /// Makes room for an item, and counts its bytes. If another one is to be kept meanwhile, there must be room for both. Drop what it returns when
+    /// the item was put.
+    pub(crate) fn make_room(&self, bytes: u64, kept: Option<Kept>) -> Result<Option<Expected<'_>>, Fault> {
         if bytes + kept.map_or(0, |kept| kept.bytes) > self.room.limit() {
             return Err(Fault::NoRoom);
         }
         self.room.take(bytes);
-        if self.evict_enough(kept.map(|kept| kept.stamp)) && self.wait_for_frees() {
-            return Ok(());
+        let kept = kept.map(|kept| kept.stamp);
+        let expected = self.look_at_memory(bytes, kept);
+        if self.evict_enough(kept, Way::Alone) && self.wait_for_frees() {
+            return Ok(expected);
         }
         self.room.give_back(bytes);
         Err(Fault::NoRoom)
     }
 
+    /// Looks at the memory of the process if much was put since the last look, with the item that is about to be. If the process exceeds its
+    /// ceiling, items give way with their neighbours.
+    fn look_at_memory(&self, bytes: u64, kept: Option<Stamp>) -> Option<Expected<'_>> {
+        let ceiling = self.ceiling.as_ref().filter(|ceiling| ceiling.is_time(&self.room))?;
+        let expected = ceiling.expect(bytes);
+        for _ in 0..LOOKS_OF_A_PUT {
+            if !ceiling.look(&self.room, self.seats.bytes(), bytes) {
+                break;
+            }
+            self.evict_enough(kept, Way::WithNeighbours);
+            self.index.sweep();
+        }
+        Some(expected)
+    }
+
     /// Removes items until the others are within the limit. Returns whether they are.
-    fn evict_enough(&self, kept: Option<Stamp>) -> bool {
+    fn evict_enough(&self, kept: Option<Stamp>, way: Way) -> bool {
         let mut failed = 0;
         while self.room.is_over() {
-            if self.evict(kept) {
+            if self.evict(kept, way) {
                 continue;
             }
             failed += 1;
@@ -78,27 +110,29 @@ impl Store {
     }
 
     /// Notes that an item was stored.
-    pub(crate) fn enqueue(&self, stamp: Stamp) {
-        self.queue.push(stamp);
+    pub(crate) fn enqueue(&self, queued: Queued<Stamp>) {
+        self.queue.push(queued);
         self.tidy();
     }
 
-    /// Removes one item. Returns whether there was one that could be removed.
-    fn evict(&self, kept: Option<Stamp>) -> bool {
+    /// Removes one item, or also its neighbours. Returns whether there was one that could be removed.
+    fn evict(&self, kept: Option<Stamp>, way: Way) -> bool {
+        let mut from = None;
         for looked in 0..2 * LOOKS {
-            let Some(stamp) = self.queue.pop() else { return false };
-            let entry = if kept == Some(stamp) { Entry::Spared } else { self.judge(stamp, looked < LOOKS) };
-            match entry {
+            let popped = from.map_or_else(|| self.queue.pop(self.room.limit()), |line| self.queue.pop_from(line));
+            let Some(queued) = popped else { return false };
+            if kept == Some(queued.entry) {
+                // All that were before it in its queue were looked at.
+                from = Some(queued.line.other());
+            }
+            match self.judge(queued, kept, looked < LOOKS) {
                 Entry::Old => {}
-                Entry::Spared => self.queue.push(stamp),
-                Entry::Victim => match self.index.remove_stamped(stamp) {
-                    Ok(Outcome::Done(_)) => {
-                        self.room.count_eviction();
-                        return true;
-                    }
-                    Ok(_) => {}
+                Entry::Spared(line) => self.queue.push(Queued { line, ..queued }),
+                Entry::Victim => match self.remove_in(way, queued, kept) {
+                    Ok(true) => return true,
+                    Ok(false) => {}
                     Err(_) => {
-                        self.queue.push(stamp);
+                        self.queue.push(queued);
                         return false;
                     }
                 },
@@ -107,33 +141,79 @@ impl Store {
         false
     }
 
-    fn judge(&self, stamp: Stamp, may_spare: bool) -> Entry {
+    /// Removes an item in this way. One that is kept stays. Returns whether the item was still there.
+    fn remove_in(&self, way: Way, queued: Queued<Stamp>, kept: Option<Stamp>) -> Result<bool, Refused> {
+        let neighbours = if way == Way::WithNeighbours { self.neighbours(queued.entry) } else { Vec::new() };
+        let was_there = self.remove(queued.entry)?;
+        if was_there {
+            self.queue.gave_way(queued, queued.entry.hash);
+        }
+        let stamps = neighbours.into_iter().filter_map(|(hash, at)| self.stamp_at(hash, at));
+        for neighbour in stamps.filter(|stamp| Some(*stamp) != kept) {
+            // If it can't be removed, it stays.
+            let _ = self.remove(neighbour);
+        }
+        Ok(was_there)
+    }
+
+    fn remove(&self, stamp: Stamp) -> Result<bool, Refused> {
+        let was_there = matches!(self.index.remove_stamped(stamp)?, Outcome::Done(_));
+        if was_there {
+            self.room.count_eviction();
+        }
+        Ok(was_there)
+    }
+
+    /// The hashes and addresses of all items that lie in one chunk with this one.
+    fn neighbours(&self, stamp: Stamp) -> Vec<(u64, usize)> {
+        let mut found = Vec::new();
+        self.index.peek_stamped(stamp, &mut |seen| {
+            if let Ok(Some((item, _))) = seen {
+                slabs::look_around(item, |other| found.push((self.index.hash_of(other.key()), slabs::address_of(other))));
+            }
+        });
+        found
+    }
+
+    /// The stamp of the item with this hash, if it lies at this address.
+    fn stamp_at(&self, hash: u64, at: usize) -> Option<Stamp> {
+        let mut stamp = None;
+        self.index.peek(hash, &mut |seen| {
+            if let Ok(Some((item, token))) = seen {
+                stamp = (slabs::address_of(item) == at).then_some(Stamp { hash, token });
+            }
+        });
+        stamp
+    }
+
+    fn judge(&self, queued: Queued<Stamp>, kept: Option<Stamp>, may_spare: bool) -> Entry {
         let mut entry = Entry::Old;
-        self.index.look_stamped(stamp, &mut |seen| {
+        self.index.look_stamped(queued.entry, &mut |seen| {
             entry = match seen {
                 Ok(Some((item, _))) => {
-                    let was_used = item.take_used();
-                    if was_used && may_spare && self.is_live(item) {
-                        Entry::Spared
+                    let is_kept = kept == Some(queued.entry);
+                    if is_kept || (item.take_used() && may_spare && self.is_live(item)) {
+                        item.set_line(Line::Main);
+                        Entry::Spared(Line::Main)
                     } else {
                         Entry::Victim
                     }
                 }
                 Ok(None) => Entry::Old,
-                Err(_) => Entry::Spared,
+                Err(_) => Entry::Spared(queued.line),
             }
         });
         entry
     }
 
-    /// While the queue is too long, looks at its first entries. Those that are not old go to its end.
+    /// While the queues are too long, looks at some of their first entries. Those that are not old go to the end of the same queue.
     pub(crate) fn tidy(&self) {
         for _ in 0..TIDIED {
-            let Some(stamp) = self.queue.pop_if_long(self.room.items()) else { return };
+            let Some(queued) = self.queue.pop_if_long(self.room.items() as usize) else { return };
             let mut is_old = false;
-            self.index.look_stamped(stamp, &mut |seen| is_old = matches!(seen, Ok(None)));
+            self.index.look_stamped(queued.entry, &mut |seen| is_old = matches!(seen, Ok(None)));
             if !is_old {
-                self.queue.push(stamp);
+                self.queue.push(queued);
             }
         }
     }

@@ -28,7 +28,7 @@ impl Store {
     /// Removes the key's item if it has this token and is not live. The turn keeps a new time to live from coming between.
     fn remove_dead(&self, key: &[u8], token: Token) {
         let _turn = self.turns.wait(key);
-        if !matches!(self.find(key, |_, _| ()), Ok(Found::Dead(found)) if found == token) {
+        if !matches!(self.find(key, |_, _| ()), Ok(Found::Dead(found, _)) if found == token) {
             return;
         }
         if matches!(self.index.remove_if(key, token), Ok(Outcome::Done(_))) {
@@ -40,7 +40,7 @@ impl Store {
     pub(crate) fn tidy_up(&self) {
         self.expire();
         if let Some(ceiling) = &self.ceiling {
-            ceiling.look(&self.room, self.seats.bytes());
+            ceiling.look(&self.room, self.seats.bytes(), 0);
         }
     }
 }

@@ -1,7 +1,9 @@
 //! What is stored under a key.
-use cefrodil_map::{Block, Bytes, Head};
+use crate::slabs;
+use cefrodil_map::{Block, Bytes, Head, Line};
+use std::alloc::Layout;
 use std::mem::offset_of;
-use std::sync::atomic::{AtomicBool, AtomicU64, Ordering::Acquire, Ordering::Relaxed, Ordering::SeqCst};
+use std::sync::atomic::{AtomicU64, AtomicU8, Ordering::Acquire, Ordering::Relaxed, Ordering::SeqCst};
 use std::sync::Mutex;
 
 /// A key, its value, and what belongs to them.
@@ -21,15 +23,32 @@ pub struct About {
     pub flags: u32,
     value: u32,
     key: u8,
-    is_used: AtomicBool,
+    /// `USED` and `IN_MAIN`. They are hints: if one thread sees another's change late, another item gives way.
+    marks: AtomicU8,
 }
 
-// SAFETY: `is_used` is the last field, and has one byte. Nobody changes the lengths.
+/// It was read lately.
+const USED: u8 = 1;
+
+/// Its entry is in the main queue.
+const IN_MAIN: u8 = 2;
+
+// SAFETY: `marks` is the last field, and has one byte. Nobody changes the lengths. The memory is that of an allocator.
 unsafe impl Head for About {
-    const SIZE: usize = offset_of!(About, is_used) + 1;
+    const SIZE: usize = offset_of!(About, marks) + 1;
 
     fn lengths(&self) -> (usize, usize) {
         (self.key.into(), self.value as usize)
+    }
+
+    unsafe fn allocate(layout: Layout) -> *mut u8 {
+        // SAFETY: the caller says that it may be called.
+        unsafe { slabs::take(layout) }
+    }
+
+    unsafe fn deallocate(at: *mut u8, layout: Layout) {
+        // SAFETY: as above.
+        unsafe { slabs::give_back(at, layout) }
     }
 }
 
@@ -42,9 +61,11 @@ pub fn new_item(born: u64, flags: u32, deadline: u64, key: &[u8], value: &[&[u8]
         flags,
         value: length.try_into().expect("the longest value has 128 MB"),
         key: key.len().try_into().expect("the longest key has 250 bytes"),
-        is_used: AtomicBool::new(false),
+        marks: AtomicU8::new(0),
     };
-    NewItem::new(about, key, value)
+    let item = NewItem::new(about, key, value);
+    slabs::note(&item);
+    item
 }
 
 /// Which items `flush_all` has made invalid: those that are no younger than one of these times, once it has come.
@@ -76,15 +97,30 @@ impl About {
 
     /// Notes that it was read.
     pub fn mark_used(&self) {
-        // A hint, here and below. If one thread sees another's mark late, another item gives way.
-        if !self.is_used.load(Relaxed) {
-            self.is_used.store(true, Relaxed);
+        if self.marks.load(Relaxed) & USED == 0 {
+            self.marks.fetch_or(USED, Relaxed);
         }
     }
 
     /// Whether it was read since the last call of this.
     pub fn take_used(&self) -> bool {
-        self.is_used.swap(false, Relaxed)
+        self.marks.fetch_and(!USED, Relaxed) & USED != 0
+    }
+
+    /// The queue that has its entry.
+    pub fn line(&self) -> Line {
+        if self.marks.load(Relaxed) & IN_MAIN == 0 {
+            Line::Small
+        } else {
+            Line::Main
+        }
+    }
+
+    /// Notes the queue that gets its entry. None moves from the main queue to the small one.
+    pub fn set_line(&self, line: Line) {
+        if line == Line::Main {
+            self.marks.fetch_or(IN_MAIN, Relaxed);
+        }
     }
 }
 

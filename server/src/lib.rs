@@ -28,6 +28,7 @@ pub mod room;
 pub mod seat;
 pub mod server;
 mod signal;
+pub mod slabs;
 mod stats;
 pub mod store;
 mod turn;

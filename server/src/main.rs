@@ -8,6 +8,7 @@ use cefrodild::objects::Objects;
 use cefrodild::options::{parse, Asked, Options, HELP};
 use cefrodild::room::Room;
 use cefrodild::server::Server;
+use cefrodild::slabs;
 use cefrodild::store::Store;
 use std::env;
 use std::error::Error;
@@ -18,6 +19,9 @@ use std::sync::Arc;
 
 /// The process may take this part of the memory limit beside it: for what is no item and no part of the index, and for the allocator's loss.
 const PART_OF_LOSS: usize = 10;
+
+/// For small items, addresses of so many times the memory limit are reserved.
+const ADDRESSES: usize = 2;
 
 fn main() -> ExitCode {
     let words = env::args_os().skip(1).map(OsString::into_string).collect::<Result<Vec<String>, OsString>>();
@@ -53,6 +57,11 @@ fn serve(options: Options) -> Result<(), Box<dyn Error>> {
     let Options { listen, threads, memory, items, connections, .. } = options;
     files::make_room(connections, threads)?;
     allocator::set_up();
+    if let Err(why) = slabs::set_up(ADDRESSES * memory) {
+        complain(format_args!(
+            "no addresses for small items: {why}. When the sizes of values change, the server may take more memory"
+        ));
+    }
     let log = options.audit.as_deref().map(Audit::create).transpose()?.map(Arc::new);
     let room = Arc::new(Room::new(0));
     let index = Objects::open(items, threads, &room, log.clone())?;

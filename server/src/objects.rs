@@ -141,15 +141,13 @@ impl Index for Objects {
         });
     }
 
-    fn peek_stamped(&self, stamp: Stamp, see: &mut dyn FnMut(Seen<'_>)) {
-        self.map.peek_hash(stamp.hash, |found| {
-            see(answers::seen(found).map(|seen| seen.filter(|(_, token)| *token == stamp.token)));
-        });
+    fn peek(&self, hash: u64, see: &mut dyn FnMut(Seen<'_>)) {
+        self.map.peek_hash(hash, |found| see(answers::seen(found)));
     }
 
-    fn put(&self, item: NewItem) -> Result<Token, Refused> {
+    fn put(&self, item: NewItem, see: &mut dyn FnMut(&Item, Option<&Item>)) -> Result<Token, Refused> {
         let logged = self.logged(&item);
-        let put = self.map.put(item).map_err(answers::of_put)?;
+        let (put, ()) = self.map.put_seen(item, see).map_err(answers::of_put)?;
         self.log_put(logged, put);
         Ok(put.at)
     }

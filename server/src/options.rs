@@ -14,6 +14,7 @@ cefrodild: a cache server that speaks memcached's text protocol
 -n, --items=N          most items, up to 768000000 (about one for each 162 bytes of the memory limit)
 -c, --conn-limit=N     most connections at a time (1024)
 -I, --max-item-size=N  longest value in bytes, or with k or m behind it, 1k to 128m (1m)
+    --one-queue        no small queue for new keys: items give way by age and use alone
     --audit=FILE       log changes and answers for mccheck; one shard
 -h, --help             print this
 -V, --version          print the version
@@ -47,6 +48,8 @@ pub struct Options {
     pub connections: usize,
     /// The longest value.
     pub longest: usize,
+    /// Whether new keys have no small queue of their own.
+    pub one_queue: bool,
     /// Where the log for `mccheck` goes.
     pub audit: Option<String>,
 }
@@ -60,7 +63,7 @@ pub enum Asked {
 }
 
 /// The names of an option: its letter, its long name, and whether a value follows.
-const NAMES: [(char, &str, bool); 11] = [
+const NAMES: [(char, &str, bool); 12] = [
     ('p', "port", true),
     ('l', "listen", true),
     ('U', "udp-port", true),
@@ -69,16 +72,21 @@ const NAMES: [(char, &str, bool); 11] = [
     ('n', "items", true),
     ('c', "conn-limit", true),
     ('I', "max-item-size", true),
+    ('Q', "one-queue", false),
     ('A', "audit", true),
     ('h', "help", false),
     ('V', "version", false),
 ];
 
+/// The letters of options that have a long name alone.
+const UNUSED: [char; 2] = ['A', 'Q'];
+
 /// Reads the words of the command line, without the program's name.
 pub fn parse(words: impl IntoIterator<Item = String>) -> Result<Asked, String> {
     let mut words = words.into_iter();
     let (mut port, mut address) = (11211, IpAddr::V4(Ipv4Addr::LOCALHOST));
-    let (mut threads, mut megabytes, mut items, mut connections, mut longest, mut audit) = (4, 64, None, 1024, MEGABYTE, None);
+    let (mut threads, mut megabytes, mut items, mut connections, mut longest) = (4, 64, None, 1024, MEGABYTE);
+    let (mut one_queue, mut audit) = (false, None);
     while let Some(word) = words.next() {
         let (letter, value) = option(&word, &mut words)?;
         match letter {
@@ -90,6 +98,7 @@ pub fn parse(words: impl IntoIterator<Item = String>) -> Result<Asked, String> {
             'n' => items = Some(within(&word, &value, 1..=MOST_ITEMS)?),
             'c' => connections = within(&word, &value, 1..=1 << 20)?,
             'I' => longest = size(&word, &value)?,
+            'Q' => one_queue = true,
             'A' => audit = Some(value),
             'h' => return Ok(Asked::Help),
             _ => return Ok(Asked::Version),
@@ -105,7 +114,7 @@ pub fn parse(words: impl IntoIterator<Item = String>) -> Result<Asked, String> {
     if items > memory / PART_OF_INDEX / BYTES_OF_AN_ENTRY {
         return Err(format!("-n: the index of {items} items would take half of the memory limit, or more"));
     }
-    Ok(Asked::Serve(Options { listen, threads, memory, items, connections, longest, audit }))
+    Ok(Asked::Serve(Options { listen, threads, memory, items, connections, longest, one_queue, audit }))
 }
 
 /// How many items the index has if nothing says how many. If that is less than a fourth above what fills tables well, it is that.
@@ -128,7 +137,7 @@ fn option(word: &str, words: &mut impl Iterator<Item = String>) -> Result<(char,
         (NAMES.iter().find(|(_, known, _)| *known == name), value)
     } else {
         let short = word.strip_prefix('-').ok_or_else(unknown)?;
-        let letter = short.chars().next().filter(|letter| *letter != 'A').ok_or_else(unknown)?;
+        let letter = short.chars().next().filter(|letter| !UNUSED.contains(letter)).ok_or_else(unknown)?;
         let value = Some(&short[letter.len_utf8()..]).filter(|value| !value.is_empty());
         (NAMES.iter().find(|(known, ..)| *known == letter), value)
     };

@@ -1,12 +1,11 @@
 //! The memory of items: how much they may take, and how much they do.
 use std::sync::atomic::{AtomicU64, Ordering::Relaxed};
 
-/// What an item takes beside its key and its value: 26 bytes before them, what the allocator adds (8 bytes, and up to 15 to round them up), and
-/// 16 for its place in the queue.
+/// What an item takes beside its key and its value: 26 bytes before them, 16 for its place in the queue, and about 16 that an allocator adds.
 const OVERHEAD: u64 = 58;
 
 /// Items that have left and are not freed yet may take this part of the limit, beside what it leaves.
-const PART_OF_RESERVE: u64 = 16;
+const PART_OF_RESERVE: u64 = 32;
 
 /// If they take more than this part, it is looked whether they can be freed.
 const PART_OF_WAITING: u64 = 128;
@@ -110,9 +109,13 @@ impl Room {
         self.waiting() > self.limit() / PART_OF_WAITING
     }
 
+    /// The bytes that items may take which have left and are not freed yet, beside the limit.
+    pub fn reserve(&self) -> u64 {
+        self.limit() / PART_OF_RESERVE
+    }
+
     /// Whether no item may be put before some are freed that have left.
     pub fn is_crowded(&self) -> bool {
-        let limit = self.limit();
-        self.allocated.load(Relaxed) > limit + limit / PART_OF_RESERVE
+        self.allocated.load(Relaxed) > self.limit() + self.reserve()
     }
 }

@@ -5,7 +5,7 @@ use crate::counts::{Count, Counts};
 use crate::index::{Index, Refused, Token};
 use crate::item::{Flushes, Item};
 use crate::options::Options;
-use crate::queue::Queue;
+use crate::queue::{Line, Queue};
 use crate::room::Room;
 use crate::seat::Seats;
 use crate::turn::Turns;
@@ -68,7 +68,7 @@ pub enum Changed {
 /// What is under a key.
 pub(crate) enum Found<T> {
     Live(T, Token),
-    Dead(Token),
+    Dead(Token, Line),
     Absent,
 }
 
@@ -83,7 +83,8 @@ impl Store {
     pub fn new(index: Box<dyn Index>, room: Arc<Room>, options: Options) -> Store {
         // The last place is that of the thread that accepts connections.
         let counts = Counts::new(options.threads + 1);
-        let (clock, queue, turns, flushes) = (Clock::new(), Queue::default(), Turns::default(), Flushes::default());
+        let (clock, turns, flushes) = (Clock::new(), Turns::default(), Flushes::default());
+        let queue = if options.one_queue { Queue::one() } else { Queue::new(options.items) };
         let seats = Seats::new(options.connections, options.memory / PART_OF_BUFFERS);
         Store { index, counts, clock, room, ceiling: None, queue, turns, flushes, seats, options }
     }
@@ -91,13 +92,6 @@ impl Store {
     /// The same store, whose items get less room if the process exceeds this ceiling.
     pub fn below(self, ceiling: Ceiling) -> Store {
         Store { ceiling: Some(ceiling), ..self }
-    }
-
-    /// Looks at the memory of the process if much was put since that was done last.
-    pub(crate) fn look_at_memory(&self) {
-        if let Some(ceiling) = &self.ceiling {
-            ceiling.look_at_times(&self.room, self.seats.bytes());
-        }
     }
 
     /// Looks the keys up in order, and calls `each` with the position of each that has a value. It returns whether it goes on: if not, the
@@ -156,7 +150,7 @@ impl Store {
                 (Ok(Some((item, token))), Some(see)) if item.is_live(now, &self.flushes) => {
                     Ok(Found::Live(see(item, now), token))
                 }
-                (Ok(Some((_, token))), _) => Ok(Found::Dead(token)),
+                (Ok(Some((item, token))), _) => Ok(Found::Dead(token, item.line())),
                 (Ok(None), _) => Ok(Found::Absent),
                 (Err(_), _) => {
                     self.counts.add(Count::Busy);

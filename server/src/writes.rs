@@ -4,6 +4,7 @@ use crate::evict::Kept;
 use crate::index::{Outcome, Refused, Stamp, Token};
 use crate::item::{new_item, Item, NewItem};
 use crate::number;
+use crate::queue::{Line, Queued};
 use crate::request::{Change, How, Order};
 use crate::room::cost;
 use crate::store::{Answer, Changed, Fault, Found, Store};
@@ -38,7 +39,14 @@ impl Store {
 
     fn set(&self, order: &Order, data: &[u8]) -> Result<Answer, Fault> {
         let born = self.clock.now();
-        let put = self.put(order.key, data.len(), None, || self.index.put(self.fresh(order, born, data)).map(Outcome::Done))?;
+        let put = self.put(order.key, data.len(), None, |hash| {
+            let mut line = Line::Main;
+            let token = self.index.put(self.fresh(order, born, data), &mut |item, old| {
+                line = old.map_or_else(|| self.queue.line_of_new(hash), |old| old.line());
+                item.set_line(line);
+            })?;
+            Ok((Outcome::Done(token), line))
+        })?;
         Ok(put.map_or(Answer::NotStored, Answer::Done))
     }
 
@@ -61,15 +69,17 @@ impl Store {
         for _ in 0..TRIES {
             let found = self.find(order.key, |item, now| {
                 item.mark_used();
-                (self.over(order, data, item, now), item.value().len())
+                let next = self.over(order, data, item, now);
+                next.set_line(item.line());
+                (next, item.value().len())
             })?;
             let (next, over) = match (found, order.how, order.compare) {
-                (Found::Absent | Found::Dead(_), How::Set | How::Replace, Some(_)) => return Ok(Answer::NotFound),
+                (Found::Absent | Found::Dead(..), How::Set | How::Replace, Some(_)) => return Ok(Answer::NotFound),
                 (Found::Live(..), How::Add, _) => return Ok(Answer::NotStored),
                 (Found::Live(_, token), _, Some(compare)) if token != compare => return Ok(Answer::Exists),
-                (Found::Absent | Found::Dead(_), How::Replace | How::Append | How::Prepend, _) => return Ok(Answer::NotStored),
+                (Found::Absent | Found::Dead(..), How::Replace | How::Append | How::Prepend, _) => return Ok(Answer::NotStored),
                 (Found::Absent, ..) => (self.fresh(order, self.clock.now(), data), Found::Absent),
-                (Found::Dead(token), ..) => (self.fresh(order, self.clock.now(), data), Found::Dead(token)),
+                (Found::Dead(token, line), ..) => (self.fresh(order, self.clock.now(), data), Found::Dead(token, line)),
                 (Found::Live((next, length), token), ..) => (next, Found::Live(length, token)),
             };
             if next.value().len() > self.options.longest {
@@ -86,11 +96,20 @@ impl Store {
     fn put_over(&self, key: &[u8], found: Found<usize>, next: NewItem) -> Result<Option<Token>, Fault> {
         let kept = match found {
             Found::Live(length, token) => Some(Kept { stamp: self.stamp(key, token), bytes: cost(key.len(), length) }),
-            Found::Dead(_) | Found::Absent => None,
+            Found::Dead(..) | Found::Absent => None,
         };
-        self.put(key, next.value().len(), kept, || match found {
-            Found::Live(_, token) | Found::Dead(token) => self.index.put_if(token, next),
-            Found::Absent => self.index.put_new(next),
+        self.put(key, next.value().len(), kept, |hash| {
+            match found {
+                Found::Live(..) => {}
+                Found::Dead(_, line) => next.set_line(line),
+                Found::Absent => next.set_line(self.queue.line_of_new(hash)),
+            }
+            let line = next.line();
+            let outcome = match found {
+                Found::Live(_, token) | Found::Dead(token, _) => self.index.put_if(token, next),
+                Found::Absent => self.index.put_new(next),
+            };
+            Ok((outcome?, line))
         })
     }
 
@@ -98,23 +117,23 @@ impl Store {
         Stamp { hash: self.index.hash_of(key), token }
     }
 
-    /// Makes room for an item with a value of this length, and puts it.
+    /// Makes room for an item with a value of this length, and puts it. `put` gets the key's hash, and returns the item's queue.
     fn put(
         &self,
         key: &[u8],
         length: usize,
         kept: Option<Kept>,
-        put: impl FnOnce() -> Result<Outcome, Refused>,
+        put: impl FnOnce(u64) -> Result<(Outcome, Line), Refused>,
     ) -> Result<Option<Token>, Fault> {
-        let bytes = cost(key.len(), length);
-        self.make_room(bytes, kept)?;
-        let outcome = put();
+        let (bytes, hash) = (cost(key.len(), length), self.index.hash_of(key));
+        let expected = self.make_room(bytes, kept)?;
+        let outcome = put(hash);
+        drop(expected);
         if length >= LARGE {
             self.index.sweep();
         }
-        if let Ok(Outcome::Done(token)) = outcome {
-            self.enqueue(self.stamp(key, token));
-            self.look_at_memory();
+        if let Ok((Outcome::Done(token), line)) = outcome {
+            self.enqueue(Queued { entry: Stamp { hash, token }, line, weight: bytes });
             return Ok(Some(token));
         }
         self.room.give_back(bytes);
@@ -132,7 +151,7 @@ impl Store {
         Ok(match self.delete_if(key, |token| compare.is_none_or(|compare| compare == token))? {
             Found::Live(true, token) => Answer::Done(token),
             Found::Live(false, _) => Answer::Exists,
-            Found::Dead(_) | Found::Absent => Answer::NotFound,
+            Found::Dead(..) | Found::Absent => Answer::NotFound,
         })
     }
 
@@ -143,12 +162,15 @@ impl Store {
             let token = match found {
                 Found::Absent => return Ok(Found::Absent),
                 Found::Live((), token) if !is_meant(token) => return Ok(Found::Live(false, token)),
-                Found::Live((), token) | Found::Dead(token) => token,
+                Found::Live((), token) | Found::Dead(token, _) => token,
             };
             match self.index.remove_if(key, token) {
                 Ok(Outcome::Done(_)) => {
                     self.tidy();
-                    return Ok(if matches!(found, Found::Live(..)) { Found::Live(true, token) } else { Found::Dead(token) });
+                    return Ok(match found {
+                        Found::Dead(token, line) => Found::Dead(token, line),
+                        _ => Found::Live(true, token),
+                    });
                 }
                 Ok(Outcome::Absent) => return Ok(Found::Absent),
                 Ok(Outcome::Changed) => {}
@@ -167,10 +189,11 @@ impl Store {
                 let number = change.of(number::unsigned(item.value())?);
                 let deadline = deadline.unwrap_or(item.deadline());
                 let next = new_item(born, item.flags, deadline, key, &[number.to_string().as_bytes()]);
+                next.set_line(item.line());
                 Some((next, number, item.value().len()))
             })?;
             let (next, number, length, token) = match found {
-                Found::Absent | Found::Dead(_) => return Ok(Changed::NotFound),
+                Found::Absent | Found::Dead(..) => return Ok(Changed::NotFound),
                 Found::Live(_, token) if compare.is_some_and(|compare| compare != token) => return Ok(Changed::Exists),
                 Found::Live(None, _) => return Ok(Changed::NotNumeric),
                 Found::Live(Some((next, number, length)), token) => (next, number, length, token),

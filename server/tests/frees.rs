@@ -58,7 +58,7 @@ fn what_waits_for_a_reader_is_bounded() {
                         refused += 1;
                     }
                 }
-                assert!(store.room.used() + store.room.waiting() <= LIMIT + LIMIT / 16);
+                assert!(store.room.used() + store.room.waiting() <= LIMIT + LIMIT / 32);
                 if refused > 0 {
                     break;
                 }

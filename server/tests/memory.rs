@@ -1,6 +1,6 @@
 //! The memory of items: what is counted, what gives way, and what the queue keeps.
 mod plain;
-use cefrodild::queue::{ENTRIES_OF_AN_ITEM, SPARE_ENTRIES};
+use cefrodild::queue::Queue;
 use cefrodild::room::cost;
 use plain::client::{Client, MEGABYTE};
 use std::sync::atomic::Ordering::SeqCst;
@@ -10,6 +10,11 @@ const FULL: &str = "SERVER_ERROR out of memory storing object\n";
 /// A client with room for so many items that have keys and values of one byte, and for some bytes more.
 fn room_for(items: u64, more: u64) -> Client {
     Client::new((items * cost(1, 1) + more) as usize)
+}
+
+/// The same, with one queue.
+fn one_queue_for(items: u64, more: u64) -> Client {
+    Client::with((items * cost(1, 1) + more) as usize, "-t1 --one-queue")
 }
 
 /// Stores these keys with a value of one byte.
@@ -25,7 +30,7 @@ fn there(client: &mut Client, keys: &str) -> String {
 }
 
 fn most_entries(client: &Client) -> usize {
-    ENTRIES_OF_AN_ITEM * client.store.room.items() as usize + SPARE_ENTRIES
+    Queue::MOST_EACH * client.store.room.items() as usize + Queue::SPARE
 }
 
 #[test]
@@ -58,7 +63,7 @@ fn the_queue_forgets_items_that_were_deleted() {
         // It may lag behind a little.
         assert!(client.store.queue.entries() <= most_entries(&client) + ITEMS / 10);
     }
-    assert!(client.store.queue.entries() <= SPARE_ENTRIES);
+    assert!(client.store.queue.entries() <= Queue::SPARE);
     assert!(client.store.queue.capacity() < ITEMS / 2, "its memory is given back, too");
 }
 
@@ -86,7 +91,7 @@ fn the_queue_forgets_no_item_that_is_there() {
 
 #[test]
 fn a_read_spares_an_item_once() {
-    let mut client = room_for(2, 0);
+    let mut client = one_queue_for(2, 0);
     set(&mut client, "ab");
     there(&mut client, "a");
     set(&mut client, "c");
@@ -175,7 +180,7 @@ fn the_queue_forgets_no_item_that_could_not_be_looked_at() {
 
 #[test]
 fn an_item_that_a_command_could_not_change_gives_way_in_its_turn() {
-    let mut client = room_for(2, 1);
+    let mut client = one_queue_for(2, 1);
     set(&mut client, "ab");
     client.control.refuses_puts.store(true, SeqCst);
     assert_eq!(client.ask("incr a 5\n"), FULL);
@@ -216,7 +221,7 @@ fn the_item_that_a_command_changes_does_not_give_way_to_it() {
 #[test]
 fn an_item_that_was_changed_gives_way_in_its_turn() {
     for (change, answer) in CHANGES {
-        let mut client = room_for(2, 1);
+        let mut client = one_queue_for(2, 1);
         set(&mut client, "a");
         assert_eq!(client.ask(change), answer, "{change}");
         set(&mut client, "bcd");

@@ -9,7 +9,7 @@ use std::sync::Arc;
 /// Puts an item with these flags.
 fn put(objects: &Objects, room: &Room, key: &[u8], flags: u32) -> Token {
     room.take(cost(key.len(), 1));
-    objects.put(new_item(1, flags, u64::MAX, key, &[&[0]])).expect("there is room")
+    objects.put(new_item(1, flags, u64::MAX, key, &[&[0]]), &mut |_, _| {}).expect("there is room")
 }
 
 /// The flags of the item with this stamp, if it is there.
@@ -136,4 +136,20 @@ fn the_more_items_the_more_shards() {
         assert_eq!(shards_for(items), shards, "{items}");
         assert!(cefrodil::Shape::for_items(items as u32, shards.unwrap_or(16)).is_ok(), "{items}");
     }
+}
+
+#[test]
+fn a_put_shows_the_item_that_it_replaces() {
+    let room = Arc::new(Room::new(1 << 20));
+    let objects = Objects::open(1000, 1, &room, None).expect("there is memory");
+    for (flags, replaced) in [(1, None), (2, Some(1)), (3, Some(2))] {
+        let mut seen = None;
+        room.take(cost(3, 1));
+        let put = objects.put(new_item(1, flags, u64::MAX, b"key", &[&[0]]), &mut |item, old| {
+            seen = Some((item.flags, old.map(|old| old.flags)));
+        });
+        assert!(put.is_ok());
+        assert_eq!(seen, Some((flags, replaced)));
+    }
+    assert_eq!((room.items(), room.used()), (1, cost(3, 1)));
 }

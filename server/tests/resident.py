@@ -48,6 +48,21 @@ def sizes_change(program):
     assert highest < MOST * MEMORY * MEGABYTE, f'{highest / MEGABYTE:.1f} MB of {MEMORY}'
 
 
+def large_values_follow_small_ones(program):
+    """The small items are stored in an order of their own, so in memory old ones lie among new ones."""
+    draw, highest = random.Random(1), 0
+    with running(program, '-m', str(MEMORY // 2)) as (server, port), connect(port) as client:
+        for _ in range(1_500):
+            commands = [b'set k%d 0 0 %d noreply\r\n%s\r\n' % (draw.randrange(300_000), length, b'v' * length)
+                        for length in (int(1_000 ** draw.random()) for _ in range(200))]
+            assert ask(client, b''.join(commands) + b'mn\r\n') == b'MN\r\n'
+        for key in range(60):
+            length = draw.randint(500_000, 1_000_000)
+            assert ask(client, b'set large%d 0 0 %d\r\n%s\r\n' % (key, length, b'v' * length)) == b'STORED\r\n'
+            highest = max(highest, memory_of(server))
+    assert highest < MOST * MEMORY * MEGABYTE / 2, f'{highest / MEGABYTE:.1f} MB of {MEMORY // 2}'
+
+
 def unfinished_values(program):
     """Clients that don't finish their values are cut off when they hold half of -m. Others are served meanwhile."""
     most, part = 8 * MEGABYTE, b'v' * 900_000
@@ -85,6 +100,6 @@ def wait_for(client, is_met):
     raise AssertionError(found)
 
 
-for test in [expired_items_go, unfinished_values, sizes_change]:
+for test in [expired_items_go, unfinished_values, sizes_change, large_values_follow_small_ones]:
     test(sys.argv[1])
-print('resident: 3 tests: ok')
+print('resident: 4 tests: ok')

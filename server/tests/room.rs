@@ -1,12 +1,6 @@
-//! The bytes of items, the queue, and the seats of clients, each by itself.
-use cefrodild::index::Stamp;
-use cefrodild::queue::{Queue, ENTRIES_OF_AN_ITEM, SPARE_ENTRIES};
+//! The bytes of items and the seats of clients, each by itself.
 use cefrodild::room::Room;
 use cefrodild::seat::Seats;
-
-fn stamp(token: u64) -> Stamp {
-    Stamp { hash: 7, token }
-}
 
 #[test]
 fn bytes_and_items_are_added_and_subtracted() {
@@ -26,18 +20,18 @@ fn bytes_and_items_are_added_and_subtracted() {
 
 #[test]
 fn what_has_left_is_counted_until_it_is_freed() {
-    let room = Room::new(160);
+    let room = Room::new(320);
     let state = || (room.used(), room.waiting(), room.items(), room.is_crowded());
-    room.take(160);
-    room.leave(160);
-    assert_eq!(state(), (0, 160, 0, false));
+    room.take(320);
+    room.leave(320);
+    assert_eq!(state(), (0, 320, 0, false));
     room.take(10);
-    assert_eq!(state(), (10, 160, 1, false), "a sixteenth of the limit is beside it");
+    assert_eq!(state(), (10, 320, 1, false), "a part of the limit is beside it");
     room.take(1);
-    assert_eq!(state(), (11, 160, 2, true));
-    room.free(160);
+    assert_eq!(state(), (11, 320, 2, true));
+    room.free(320);
     assert_eq!(state(), (11, 0, 2, false));
-    assert_eq!(room.taken(), 171);
+    assert_eq!(room.taken(), 331);
 }
 
 #[test]
@@ -56,56 +50,6 @@ fn what_gave_way_is_counted() {
     assert_eq!(room.evicted(), 0);
     (0..3).for_each(|_| room.count_eviction());
     assert_eq!(room.evicted(), 3);
-}
-
-#[test]
-fn the_queue_is_in_order() {
-    let queue = Queue::default();
-    assert_eq!((queue.pop(), queue.entries()), (None, 0));
-    (1..=3).for_each(|token| queue.push(stamp(token)));
-    assert_eq!(queue.entries(), 3);
-    assert_eq!([queue.pop(), queue.pop()], [Some(stamp(1)), Some(stamp(2))]);
-    queue.push(stamp(4));
-    assert_eq!([queue.pop(), queue.pop(), queue.pop()], [Some(stamp(3)), Some(stamp(4)), None]);
-}
-
-#[test]
-fn the_queue_is_long_from_so_many_entries_on() {
-    let (queue, items) = (Queue::default(), 10);
-    let most = ENTRIES_OF_AN_ITEM * items + SPARE_ENTRIES;
-    (0..most as u64).for_each(|token| queue.push(stamp(token)));
-    assert_eq!(queue.pop_if_long(items as u64), None);
-    queue.push(stamp(most as u64));
-    assert_eq!((queue.pop_if_long(items as u64), queue.pop_if_long(items as u64)), (Some(stamp(0)), None));
-    assert_eq!((queue.pop_if_long(items as u64 - 1), queue.entries()), (Some(stamp(1)), most - 1));
-}
-
-#[test]
-fn an_empty_queue_gives_memory_back() {
-    let queue = Queue::default();
-    (0..100_000).for_each(|token| queue.push(stamp(token)));
-    assert!(queue.capacity() >= 100_000);
-    for token in 0..100_000 {
-        assert_eq!(queue.pop(), Some(stamp(token)));
-    }
-    assert!(queue.capacity() <= 4 * SPARE_ENTRIES, "{}", queue.capacity());
-}
-
-#[test]
-fn all_entries_are_looked_at_in_turn() {
-    let queue = Queue::default();
-    assert_eq!(queue.look(10), []);
-    (1..=5_000).for_each(|token| queue.push(stamp(token)));
-    let look = |most| queue.look(most).iter().map(|stamp| stamp.token).collect::<Vec<_>>();
-    assert_eq!(look(2_000), (1..=2_000).collect::<Vec<_>>());
-    (0..100).for_each(|_| assert!(queue.pop().is_some()));
-    assert_eq!(look(2_000), (2_001..=4_000).collect::<Vec<_>>());
-    (0..4_500).for_each(|_| assert!(queue.pop().is_some()));
-    queue.push(stamp(5_001));
-    assert_eq!(look(300), (4_601..=4_900).collect::<Vec<_>>(), "those before are gone");
-    assert_eq!(look(300), (4_901..=5_001).collect::<Vec<_>>());
-    assert_eq!(look(2), [4_601, 4_602], "then it begins again");
-    assert_eq!(queue.entries(), 401);
 }
 
 #[test]

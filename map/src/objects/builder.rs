@@ -3,7 +3,8 @@ use super::epochs::Epochs;
 use super::inner::{ObjectInner, Stripe};
 use super::map::ObjectMap;
 use super::object::{Held, Object};
-use super::weights::Weights;
+use super::queues::Queues;
+use super::weights::{Weigher, Weights};
 use crate::clock::Clock;
 use crate::error::OpenError;
 use crate::flight::Flights;
@@ -46,12 +47,22 @@ pub(crate) type Freed<O> = Box<dyn Fn(&O) + Send + Sync>;
 pub(crate) struct Hears<O> {
     pub listener: Option<Listener<O>>,
     pub freed: Option<Freed<O>>,
-    pub weights: Option<Weights<O>>,
+    /// What they may weigh together, and what weighs them.
+    pub weigher: Option<(u64, Weigher<O>)>,
+    /// Whether new objects have no queue of their own.
+    pub one_queue: bool,
 }
 
 impl<O> Hears<O> {
     pub fn nothing() -> Hears<O> {
-        Hears { listener: None, freed: None, weights: None }
+        Hears { listener: None, freed: None, weigher: None, one_queue: false }
+    }
+
+    // The weights of a map for so many objects.
+    fn weights(weigher: Option<(u64, Weigher<O>)>, one_queue: bool, capacity: usize) -> Option<Weights<O>> {
+        let (most, weigher) = weigher?;
+        let queues = if one_queue { Queues::one() } else { Queues::new(capacity) };
+        Some(Weights::new(most, weigher, queues))
     }
 }
 
@@ -150,14 +161,25 @@ impl<K, V, S> ObjectBuilder<K, V, S> {
     /// # Ok::<(), Box<dyn std::error::Error>>(())
     /// ```
     ///
-    /// - A put that brings the sum above `most` evicts entries before it returns, those that were put first and not used since. So the sum is above
-    ///   `most` only while a put runs. It stays above until the next put if the evicting call gets no turn for over a second, as a write that is
-    ///   refused.
+    /// - A put that brings the sum above `most` evicts entries before it returns: those that were put first and not used since, and new ones before
+    ///   others ([`one_queue`](Self::one_queue) says how). So the sum is above `most` only while a put runs. It stays above until the next put if the
+    ///   evicting call gets no turn for over a second, as a write that is refused.
     /// - An entry that alone is heavier than `most` is refused: [`InsertError::TooHeavy`](crate::InsertError::TooHeavy). What its key had stays.
     /// - The map is still bounded by its number of entries, too. Take a capacity for as many entries as fit by their weight.
     /// - [`weight`](ObjectMap::weight) is the sum. Objects that have left and wait to be freed don't count.
     pub fn max_weight(mut self, most: u64, weigher: impl Fn(&K, &V) -> u64 + Send + Sync + 'static) -> Self {
-        self.hears.weights = Some(Weights::new(most, Box::new(move |object| weigher(&object.key, &object.value))));
+        self.hears.weigher = Some((most, Box::new(move |object| weigher(&object.key, &object.value))));
+        self
+    }
+
+    /// Leaves out the small queue for new keys that a map with [`max_weight`](Self::max_weight) has. Then those entries are evicted that were put first
+    /// and not used since, new or not. In a map without a bound on weights this has no effect.
+    ///
+    /// By default new keys go to a small queue first, with a tenth of the weight. An entry that is used there moves to the main queue, and another one
+    /// is evicted. If its key is put again soon, it goes to the main queue. So keys that are used once evict none that are used often. More lookups
+    /// hit, most of all where many keys are used once or in scans. An entry that weighs more than a tenth of `most` leaves early, unless it is used.
+    pub fn one_queue(mut self) -> Self {
+        self.hears.one_queue = true;
         self
     }
 }
@@ -196,9 +218,10 @@ impl<O: Held, S> ObjectInner<O, S> {
         let count = settings.handles();
         let mut handles = Cache::open(shape, shards, count).map_err(OpenError::of)?;
         let Settings { hasher, life, idle, threads, .. } = settings;
-        let Hears { listener, freed, weights } = hears;
+        let Hears { listener, freed, weigher, one_queue } = hears;
+        let capacity = handles[0].capacity();
         Ok(ObjectInner {
-            capacity: handles[0].capacity(),
+            capacity,
             slots: Arc::new(Slots::new(handles)),
             epochs: Epochs::new(threads),
             flights: Flights::new(),
@@ -210,7 +233,7 @@ impl<O: Held, S> ObjectInner<O, S> {
             tries,
             listener,
             freed,
-            weights,
+            weights: Hears::weights(weigher, one_queue, capacity),
             objects: PhantomData,
         })
     }

@@ -12,13 +12,34 @@ use std::slice;
 ///
 /// # Safety
 ///
-/// No field lies behind the first `SIZE` bytes. `lengths` returns the same as long as the head exists, whatever else of it changes.
+/// No field lies behind the first `SIZE` bytes. `lengths` returns the same as long as the head exists, whatever else of it changes. `allocate` and
+/// `deallocate` do what a global allocator does.
 pub unsafe trait Head: Send + Sync + Sized + 'static {
     /// How many bytes of it are before the key, at most its size.
     const SIZE: usize;
 
     /// How many bytes the key and the value have.
     fn lengths(&self) -> (usize, usize);
+
+    /// Memory of this layout for a block, or null.
+    ///
+    /// # Safety
+    ///
+    /// The same as for [`alloc`]. That is what it calls, unless a head has memory of its own.
+    unsafe fn allocate(layout: Layout) -> *mut u8 {
+        // SAFETY: the caller says that it may be called.
+        unsafe { alloc(layout) }
+    }
+
+    /// Frees memory that [`allocate`](Self::allocate) returned for this layout.
+    ///
+    /// # Safety
+    ///
+    /// The same as for [`dealloc`]. That is what it calls, unless a head has memory of its own.
+    unsafe fn deallocate(at: *mut u8, layout: Layout) {
+        // SAFETY: the caller says that it may be called.
+        unsafe { dealloc(at, layout) }
+    }
 }
 
 /// A head with its key and its value behind it. It exists in a [`Block`] alone.
@@ -90,7 +111,7 @@ impl<H: Head> Block<H> {
         assert_eq!(head.lengths(), lengths, "the head says what the lengths are");
         let layout = layout_of::<H>(size_of::<H>(lengths.0, lengths.1));
         // SAFETY: its size is that of a head, or more.
-        let at = unsafe { alloc(layout) };
+        let at = unsafe { H::allocate(layout) };
         let Some(block) = NonNull::new(at.cast::<Bytes<H>>()) else { handle_alloc_error(layout) };
         // SAFETY: the block is new, aligned for a head, and has room for it and for all that is behind its first `SIZE` bytes. The head is
         // written first, since its padding may lie there.
@@ -122,7 +143,7 @@ impl<H: Head> Drop for Block<H> {
     fn drop(&mut self) {
         let layout = layout_of::<H>(self.size());
         // SAFETY: `new` allocated it with this layout, since the lengths are the same. Nobody else owns it. The head needs no destructor.
-        unsafe { dealloc(self.0.as_ptr().cast(), layout) }
+        unsafe { H::deallocate(self.0.as_ptr().cast(), layout) }
     }
 }
 

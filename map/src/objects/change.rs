@@ -73,7 +73,7 @@ impl<K: Hash + Eq, V, S: BuildHasher> ObjectInner<Object<K, V>, S> {
             };
             drop(pinned);
             match put {
-                Ok(done) => return Ok(self.end(hash, done)),
+                Ok(done) => return Ok(self.end(done)),
                 Err((_, Fail::Insert(why))) => return Err(why.into()),
                 Err((object, _)) => key = object.key,
             }
@@ -103,7 +103,7 @@ impl<K: Hash + Eq, V, S: BuildHasher> ObjectInner<Object<K, V>, S> {
             };
             drop(pinned);
             match put {
-                Ok(done) => return Ok(Some(self.end(hash, done))),
+                Ok(done) => return Ok(Some(self.end(done))),
                 Err((_, Fail::Insert(why))) => return Err(why.into()),
                 Err(_) => {}
             }

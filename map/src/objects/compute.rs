@@ -149,7 +149,7 @@ impl<K: Eq, V: Clone, S> ObjectInner<Object<K, V>, S> {
             let put = leader.put(|| self.put_over(hash, offered.take().expect("it is put once"), over, tries))?;
             match put {
                 Ok(done) => {
-                    self.end(hash, done);
+                    self.end(done);
                     return None;
                 }
                 Err((_, Fail::Insert(_))) => break,

@@ -13,6 +13,7 @@ mod map;
 mod object;
 mod pinned;
 mod put;
+mod queues;
 mod remove;
 mod sweep;
 mod weights;
@@ -25,6 +26,7 @@ pub use error::{AbsentError, IfError, Refused};
 pub use look::Look;
 pub use map::ObjectMap;
 pub use put::Put;
+pub use queues::{Line, Queued, Queues};
 
 #[cfg(test)]
 pub(crate) use epochs::{Epochs, BATCH};

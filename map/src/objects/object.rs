@@ -1,4 +1,5 @@
 //! What a map has on the heap for a key, and its address as the word of an entry.
+use super::queues::Line;
 use crate::clock::NEVER;
 use std::borrow::Borrow;
 use std::ops::Deref;
@@ -50,6 +51,14 @@ pub(crate) unsafe trait Held: Sized {
     fn take_used(&self) -> bool {
         false
     }
+
+    /// The queue that has its entry, in a map with a bound on the sum of weights.
+    fn line(&self) -> Line {
+        Line::Main
+    }
+
+    /// Notes the queue that gets its entry. None moves from the main queue to the small one.
+    fn set_line(&self, _: Line) {}
 }
 
 /// What may have a key of this kind.
@@ -71,13 +80,15 @@ pub(crate) struct Object<K, V> {
     deadline: AtomicU64,
     // When it expires if it is not used. Relaxed: as above.
     idle: AtomicU64,
-    // Its weight, which stays, and `USED`. Relaxed: both say nothing of other memory.
+    // Its weight, which stays, `USED` and `IN_MAIN`. Relaxed: they say nothing of other memory.
     weight: AtomicU64,
     pub value: V,
 }
 
-// The weights of all objects are below it.
 const USED: u64 = 1 << 63;
+
+// Its entry is in the main queue. The weights of all objects are below it.
+const IN_MAIN: u64 = 1 << 62;
 
 impl<K, V> Object<K, V> {
     pub fn new(key: K, value: V, deadline: u64, idle: u64) -> Box<Object<K, V>> {
@@ -87,7 +98,7 @@ impl<K, V> Object<K, V> {
 
     /// Before it is put.
     pub fn set_weight(&mut self, weight: u64) {
-        *self.weight.get_mut() = weight.min(USED - 1);
+        *self.weight.get_mut() = weight.min(IN_MAIN - 1);
     }
 }
 
@@ -122,7 +133,7 @@ unsafe impl<K, V> Held for Object<K, V> {
     }
 
     fn weight(&self) -> u64 {
-        self.weight.load(Relaxed) & !USED
+        self.weight.load(Relaxed) & (IN_MAIN - 1)
     }
 
     // Most lookups find it set, and write nothing that other threads read.
@@ -134,6 +145,20 @@ unsafe impl<K, V> Held for Object<K, V> {
 
     fn take_used(&self) -> bool {
         self.weight.fetch_and(!USED, Relaxed) & USED != 0
+    }
+
+    fn line(&self) -> Line {
+        if self.weight.load(Relaxed) & IN_MAIN == 0 {
+            Line::Small
+        } else {
+            Line::Main
+        }
+    }
+
+    fn set_line(&self, line: Line) {
+        if line == Line::Main {
+            self.weight.fetch_or(IN_MAIN, Relaxed);
+        }
     }
 }
 

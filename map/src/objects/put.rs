@@ -5,6 +5,7 @@ use super::inner::ObjectInner;
 use super::map::ObjectMap;
 use super::object::{Held, Keyed, Object};
 use super::pinned::{Over, Pinned, Seen};
+use super::queues::Queued;
 use super::weights::Place;
 use crate::error::InsertError;
 use crate::map::Inserted;
@@ -99,8 +100,17 @@ where
 /// A put that was made. `end` must follow, or the object that gave way is never freed.
 #[must_use]
 pub(crate) struct Done {
-    put: Put,
+    pub put: Put,
     old: Option<(u64, Reason)>,
+    /// Its place in a queue, in a map with a bound on weights.
+    pub queued: Option<Queued<Place>>,
+}
+
+impl Done {
+    /// What the put has replaced: by the call that is pinned, so that it alone can retire it.
+    pub fn replaced<'a, O: Held, S>(&self, pinned: &'a Pinned<'_, O, S>) -> Option<&'a O> {
+        self.old.filter(|(_, reason)| *reason == Reason::Replaced).map(|(word, _)| pinned.object(word))
+    }
 }
 
 /// A put, or the object that comes back.
@@ -123,6 +133,15 @@ pub(crate) enum Fail {
 }
 
 impl Fail {
+    fn of_condition(why: TurnError<PutIfError>) -> Fail {
+        match why {
+            TurnError::Call(PutIfError::NotThere { at }) => Fail::NotThere { at },
+            TurnError::Call(PutIfError::Changed { since }) => Fail::Changed { since },
+            TurnError::Call(_) => Fail::Insert(InsertError::Spent),
+            TurnError::Held => Fail::Insert(InsertError::Held),
+        }
+    }
+
     fn of_moment(self) -> IfError {
         match self {
             Fail::NotThere { at } => IfError::NotThere { at },
@@ -139,9 +158,32 @@ impl<O: Held, S> ObjectInner<O, S> {
     pub fn put(&self, hash: u64, object: O::Owner) -> Ended<O, InsertError> {
         self.detach(hash);
         match self.put_over(hash, object, Over::Any, self.tries) {
-            Ok(done) => Ok(self.end(hash, done)),
+            Ok(done) => Ok(self.end(done)),
             Err((object, Fail::Insert(why))) => Err((object, why)),
             Err(_) => unreachable!("this put does not ask what is there"),
+        }
+    }
+
+    /// The same. Then calls `see` with the object, and with the one that it has replaced. Both are pinned.
+    pub fn put_seen<R>(
+        &self,
+        hash: u64,
+        object: O::Owner,
+        see: impl FnOnce(&O, Option<&O>) -> R,
+    ) -> Result<(Put, R), (O::Owner, InsertError)> {
+        self.detach(hash);
+        let mut seen = None;
+        let offered = self.offer(object, |word| {
+            let put = self.in_pinned_turn(self.tries, || self.slots.call(|handle| handle.try_swap(hash, &[word])));
+            let (swapped, pinned) = put.map_err(|why| Fail::Insert(InsertError::of(why)))?;
+            let done = self.swapped(swapped);
+            seen = Some(see(pinned.object(word), done.replaced(&pinned)));
+            Ok(done)
+        });
+        match (offered, seen) {
+            (Ok(done), Some(seen)) => Ok((self.end(done), seen)),
+            (Err((object, Fail::Insert(why))), _) => Err((object, why)),
+            _ => unreachable!("this put does not ask what is there"),
         }
     }
 
@@ -162,7 +204,7 @@ impl<O: Held, S> ObjectInner<O, S> {
             };
             self.detach(hash);
             match self.put_over(hash, object, over, self.tries) {
-                Ok(done) => return Ok(self.end(hash, done)),
+                Ok(done) => return Ok(self.end(done)),
                 Err((back, Fail::Insert(why))) => return Err((back, why.into())),
                 Err((back, _)) => object = back,
             }
@@ -174,7 +216,7 @@ impl<O: Held, S> ObjectInner<O, S> {
     pub fn replace(&self, hash: u64, since: u64, object: O::Owner) -> Ended<O, IfError> {
         self.detach(hash);
         match self.put_over(hash, object, Over::At(since), self.tries) {
-            Ok(done) => Ok(self.end(hash, done)),
+            Ok(done) => Ok(self.end(done)),
             Err((object, why)) => Err((object, why.of_moment())),
         }
     }
@@ -191,13 +233,14 @@ impl<O: Held, S> ObjectInner<O, S> {
     /// Like `put_over`, over an object that was seen, whose deadline the new one keeps. The lock keeps renewals from coming between.
     pub fn put_over_seen(&self, pinned: &Pinned<O, S>, hash: u64, object: O::Owner, seen: Seen<O>) -> Offered<O> {
         self.offer(object, |word| {
-            let put = self.slots.in_turn(self.tries, || {
+            let put = self.in_turn(self.tries, || {
                 self.in_stripe(hash, |handle| {
                     pinned.object(word).set_deadline(seen.object.deadline());
                     handle.try_swap_if(hash, seen.since, &[word])
                 })
             });
-            self.replaced(put)
+            let (replaced, pinned) = put.map_err(Fail::of_condition)?;
+            Ok(self.queued(hash, word, self.replaced(replaced), pinned))
         })
     }
 
@@ -218,14 +261,40 @@ impl<O: Held, S> ObjectInner<O, S> {
         })
     }
 
+    // Like `Slots::in_turn`. The try that succeeds was pinned before it, and stays so. It isn't pinned while it waits for the turn.
+    fn in_pinned_turn<T, E>(
+        &self,
+        tries: u32,
+        mut put: impl FnMut() -> Result<T, TurnError<E>>,
+    ) -> Result<(T, Pinned<'_, O, S>), TurnError<E>> {
+        self.slots.in_turn(tries, || {
+            let pinned = self.pin();
+            put().map(|put| (put, pinned))
+        })
+    }
+
+    // The same, but in a map without a bound on weights nobody looks at the object after its put, so it isn't pinned.
+    fn in_turn<T, E>(
+        &self,
+        tries: u32,
+        put: impl FnMut() -> Result<T, TurnError<E>>,
+    ) -> Result<(T, Option<Pinned<'_, O, S>>), TurnError<E>> {
+        if self.weights.is_some() {
+            self.in_pinned_turn(tries, put).map(|(put, pinned)| (put, Some(pinned)))
+        } else {
+            self.slots.in_turn(tries, put).map(|put| (put, None))
+        }
+    }
+
     fn put_any(&self, hash: u64, word: u64, tries: u32) -> Result<Done, Fail> {
-        let put = self.slots.in_turn(tries, || self.slots.call(|handle| handle.try_swap(hash, &[word])));
-        put.map(|swapped| self.swapped(swapped)).map_err(|why| Fail::Insert(InsertError::of(why)))
+        let put = self.in_turn(tries, || self.slots.call(|handle| handle.try_swap(hash, &[word])));
+        let (swapped, pinned) = put.map_err(|why| Fail::Insert(InsertError::of(why)))?;
+        Ok(self.queued(hash, word, self.swapped(swapped), pinned))
     }
 
     fn put_absent(&self, hash: u64, word: u64, tries: u32) -> Result<Done, Fail> {
-        let put = self.slots.in_turn(tries, || self.slots.call(|handle| handle.try_swap_if_absent(hash, &[word])));
-        put.map(|swapped| self.swapped(swapped)).map_err(|why| match why {
+        let put = self.in_turn(tries, || self.slots.call(|handle| handle.try_swap_if_absent(hash, &[word])));
+        put.map(|(swapped, pinned)| self.queued(hash, word, self.swapped(swapped), pinned)).map_err(|why| match why {
             TurnError::Held => Fail::Insert(InsertError::Held),
             TurnError::Call(PutIfAbsentError::Present { .. }) => Fail::Present,
             TurnError::Call(PutIfAbsentError::Put(why)) => Fail::Insert(InsertError::of(TurnError::Call(why))),
@@ -234,20 +303,14 @@ impl<O: Held, S> ObjectInner<O, S> {
     }
 
     fn put_at(&self, hash: u64, word: u64, since: u64, tries: u32) -> Result<Done, Fail> {
-        self.replaced(self.slots.in_turn(tries, || self.slots.call(|handle| handle.try_swap_if(hash, since, &[word]))))
+        let put = self.in_turn(tries, || self.slots.call(|handle| handle.try_swap_if(hash, since, &[word])));
+        let (replaced, pinned) = put.map_err(Fail::of_condition)?;
+        Ok(self.queued(hash, word, self.replaced(replaced), pinned))
     }
 
-    fn replaced(&self, put: Result<Replaced<1>, TurnError<PutIfError>>) -> Result<Done, Fail> {
-        match put {
-            Ok(Replaced { at, old }) => {
-                let put = Put { did: self.slots.count_put(cefrodil::Put::Renewed { at }), at };
-                Ok(Done { put, old: Some((old.value[0], Reason::Replaced)) })
-            }
-            Err(TurnError::Call(PutIfError::NotThere { at })) => Err(Fail::NotThere { at }),
-            Err(TurnError::Call(PutIfError::Changed { since })) => Err(Fail::Changed { since }),
-            Err(TurnError::Call(_)) => Err(Fail::Insert(InsertError::Spent)),
-            Err(TurnError::Held) => Err(Fail::Insert(InsertError::Held)),
-        }
+    fn replaced(&self, Replaced { at, old }: Replaced<1>) -> Done {
+        let put = Put { did: self.slots.count_put(cefrodil::Put::Renewed { at }), at };
+        Done { put, old: Some((old.value[0], Reason::Replaced)), queued: None }
     }
 
     /// Makes a call while no other thread makes one for a key of the same stripe.
@@ -268,22 +331,20 @@ impl<O: Held, S> ObjectInner<O, S> {
     fn swapped(&self, Swapped { put, old }: Swapped<1>) -> Done {
         let (at, did) = (put.at(), self.slots.count_put(put));
         let reason = if let Inserted::Evicted = did { Reason::Evicted } else { Reason::Replaced };
-        Done { put: Put { did, at }, old: old.map(|old| (old.value[0], reason)) }
+        Done { put: Put { did, at }, old: old.map(|old| (old.value[0], reason)), queued: None }
     }
 
-    /// Ends a put of this key: what gave way is retired. Others give way if all weigh too much.
-    pub fn end(&self, hash: u64, Done { put, old }: Done) -> Put {
-        let weighs = self.weights.is_some();
-        let place = Place { hash, since: put.at };
+    /// Ends a put: what gave way is retired. Others give way if all weigh too much.
+    pub fn end(&self, Done { put, old, queued }: Done) -> Put {
         // First: the listener may panic.
-        if weighs {
-            self.enqueue(place);
+        if let Some(queued) = queued {
+            self.enqueue(queued);
         }
         if let Some((word, reason)) = old {
             self.left(word, reason);
         }
-        if weighs {
-            self.evict_to_bound(place);
+        if let Some(queued) = queued {
+            self.evict_to_bound(queued.entry);
         }
         put
     }
@@ -296,4 +357,3 @@ impl<K, V, S> ObjectInner<Object<K, V>, S> {
         Refused { why: self.refused(why), key, value }
     }
 }
-

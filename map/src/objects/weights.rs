@@ -2,15 +2,13 @@
 use super::builder::Reason;
 use super::inner::ObjectInner;
 use super::object::Held;
-use crate::slots::lock;
+use super::pinned::Pinned;
+use super::put::Done;
+use super::queues::{Line, Queued, Queues};
 use cefrodil::{PutIfError, Reply, TurnError};
-use std::collections::VecDeque;
 use std::sync::atomic::{AtomicU64, AtomicUsize, Ordering::Relaxed};
-use std::sync::Mutex;
 
-/// The queue has at most so many entries for each object, and some more, before a put looks for old ones. It looks at so many.
-const ENTRIES_OF_AN_OBJECT: usize = 2;
-const SPARE_ENTRIES: usize = 1024;
+/// A put looks at so many entries if the queues are too long.
 const TIDIED: usize = 8;
 
 /// After so many entries in a row that stay, the next object gives way even if it was used.
@@ -26,8 +24,7 @@ pub(crate) struct Weights<O> {
     // Of the objects in the map, and of those that are about to be put; and how many they are.
     sum: AtomicU64,
     objects: AtomicUsize,
-    // An entry whose object has left is old.
-    queue: Mutex<VecDeque<Place>>,
+    queues: Queues<Place>,
 }
 
 /// One put of one key.
@@ -40,15 +37,16 @@ pub(crate) struct Place {
 /// What became of an object that was to give way.
 enum Fate {
     Left,
-    Stays,
+    /// It goes to the end of this queue.
+    Stays(Line),
     /// Other threads kept the call from each try.
     Held,
 }
 
 impl<O> Weights<O> {
     /// For objects that weigh so much together at most.
-    pub fn new(most: u64, weigher: Weigher<O>) -> Weights<O> {
-        Weights { weigher, most, sum: AtomicU64::new(0), objects: AtomicUsize::new(0), queue: Mutex::default() }
+    pub fn new(most: u64, weigher: Weigher<O>, queues: Queues<Place>) -> Weights<O> {
+        Weights { weigher, most, sum: AtomicU64::new(0), objects: AtomicUsize::new(0), queues }
     }
 
     pub fn sum(&self) -> u64 {
@@ -71,81 +69,94 @@ impl<O> Weights<O> {
         self.objects.fetch_sub(1, Relaxed);
     }
 
-    fn push(&self, place: Place) {
-        lock(&self.queue).push_back(place);
-    }
-
-    fn pop(&self) -> Option<Place> {
-        lock(&self.queue).pop_front()
-    }
-
-    // Takes the first entry if there are so many that some must be old.
-    fn pop_if_long(&self) -> Option<Place> {
-        let mut queue = lock(&self.queue);
-        let most = ENTRIES_OF_AN_OBJECT * self.objects.load(Relaxed) + SPARE_ENTRIES;
-        (queue.len() > most).then(|| queue.pop_front())?
-    }
-
-    /// How many entries the queue has.
+    /// How many entries the queues have.
     #[cfg(test)]
     pub fn queued(&self) -> usize {
-        lock(&self.queue).len()
+        self.queues.entries()
     }
 }
 
 impl<O: Held, S> ObjectInner<O, S> {
-    /// Puts an object that was put into the queue. While that is too long, looks at its first entries: those that are not old go to its end.
+    /// A put of this word, with the object's place in a queue: in that of the object that it has replaced, if there is one.
+    pub fn queued(&self, hash: u64, word: u64, mut done: Done, pinned: Option<Pinned<'_, O, S>>) -> Done {
+        let (Some(weights), Some(pinned)) = (&self.weights, pinned) else { return done };
+        let (object, old) = (pinned.object(word), done.replaced(&pinned));
+        let line = old.map_or_else(|| weights.queues.line_of_new(hash), O::line);
+        object.set_line(line);
+        let entry = Place { hash, since: done.put.at };
+        done.queued = Some(Queued { entry, line, weight: object.weight() });
+        done
+    }
+
+    /// Puts an object that was put into its queue. While the queues are too long, looks at some of their first entries: those that are not old go to
+    /// the end.
     #[inline(never)]
-    pub fn enqueue(&self, place: Place) {
+    pub fn enqueue(&self, queued: Queued<Place>) {
         let Some(weights) = &self.weights else { return };
-        weights.push(place);
+        weights.queues.push(queued);
         for _ in 0..TIDIED {
-            let Some(first) = weights.pop_if_long() else { return };
-            let peeked = self.slots.call(|handle| handle.try_peek(first.hash));
-            if peeked.map_or(true, |reply| is_put(&reply, first)) {
-                weights.push(first);
+            let Some(first) = weights.queues.pop_if_long(weights.objects.load(Relaxed)) else { return };
+            let peeked = self.slots.call(|handle| handle.try_peek(first.entry.hash));
+            if peeked.map_or(true, |reply| is_put(&reply, first.entry)) {
+                weights.queues.push(first);
             }
         }
     }
 
     /// Evicts objects until the others weigh no more than they may, but the one that was just put only if it must be.
     ///
-    /// If the queue is empty, other threads are about to add to it, or have taken entries out of it. They come here, too.
+    /// If the queues are empty, other threads are about to add to them, or have taken entries out of them. They come here, too.
     #[inline(never)]
     pub fn evict_to_bound(&self, just_put: Place) {
         let Some(weights) = &self.weights else { return };
-        let mut stayed = 0;
+        let (mut stayed, mut from) = (0, None);
         while weights.sum() > weights.most {
-            let Some(place) = weights.pop() else { return };
+            let popped = from.map_or_else(|| weights.queues.pop(weights.most), |line| weights.queues.pop_from(line));
+            let Some(queued) = popped else { return };
             let may_stay = stayed < SPARED;
-            let fate = if may_stay && place == just_put { Fate::Stays } else { self.evict(place, may_stay) };
-            if let Fate::Left = fate {
-                stayed = 0;
-                continue;
+            let is_new = may_stay && queued.entry == just_put;
+            if is_new {
+                // All that were before it in its queue were looked at.
+                from = Some(queued.line.other());
             }
-            weights.push(place);
+            let line = match if is_new { Fate::Stays(queued.line) } else { self.evict(queued, may_stay) } {
+                Fate::Left => {
+                    stayed = 0;
+                    continue;
+                }
+                Fate::Stays(line) => line,
+                Fate::Held => {
+                    weights.queues.push(queued);
+                    return;
+                }
+            };
+            weights.queues.push(Queued { line, ..queued });
             stayed += 1;
-            if let Fate::Held = fate {
-                return;
-            }
         }
     }
 
     // Evicts this object, but not one that was used and may stay.
-    fn evict(&self, place: Place, may_stay: bool) -> Fate {
+    fn evict(&self, queued: Queued<Place>, may_stay: bool) -> Fate {
+        let place = queued.entry;
         match self.was_used(place) {
             None => return Fate::Held,
-            Some(Some(true)) if may_stay => return Fate::Stays,
+            Some(Some(true)) if may_stay => return Fate::Stays(Line::Main),
             Some(Some(_)) => {}
             Some(None) => return Fate::Left,
         }
         match self.take_if(place.hash, place.since, Reason::Evicted) {
-            Err(TurnError::Held | TurnError::Call(PutIfError::Spent)) => Fate::Held,
-            _ => Fate::Left,
+            Err(TurnError::Held | TurnError::Call(PutIfError::Spent)) => return Fate::Held,
+            Err(_) => {}
+            Ok(_) => {
+                if let Some(weights) = &self.weights {
+                    weights.queues.gave_way(queued, place.hash);
+                }
+            }
         }
+        Fate::Left
     }
 
-    // Whether the object was used since this was called of it, if it is in the map. `None`: each lookup was busy.
+    // Whether the object was used since this was called of it, if it is in the map. If it was, it goes to the main queue. `None`: each lookup was busy.
     fn was_used(&self, place: Place) -> Option<Option<bool>> {
         let pinned = self.pin();
         let reply = self.slots.within(self.looks(), || match self.slots.call(|handle| handle.get_or_turn(place.hash)) {
@@ -153,7 +164,14 @@ impl<O: Held, S> ObjectInner<O, S> {
             reply => Some(reply),
         })?;
         Some(match reply {
-            Reply::Found { value: [word], since, .. } if since == place.since => Some(pinned.object(word).take_used()),
+            Reply::Found { value: [word], since, .. } if since == place.since => {
+                let object = pinned.object(word);
+                let was_used = object.take_used();
+                if was_used {
+                    object.set_line(Line::Main);
+                }
+                Some(was_used)
+            }
             _ => None,
         })
     }

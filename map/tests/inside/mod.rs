@@ -28,6 +28,7 @@ mod overtaken;
 mod places;
 mod prints;
 mod shapes;
+mod sketches;
 mod slots;
 mod stalled;
 mod tiers;

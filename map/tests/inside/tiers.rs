@@ -1,7 +1,6 @@
 //! A small table before the main one: which keys go where, and what both tables have.
 use super::one_shard;
 use super::turns::{before_calls, calls, Turn};
-use crate::sketch::Sketch;
 use crate::tiers::{SmallHandle, OF_SMALL};
 use crate::{InsertError, Inserted, Map, RemoveError, UpdateError};
 use cefrodil::Reply;
@@ -250,21 +249,4 @@ fn keys_that_meet_in_the_index_are_told_apart() {
     assert!(found > 1_000 && map.stats().collided > 1_000, "{found}, {:?}", map.stats());
     let there = || (0..150).filter(|key| map.contains_key(key)).count();
     assert_eq!((there() > 0, there()), (true, map.len()));
-}
-
-#[test]
-fn a_sketch_notes_a_key_until_others_come() {
-    let sketch = Sketch::new(1_000);
-    let key = |number: u64| number.wrapping_mul(0x0123_4567_89ab_cdef);
-    assert!((0..1_000).filter(|number| sketch.take(key(*number))).count() == 0);
-    (0..100).for_each(|number| sketch.note(key(number)));
-    let noted = (0..100).filter(|number| sketch.take(key(*number))).count();
-    assert!(noted >= 90, "{noted} of 100");
-    assert_eq!((0..100).filter(|number| sketch.take(key(*number))).count(), 0);
-    (0..10_000).for_each(|number| sketch.note(key(number)));
-    let (late, early) = (
-        (9_500..10_000).filter(|number| sketch.take(key(*number))).count(),
-        (0..5_000).filter(|number| sketch.take(key(*number))).count(),
-    );
-    assert!(late > 250 && early < 100, "{late} late and {early} early keys");
 }

@@ -1,9 +1,10 @@
 //! Maps of bytes: what a block has, and that the map takes none for another, loses none and frees each once.
 use crate::ledger::{done, next};
 use cefrodil_map::{AbsentError, Block, Bytes, BytesMap, Head, IfError, Look, Reason};
+use std::alloc::{alloc, dealloc, Layout};
 use std::hash::{BuildHasher, BuildHasherDefault, Hasher, RandomState};
 use std::mem::offset_of;
-use std::sync::atomic::{AtomicU64, Ordering::Relaxed, Ordering::SeqCst};
+use std::sync::atomic::{AtomicU64, AtomicUsize, Ordering::Relaxed, Ordering::SeqCst};
 use std::sync::Arc;
 use std::thread;
 
@@ -42,6 +43,42 @@ fn check(key: u64, found: &Bytes<Counted>) {
 
 fn make(key: u64, number: u64) -> Block<Counted> {
     block(number, key.to_string().as_bytes(), &[&value_of(key, number)])
+}
+
+/// A head that counts the bytes of its blocks.
+#[repr(C)]
+struct Own(u8);
+
+static OWN: AtomicUsize = AtomicUsize::new(0);
+
+// SAFETY: its one field has one byte, and the lengths are constant. The memory is that of the global allocator.
+unsafe impl Head for Own {
+    const SIZE: usize = 1;
+
+    fn lengths(&self) -> (usize, usize) {
+        (2, 3)
+    }
+
+    unsafe fn allocate(layout: Layout) -> *mut u8 {
+        OWN.fetch_add(layout.size(), Relaxed);
+        // SAFETY: the caller says that it may be called.
+        unsafe { alloc(layout) }
+    }
+
+    unsafe fn deallocate(at: *mut u8, layout: Layout) {
+        OWN.fetch_sub(layout.size(), Relaxed);
+        // SAFETY: as above.
+        unsafe { dealloc(at, layout) }
+    }
+}
+
+#[test]
+fn a_head_may_have_memory_of_its_own() {
+    let blocks = [7, 8].map(|number| Block::new(Own(number), b"ab", &[b"cde"]));
+    assert_eq!(OWN.load(Relaxed), 12);
+    assert_eq!((blocks[1].key(), blocks[1].value()), (&b"ab"[..], &b"cde"[..]));
+    drop(blocks);
+    assert_eq!(OWN.load(Relaxed), 0);
 }
 
 #[test]
@@ -113,6 +150,41 @@ impl Hasher for Same {
     fn finish(&self) -> u64 {
         1
     }
+}
+
+#[test]
+fn a_put_shows_the_block_and_the_one_that_it_replaces() {
+    let map = BytesMap::<Counted>::builder(100).shards(1).threads(1).open().unwrap();
+    let numbers = |new: &Bytes<Counted>, old: Option<&Bytes<Counted>>| (new.number, old.map(|old| old.number));
+    let (first, seen) = map.put_seen(make(1, 1), numbers).unwrap();
+    assert_eq!((seen, map.len()), ((1, None), 1));
+    let (second, seen) = map.put_seen(make(1, 2), numbers).unwrap();
+    assert!((seen, map.len()) == ((2, Some(1)), 1) && second.at > first.at);
+    // Both stay while they are looked at, though the new one leaves the map meanwhile.
+    let (_, ()) = map
+        .put_seen(make(1, 3), |new, old| {
+            let since = map.look_hash(map.hash_of(b"1"), |look| match look {
+                Ok(Look::Found { since, .. }) => since,
+                other => panic!("{}", other.is_ok()),
+            });
+            map.remove_if(b"1", since).unwrap();
+            (0..100).for_each(|number| done(map.put(make(2, number))));
+            map.free_unused();
+            check(1, new);
+            check(1, old.unwrap());
+        })
+        .unwrap();
+    assert_eq!((map.len(), map.free_unused()), (1, 0));
+}
+
+#[test]
+fn a_block_that_is_evicted_is_not_replaced() {
+    let map = BytesMap::<Counted>::builder(10).shards(1).threads(1).open().unwrap();
+    for key in 0..50 {
+        let (_, replaced) = map.put_seen(make(key, 1), |_, old| old.is_some()).unwrap();
+        assert!(!replaced);
+    }
+    assert!(map.stats().evicted >= 30);
 }
 
 #[test]

@@ -14,6 +14,8 @@ mod ledger;
 mod listener;
 mod model;
 mod panics;
+mod queues;
+mod small_queue;
 mod stamps;
 mod texts;
 mod threads;

@@ -61,7 +61,7 @@ fn those_give_way_that_were_put_first_and_not_used() {
 
 #[test]
 fn a_use_counts_once() {
-    let map = open();
+    let map = ObjectMap::builder(1_000).max_weight(MOST, |_, value| *value).one_queue().open().unwrap();
     put_all(&map, 0..10, 10);
     assert_eq!(map.get(&0), Some(10));
     // This takes the use of the first one, and evicts the second.

@@ -3,7 +3,7 @@
 pub mod client;
 
 use cefrodild::index::{Index, Outcome, Refused, Seen, Stamp, Token};
-use cefrodild::item::NewItem;
+use cefrodild::item::{Item, NewItem};
 use cefrodild::room::{cost, Room};
 use std::collections::HashMap;
 use std::hash::{BuildHasher, BuildHasherDefault, DefaultHasher};
@@ -49,7 +49,12 @@ impl Plain {
         Plain { items: Mutex::default(), room: Arc::clone(room), control: Arc::clone(control) }
     }
 
-    fn put_as(&self, item: NewItem, meant: impl FnOnce(Option<Token>) -> bool) -> Result<Outcome, Refused> {
+    fn put_as(
+        &self,
+        item: NewItem,
+        meant: impl FnOnce(Option<Token>) -> bool,
+        see: &mut dyn FnMut(&Item, Option<&Item>),
+    ) -> Result<Outcome, Refused> {
         if self.control.refuses_puts.load(SeqCst) {
             return Err(Refused::Full);
         }
@@ -60,6 +65,7 @@ impl Plain {
             return Ok(token.map_or(Outcome::Absent, |_| Outcome::Changed));
         }
         *last += 1;
+        see(&item, items.get(&hash).map(|entry| &*entry.item));
         let entry = Entry { cost: cost(item.key().len(), item.value().len()), item, token: *last };
         if let Some(old) = items.insert(hash, entry) {
             self.room.give_back(old.cost);
@@ -100,12 +106,16 @@ impl Index for Plain {
         see(Ok(entry.map(|entry| (&*entry.item, entry.token))));
     }
 
-    fn peek_stamped(&self, stamp: Stamp, see: &mut dyn FnMut(Seen<'_>)) {
-        self.look_stamped(stamp, see);
+    fn peek(&self, hash: u64, see: &mut dyn FnMut(Seen<'_>)) {
+        if self.control.refuses_looks.load(SeqCst) {
+            return see(Err(Refused::Held));
+        }
+        let (items, _) = &*self.items.lock().unwrap();
+        see(Ok(items.get(&hash).map(|entry| (&*entry.item, entry.token))));
     }
 
-    fn put(&self, item: NewItem) -> Result<Token, Refused> {
-        match self.put_as(item, |_| true)? {
+    fn put(&self, item: NewItem, see: &mut dyn FnMut(&Item, Option<&Item>)) -> Result<Token, Refused> {
+        match self.put_as(item, |_| true, see)? {
             Outcome::Done(token) => Ok(token),
             _ => unreachable!("there is no condition"),
         }
@@ -113,12 +123,12 @@ impl Index for Plain {
 
     fn put_new(&self, item: NewItem) -> Result<Outcome, Refused> {
         self.let_others_act();
-        self.put_as(item, |token| token.is_none())
+        self.put_as(item, |token| token.is_none(), &mut |_, _| {})
     }
 
     fn put_if(&self, token: Token, item: NewItem) -> Result<Outcome, Refused> {
         self.let_others_act();
-        self.put_as(item, |found| found == Some(token))
+        self.put_as(item, |found| found == Some(token), &mut |_, _| {})
     }
 
     fn remove_if(&self, key: &[u8], token: Token) -> Result<Outcome, Refused> {

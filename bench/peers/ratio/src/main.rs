@@ -1,28 +1,78 @@
-//! How many lookups find their key in a map of the crate `cefrodil-map`, for `bench/small_table.py`. Standard input has the keys, as words of 64
-//! bits. Each that is missed is put.
+//! How many lookups find their key in a cache, for `bench/small_table.py`. Standard input has the keys, as words of 64 bits. Each that is missed is
+//! put.
 //!
-//! usage: ratio CAPACITY TABLES     TABLES: 1, or 2 with a small table. It prints a line of 0 and 1: which lookups hit.
-use cefrodil_map::Map;
+//! usage: ratio CAPACITY CACHE     CACHE: map, or map+ with a small table; objects by their weight with one queue, or objects+; server with one
+//! queue, or server+. It prints a line of 0 and 1: which lookups hit.
+mod server;
+
+use cefrodil_map::{Map, ObjectMap};
 use std::env::args;
 use std::io::{stdin, stdout, Read, Write};
 
-fn main() -> Result<(), Box<dyn std::error::Error>> {
-    let numbers = args().skip(1).map(|number| number.parse()).collect::<Result<Vec<usize>, _>>()?;
-    let [capacity, tables @ (1 | 2)] = numbers[..] else { return Err("usage: ratio CAPACITY TABLES".into()) };
+type Failure = Box<dyn std::error::Error>;
+
+/// A cache that has each key as its own value.
+trait Cache {
+    fn get(&mut self, key: u64) -> Option<u64>;
+
+    fn put(&mut self, key: u64) -> Result<(), Failure>;
+}
+
+impl Cache for Map<u64, u64> {
+    fn get(&mut self, key: u64) -> Option<u64> {
+        Map::get(self, &key)
+    }
+
+    fn put(&mut self, key: u64) -> Result<(), Failure> {
+        self.insert(&key, key)?;
+        Ok(())
+    }
+}
+
+impl Cache for ObjectMap<u64, u64> {
+    fn get(&mut self, key: u64) -> Option<u64> {
+        ObjectMap::get(self, &key)
+    }
+
+    fn put(&mut self, key: u64) -> Result<(), Failure> {
+        self.insert(key, key)?;
+        Ok(())
+    }
+}
+
+/// One shard has room for just what was asked for. A small table is a tenth of the main one.
+fn map(capacity: usize, is_small: bool) -> Result<Box<dyn Cache>, Failure> {
+    let builder = |entries| Map::<u64, u64>::builder(entries).shards(1).threads(1);
+    let map = if is_small { builder(capacity * 10 / 11).open()? } else { builder(capacity).one_table().open()? };
+    assert!(map.capacity() + 1 >= capacity && map.capacity() <= capacity);
+    Ok(Box::new(map))
+}
+
+/// Bounded by weight alone: its index has room for more.
+fn objects(capacity: usize, is_small: bool) -> Result<Box<dyn Cache>, Failure> {
+    let builder = ObjectMap::<u64, u64>::builder(2 * capacity).threads(1).max_weight(capacity as u64, |_, _| 1);
+    Ok(Box::new(if is_small { builder.open()? } else { builder.one_queue().open()? }))
+}
+
+fn main() -> Result<(), Failure> {
+    let words: Vec<_> = args().skip(1).collect();
+    let [capacity, name] = &words[..] else { return Err("usage: ratio CAPACITY CACHE".into()) };
+    let (capacity, is_small) = (capacity.parse()?, name.ends_with('+'));
+    let mut cache = match name.trim_end_matches('+') {
+        "map" => map(capacity, is_small)?,
+        "objects" => objects(capacity, is_small)?,
+        "server" => server::open(capacity, is_small)?,
+        _ => return Err(format!("there is no cache {name}").into()),
+    };
     let mut bytes = Vec::new();
     stdin().read_to_end(&mut bytes)?;
-    // One shard, so that the map has room for as many entries as were asked for. A small table is a tenth of the main one.
-    let main = if tables == 2 { capacity * 10 / 11 } else { capacity };
-    let builder = Map::<u64, u64>::builder(main).shards(1).threads(1);
-    let map = if tables == 2 { builder.open()? } else { builder.one_table().open()? };
-    assert!(map.capacity() + 1 >= capacity && map.capacity() <= capacity);
     let mut found = Vec::with_capacity(bytes.len() / 8 + 1);
     for word in bytes.chunks_exact(8) {
         let key = u64::from_le_bytes(word.try_into()?);
-        let value = map.get(&key);
+        let value = cache.get(key);
         assert!(value.is_none_or(|value| value == key));
         if value.is_none() {
-            map.insert(&key, key)?;
+            cache.put(key)?;
         }
         found.push(if value.is_some() { b'1' } else { b'0' });
     }

@@ -1,4 +1,4 @@
-//! What a call of a `cefrodil_map::Map` costs, for valgrind's callgrind: as ../../costs.cpp, with the same words.
+//! What a call of a `cefrodil_map::Map` costs, for valgrind's callgrind: as ../costs.cpp, with the same words.
 use cefrodil_map::Map;
 use std::env::args;
 

@@ -1,0 +1,49 @@
+//! The server's items, by its commands and without a connection.
+use crate::{Cache, Failure};
+use cefrodild::dialogue::Dialogue;
+use cefrodild::objects::Objects;
+use cefrodild::options::{parse, Asked};
+use cefrodild::room::{cost, Room};
+use cefrodild::store::Store;
+use std::sync::Arc;
+
+/// The bytes of a key, and of a value.
+const BYTES: usize = 16;
+
+struct Client {
+    store: Store,
+    dialogue: Dialogue,
+    answer: Vec<u8>,
+}
+
+impl Client {
+    fn ask(&mut self, command: &str) -> &str {
+        self.answer.clear();
+        let (done, _) = self.dialogue.turn(&self.store, command.as_bytes(), &mut self.answer);
+        assert_eq!(done, command.len());
+        std::str::from_utf8(&self.answer).expect("the answer is text")
+    }
+}
+
+impl Cache for Client {
+    fn get(&mut self, key: u64) -> Option<u64> {
+        let answer = self.ask(&format!("get {key:016x}\r\n"));
+        answer.lines().nth(1).map(|value| u64::from_str_radix(value, 16).expect("a number"))
+    }
+
+    fn put(&mut self, key: u64) -> Result<(), Failure> {
+        assert_eq!(self.ask(&format!("set {key:016x} 0 0 {BYTES}\r\n{key:016x}\r\n")), "STORED\r\n");
+        Ok(())
+    }
+}
+
+/// A server that has room for so many items. Its index has room for more.
+pub fn open(capacity: usize, is_small: bool) -> Result<Box<dyn Cache>, Failure> {
+    let queues = if is_small { "" } else { " --one-queue" };
+    let words = format!("-t1 -n{}{queues}", 2 * capacity);
+    let Asked::Serve(options) = parse(words.split(' ').map(str::to_owned))? else { return Err("no options".into()) };
+    let room = Arc::new(Room::new(capacity as u64 * cost(BYTES, BYTES)));
+    let index = Objects::open(options.items, 1, &room, None)?;
+    let store = Store::new(Box::new(index), room, options);
+    Ok(Box::new(Client { store, dialogue: Dialogue::default(), answer: Vec::new() }))
+}

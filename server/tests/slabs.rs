@@ -1,0 +1,65 @@
+//! Small items in chunks: no block is two items', and those of a chunk are found.
+use cefrodild::item::{new_item, NewItem};
+use cefrodild::slabs;
+use std::sync::{Mutex, Once};
+use std::thread;
+
+const MEGABYTE: usize = 1 << 20;
+
+fn set_up() {
+    static ONCE: Once = Once::new();
+    ONCE.call_once(|| slabs::set_up(64 * MEGABYTE).expect("there are addresses"));
+}
+
+/// An item whose value has this length, and says which number it has.
+fn item(number: usize, length: usize) -> NewItem {
+    new_item(0, 0, 0, &number.to_le_bytes(), &[&vec![number as u8; length]])
+}
+
+fn chunk(item: &NewItem) -> usize {
+    slabs::address_of(item) / slabs::CHUNK
+}
+
+#[test]
+fn each_item_has_memory_of_its_own() {
+    set_up();
+    let length = |number: usize| number * 37 % (slabs::MOST + 200);
+    let check = |number: usize, item: &NewItem| {
+        assert_eq!(item.key(), number.to_le_bytes());
+        assert!(item.value().len() == length(number) && item.value().iter().all(|byte| *byte == number as u8));
+    };
+    // Each thread drops items that others made.
+    let shared = Mutex::new(Vec::new());
+    let work = |thread: usize| {
+        for number in (thread * 10_000..).take(10_000) {
+            shared.lock().unwrap().push((number, item(number, length(number))));
+            if number % 3 > 0 {
+                let mut items = shared.lock().unwrap();
+                let place = number * 7919 % items.len();
+                let (number, item) = items.swap_remove(place);
+                drop(items);
+                slabs::look_around(&item, |other| assert_eq!(other.key().len(), 8));
+                check(number, &item);
+            }
+        }
+    };
+    thread::scope(|threads| (0..4).for_each(|thread| drop(threads.spawn(move || work(thread)))));
+    let items = shared.into_inner().unwrap();
+    assert!(items.len() > 10_000);
+    items.iter().for_each(|(number, item)| check(*number, item));
+}
+
+#[test]
+fn the_items_of_a_chunk_are_found() {
+    set_up();
+    let mut items: Vec<NewItem> = (0..1000).map(|number| item(number, 777)).collect();
+    items.retain(|item| item.key()[0] % 3 > 0);
+    let first = chunk(&items[500]);
+    let mut expected: Vec<usize> = items.iter().filter(|item| chunk(item) == first).map(|item| slabs::address_of(item)).collect();
+    let mut found = Vec::new();
+    slabs::look_around(&items[500], |item| found.push(slabs::address_of(item)));
+    expected.sort_unstable();
+    assert_eq!(found, expected);
+    assert!(found.len() > 5);
+    slabs::look_around(&item(0, 2 * slabs::MOST), |_| panic!("it lies in no chunk"));
+}
