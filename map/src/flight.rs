@@ -21,6 +21,13 @@ pub(crate) struct Flights<V> {
     stripes: Box<[Stripe<V>]>,
 }
 
+impl<V> Flights<V> {
+    /// In a forked child: leaves the lists as they are. A thread of the parent may have stopped while it changed one.
+    pub fn forget(&mut self) {
+        mem::forget(mem::take(&mut self.stripes));
+    }
+}
+
 // The flights of some keys that are not detached.
 type Stripe<V> = Mutex<Vec<Arc<Flight<V>>>>;
 

@@ -46,6 +46,14 @@ pub(crate) enum Found<V> {
     Absent,
 }
 
+impl<K: ?Sized, V, S> Drop for Inner<K, V, S> {
+    fn drop(&mut self) {
+        if !self.slots.are_of_this_process() {
+            self.flights.forget();
+        }
+    }
+}
+
 impl<K: Key + ?Sized, V: Copy, S: BuildHasher> Inner<K, V, S> {
     #[inline]
     pub fn print<Q: Key + ?Sized>(&self, key: &Q) -> Print {

@@ -6,6 +6,7 @@
 use crate::slots::lock;
 use std::collections::VecDeque;
 use std::marker::PhantomData;
+use std::mem;
 use std::sync::atomic::{AtomicU64, AtomicUsize, Ordering::Relaxed, Ordering::Release, Ordering::SeqCst};
 use std::sync::Mutex;
 
@@ -140,6 +141,11 @@ impl Epochs {
     fn pinned_since(&self) -> u64 {
         let shared = lock(&self.shared).iter().copied().min().unwrap_or(NONE);
         self.pins.iter().map(|pin| pin.since.load(SeqCst)).fold(shared, u64::min)
+    }
+
+    /// In a forked child: leaves the lists as they are. A thread of the parent may have stopped while it changed one.
+    pub fn forget(&mut self) {
+        mem::forget((mem::take(&mut self.lists), mem::take(&mut self.shared)));
     }
 
     /// How many objects wait.

@@ -181,6 +181,9 @@ impl<O: Held, S> Drop for ObjectInner<O, S> {
     fn drop(&mut self) {
         // In a forked child another thread may hold a lock or a turn for ever.
         if !self.slots.are_of_this_process() {
+            self.epochs.forget();
+            self.flights.forget();
+            self.weights.iter_mut().for_each(Weights::forget);
             return;
         }
         let listed = self.slots.in_turn(LISTS, || self.slots.call(Handle::try_entries));

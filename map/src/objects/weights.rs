@@ -6,6 +6,7 @@ use super::pinned::Pinned;
 use super::put::Done;
 use super::queues::{Line, Queued, Queues};
 use cefrodil::{PutIfError, Reply, TurnError};
+use std::mem;
 use std::sync::atomic::{AtomicU64, AtomicUsize, Ordering::Relaxed};
 
 /// A put looks at so many entries if the queues are too long.
@@ -47,6 +48,11 @@ impl<O> Weights<O> {
     /// For objects that weigh so much together at most.
     pub fn new(most: u64, weigher: Weigher<O>, queues: Queues<Place>) -> Weights<O> {
         Weights { weigher, most, sum: AtomicU64::new(0), objects: AtomicUsize::new(0), queues }
+    }
+
+    /// In a forked child: leaves the queues as they are. A thread of the parent may have stopped while it changed one.
+    pub fn forget(&mut self) {
+        mem::forget(mem::replace(&mut self.queues, Queues::one()));
     }
 
     pub fn sum(&self) -> u64 {
