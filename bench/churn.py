@@ -1,12 +1,13 @@
 #!/usr/bin/env python3
-"""How much memory cefrodild and memcached take with -m 64 while the sizes of values change for a long time: in the second half beside a busy process
+"""How much memory cefrodild and memcached take with one -m while the sizes of values change for a long time: in the second half beside a busy process
 for each processor. Four clients each send bursts of sets and gets of drawn keys, and a few keys are looked up again and again. The servers run
 one after the other. Prints a table. The cells of a half have the highest VmRSS in MB, and the highest without what connections hold, as `stats`
-tells it, as a multiple of -m.
+tells it before and after, as a multiple of -m.
 
 With MCCHECK cefrodild runs once more, for as long, with --audit and less to do. Then mccheck's last line is printed.
 
-usage: bench/churn.py LIB MINUTES [MCCHECK]     LIB: the folder of libcefrodil.a, as c/build makes it; MCCHECK: the program of crates/mccheck
+usage: [MEMORY=M] bench/churn.py LIB MINUTES [MCCHECK]     MEMORY: -m; none: 64; LIB: the folder of libcefrodil.a, as c/build makes it; MCCHECK: the
+program of crates/mccheck
 
 It needs cargo and, of Debian: apt-get install librust-mio-dev memcached.
 """
@@ -22,7 +23,7 @@ import time
 from servers import MEMCACHED, built, connected, running
 
 MEGABYTE = 1 << 20
-MEMORY = 64
+MEMORY = int(os.environ.get('MEMORY', '64'))
 CLIENTS = 4
 # The least and the largest size of values, one phase after the other. The logarithm of a size is drawn.
 PHASES = ((10, 100), (10, 200_000), (5_000, 60_000), (1, 1_000), (500_000, 1_000_000), (100, 10_000))
@@ -64,16 +65,22 @@ def churn(port, seed, end, pause, sets):
             time.sleep(pause)
 
 
+def held(client):
+    """What connections hold, in bytes."""
+    lines = dict(line.split()[1:3] for line in bytes(ask(client, b'stats\r\n', b'END\r\n')).splitlines() if line.count(b' ') == 2)
+    return int(lines.get(b'buffer_bytes', lines.get(b'read_buf_bytes', 0)))
+
+
 def highest(process, port, end):
     """The highest memory until then, in all and without what connections hold, in bytes."""
     most, most_without = 0, 0
     with connected(port) as client:
         while time.monotonic() < end:
-            lines = dict(line.split()[1:3] for line in bytes(ask(client, b'stats\r\n', b'END\r\n')).splitlines() if line.count(b' ') == 2)
+            before = held(client)
             with open(f'/proc/{process}/statm', encoding='ascii') as file:
                 memory = int(file.read().split()[1]) * os.sysconf('SC_PAGESIZE')
-            buffers = int(lines.get(b'buffer_bytes', lines.get(b'read_buf_bytes', 0)))
-            most, most_without = max(most, memory), max(most_without, memory - buffers)
+            # Buffers come and go before the memory is read and after that.
+            most, most_without = max(most, memory), max(most_without, memory - max(before, held(client)))
             time.sleep(0.1)
     return most, most_without
 
