@@ -1,14 +1,17 @@
 //! Small items in chunks: no block is two items', and those of a chunk are found.
 use cefrodild::item::{new_item, NewItem};
 use cefrodild::slabs;
-use std::sync::{Mutex, Once};
+use std::sync::{Mutex, MutexGuard, Once, PoisonError};
 use std::thread;
 
 const MEGABYTE: usize = 1 << 20;
 
-fn set_up() {
+/// One test at a time has items: the chunks are those of the process.
+fn set_up() -> MutexGuard<'static, ()> {
     static ONCE: Once = Once::new();
+    static TURN: Mutex<()> = Mutex::new(());
     ONCE.call_once(|| slabs::set_up(64 * MEGABYTE).expect("there are addresses"));
+    TURN.lock().unwrap_or_else(PoisonError::into_inner)
 }
 
 /// An item whose value has this length, and says which number it has.
@@ -22,7 +25,7 @@ fn chunk(item: &NewItem) -> usize {
 
 #[test]
 fn each_item_has_memory_of_its_own() {
-    set_up();
+    let _turn = set_up();
     let length = |number: usize| number * 37 % (slabs::MOST + 200);
     let check = |number: usize, item: &NewItem| {
         assert_eq!(item.key(), number.to_le_bytes());
@@ -51,7 +54,7 @@ fn each_item_has_memory_of_its_own() {
 
 #[test]
 fn the_items_of_a_chunk_are_found() {
-    set_up();
+    let _turn = set_up();
     let mut items: Vec<NewItem> = (0..1000).map(|number| item(number, 777)).collect();
     items.retain(|item| item.key()[0] % 3 > 0);
     let first = chunk(&items[500]);
