@@ -91,8 +91,7 @@ impl Ceiling {
         exceeds
     }
 
-    /// Notes what was put so far: the next look is due when enough more is put. As long as the process exceeds the ceiling, nothing is noted before
-    /// a command has done its looks. So other threads that store look, too, and wait for their turn.
+    /// It is no time to look again before enough is put. Until then, threads wait for one that looks.
     pub fn rest(&self, room: &Room) {
         self.looked_at.store(room.taken(), Relaxed);
     }
