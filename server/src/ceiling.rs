@@ -80,21 +80,12 @@ impl Ceiling {
     /// Returns whether the process exceeds the ceiling.
     pub fn look(&self, room: &Room, buffers: u64, bytes: u64) -> bool {
         let _turn = self.turn.lock();
-        let exceeds = self.look_in_turn(room, buffers, bytes).unwrap_or_else(|why| {
+        self.looked_at.store(room.taken(), Relaxed);
+        self.look_in_turn(room, buffers, bytes).unwrap_or_else(|why| {
             static LAST: Last = Last::new(None);
             complain_at_times(&LAST, format_args!("the server's memory can't be read: {why}"));
             false
-        });
-        if !exceeds {
-            self.rest(room);
-        }
-        exceeds
-    }
-
-    /// Notes what was put so far: the next look is due when enough more is put. As long as the process exceeds the ceiling, nothing is noted before
-    /// a command has done its looks. So other threads that store look, too, and wait for their turn.
-    pub fn rest(&self, room: &Room) {
-        self.looked_at.store(room.taken(), Relaxed);
+        })
     }
 
     fn look_in_turn(&self, room: &Room, buffers: u64, bytes: u64) -> io::Result<bool> {

@@ -75,7 +75,6 @@ impl Store {
             self.evict_enough(kept, Way::WithNeighbours);
             self.index.sweep();
         }
-        ceiling.rest(&self.room);
         Some(expected)
     }
 
