@@ -31,6 +31,9 @@ fn ends_well(child: impl FnOnce() -> bool) -> bool {
     let mut status = -1;
     // SAFETY: `status` is a number of this function's.
     let ended = unsafe { waitpid(number, &mut status, 0) };
+    if status != 0 {
+        eprintln!("a child ended with {status:#x}");
+    }
     ended == number && status == 0
 }
 
