@@ -84,29 +84,32 @@ pub trait Contestant<K: Key, V, S>: Sync {
     fn put(&self, key: &K::Borrowed, value: V) -> bool;
 }
 
-pub struct Cefrodil<K: Key, V, S>(cefrodil_map::Map<K::Borrowed, V, S>);
+/// With a small table for new keys, or not.
+pub struct Cefrodil<K: Key, V, S, const SMALL_TABLE: bool>(cefrodil_map::Map<K::Borrowed, V, S>);
 
-/// A hasher with which a `cefrodil_map` is opened. Its own one is its default, by which it hashes each key once.
+/// A hasher of a `cefrodil_map`. Its own one is its default, by which it hashes each key once.
 pub trait Opens: BuildHasher + Clone + Send + Sync {
-    fn open<K: cefrodil_map::Key + ?Sized, V: Copy + Send + Sync + 'static>(self, keys: usize) -> cefrodil_map::Map<K, V, Self>;
+    fn builder<K: cefrodil_map::Key + ?Sized, V>(self, keys: usize) -> cefrodil_map::Builder<K, V, Self>;
 }
 
 impl Opens for RandomState {
-    fn open<K: cefrodil_map::Key + ?Sized, V: Copy + Send + Sync + 'static>(self, keys: usize) -> cefrodil_map::Map<K, V> {
-        cefrodil_map::Map::new(keys).expect("a map")
+    fn builder<K: cefrodil_map::Key + ?Sized, V>(self, keys: usize) -> cefrodil_map::Builder<K, V> {
+        cefrodil_map::Builder::new(keys)
     }
 }
 
 impl Opens for Quick {
-    fn open<K: cefrodil_map::Key + ?Sized, V: Copy + Send + Sync + 'static>(self, keys: usize) -> cefrodil_map::Map<K, V, Quick> {
-        cefrodil_map::Builder::new(keys).hasher(self).open().expect("a map")
+    fn builder<K: cefrodil_map::Key + ?Sized, V>(self, keys: usize) -> cefrodil_map::Builder<K, V, Quick> {
+        cefrodil_map::Builder::new(keys).hasher(self)
     }
 }
 
-/// As it is opened by default, but for the hasher.
-impl<K: Key, V: Copy + Send + Sync + 'static, S: Opens> Contestant<K, V, S> for Cefrodil<K, V, S> {
+/// As it is opened by default, but for the hasher and the small table.
+impl<K: Key, V: Copy + Send + Sync + 'static, S: Opens, const SMALL_TABLE: bool> Contestant<K, V, S> for Cefrodil<K, V, S, SMALL_TABLE> {
     fn new(keys: usize, hasher: S) -> Self {
-        Cefrodil(hasher.open(keys))
+        let builder = hasher.builder(keys);
+        let map = if SMALL_TABLE { builder.open() } else { builder.one_table().open() };
+        Cefrodil(map.expect("a map"))
     }
 
     #[inline(always)]
