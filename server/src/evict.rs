@@ -150,8 +150,10 @@ impl Store {
         }
         let stamps = neighbours.into_iter().filter_map(|(hash, at)| self.stamp_at(hash, at));
         for neighbour in stamps.filter(|stamp| Some(*stamp) != kept) {
-            // If it can't be removed, it stays.
-            let _ = self.remove(neighbour);
+            // If it can't be removed, it stays. Otherwise it leaves for its place in memory, so its key comes back to the main queue.
+            if let Ok(true) = self.remove(neighbour) {
+                self.queue.gave_way(Queued { entry: neighbour, line: Line::Small, weight: 0 }, neighbour.hash);
+            }
         }
         Ok(was_there)
     }

@@ -2,6 +2,7 @@
 use cefrodild::ceiling::Ceiling;
 use cefrodild::objects::Objects;
 use cefrodild::options::{parse, Asked};
+use cefrodild::queue::Line;
 use cefrodild::request::{How, Order};
 use cefrodild::room::Room;
 use cefrodild::slabs;
@@ -48,7 +49,10 @@ fn an_old_value_stays_while_its_neighbours_give_way() {
     send(&store, How::Set, b"large", LARGE - SMALL);
     assert_eq!(store.room.evicted(), 0);
     // There is no room for two large items. The first small ones lie beside this one.
-    send(&store, How::Append, &keys[0], LARGE);
+    send(&store, How::Append, &keys[0], LARGE - 100_000);
     assert!(store.room.evicted() > 5);
     assert_eq!([0, 1, 2, 499].map(|place| has(&store, &keys[place])), [true, false, false, true]);
+    // What gave way for its place comes back to the main queue. Not all is remembered.
+    let comes_back = |key: &[u8]| store.queue.line_of_new(store.index.hash_of(key)) == Line::Main;
+    assert!(keys.iter().filter(|key| !has(&store, *key) && comes_back(*key)).count() > 50 && !comes_back(b"new"));
 }
