@@ -154,6 +154,8 @@ def maps():
     rows = []
     for keys, every in (1000, (1, 3, 4)), (100_000, (1, 2, 3, 4)), (1_000_000, (1, 4)):
         rows += [calls(f'hit, {keys:,} keys', options('hit', keys), n) for n in every]
+    many = options('hit', 1_000_000, f' --many {MANY}')
+    rows += [calls(f'hit, 1,000,000 keys, {MANY} keys per call', many, n)._replace(names=('cpp_cefrodil',)) for n in (1, 4)]
     rows += [calls(f'miss, {keys:,} keys', options('miss', keys), 1) for keys in (1000, 100_000)]
     for label, more, every in ('8 bytes', ' --words 1', (1,)), ('56 bytes', ' --words 7', (1, 4)), ('strings', ' --letters 16', (1, 4)):
         rows += [calls(f'hit, 100,000 keys, {label}', options('hit', 100_000, more), n) for n in every]

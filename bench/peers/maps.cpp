@@ -55,6 +55,7 @@ template <class K, size_t N, class Hash, bool SmallTable> struct Cefrodil {
         if (map.open(options) != cefrodil::Status::ok) abort();
     }
     std::optional<Words<N>> get(typename Map::Key key) { return map.find(key); }
+    void get_many(const K *keys, size_t count, std::optional<Words<N>> *values) { map.find_many(keys, count, values); }
     bool put(typename Map::Key key, const Words<N> &value) { return map.insert_or_assign(key, value).status == cefrodil::Status::ok; }
 };
 
@@ -97,8 +98,14 @@ struct alignas(128) Counts {
     uint64_t calls = 0, lookups = 0, hits = 0, torn = 0, refused = 0;
     double seconds = 0;
 
-    template <class C, class Key> bool look(C &map, Key key, uint64_t number) {
-        const auto found = map.get(key);
+    template <class C, class Key> bool look(C &map, Key key, uint64_t number) { return count(map.get(key), number); }
+    // Looks up so many keys, which are numbers, by one call.
+    template <size_t N, class C> void look_together(C &map, const std::array<uint64_t, MOST> &numbers, size_t many) {
+        std::array<std::optional<Words<N>>, MOST> found;
+        map.get_many(numbers.data(), many, found.data());
+        for (size_t n = 0; n < many; n++) count(found[n], numbers[n]);
+    }
+    template <class Value> bool count(const std::optional<Value> &found, uint64_t number) {
         lookups++;
         hits += found.has_value();
         if (found) {
@@ -116,6 +123,20 @@ struct alignas(128) Counts {
     }
 };
 
+// One thread's lookups of drawn numbers, so many by each call, for a while.
+template <size_t N, class C> void look_all(C &map, Counts &counts, Draw &draw, const Options &options) {
+    std::array<uint64_t, MOST> numbers;
+    for (uint64_t done = 0; done < 64; done += options.together()) {
+        for (uint64_t n = 0; n < options.together(); n++) numbers[n] = key_of(draw.below(options.keys));
+        counts.look_together<N>(map, numbers, options.together());
+        counts.calls += options.together();
+    }
+}
+
+// Whether a map looks up many keys by one call.
+template <class C, class = void> constexpr bool has_many = false;
+template <class C> constexpr bool has_many<C, std::void_t<decltype(&C::get_many)>> = true;
+
 // One thread's work. If `puts`, it puts once in `write_every` calls. All other calls are lookups. In a full cache it puts each key that it misses.
 template <class K, size_t N, class C>
 __attribute__((noinline)) Counts work_on(C &map, const Options &options, uint64_t seed, bool puts, std::atomic<int> &waiting, std::atomic<bool> &over) {
@@ -128,6 +149,12 @@ __attribute__((noinline)) Counts work_on(C &map, const Options &options, uint64_
     while (waiting) __builtin_ia32_pause();
     const double began = now(options.alone());
     while (!over) {
+        if constexpr (has_many<C> && std::is_same_v<K, uint64_t>) {
+            if (options.many > 1) {
+                look_all<N>(map, counts, draw, options);
+                continue;
+            }
+        }
         for (int n = 0; n < 64; n++) {
             const uint64_t number = key_of(first + draw.below(keys));
             with<K>(number, [&](auto key) {
