@@ -110,8 +110,10 @@ impl<K: Key + ?Sized, V: Copy + Send + Sync + 'static, S: BuildHasher> Map<K, V,
 impl<K: Key + ?Sized, V: Copy + Send + Sync + 'static, S: BuildHasher> Lead<'_, K, V, S> {
     /// Puts the value, and gives it to all that wait. Returns it, or the value that the key has by now.
     ///
-    /// If the key was written or removed since `try_board`, the map keeps that, and this value isn't put: it may be older. Nor is it if it
-    /// finds no place, which `refused` of [`stats`](Map::stats) counts.
+    /// If the key was written or removed since `try_board`, the map keeps that, and this value isn't put: it may be older. This call, and those that
+    /// were waiting, may return it all the same. A `try_board` that begins after the write has returned doesn't wait for this load. The value isn't
+    /// put either if it finds no place, or if other threads have the turn of its shard at each of some tries: `refused` of [`stats`](Map::stats)
+    /// counts that. Its time to live begins now.
     pub fn publish(self, value: V) -> V {
         let Lead { inner, print, leader } = self;
         leader.end(value, || inner.fill(print, value, inner.tries.min(TASK_TRIES)))

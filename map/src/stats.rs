@@ -4,7 +4,7 @@ use std::time::Duration;
 
 /// How many calls came to what, since the map was opened. The sums of all threads, each read at a moment of its own.
 ///
-/// `hits`, `misses` and `busy` together are the lookups: one for each call of `get`, `look`, `contains_key` and `get_or_insert_with`, and of
+/// `hits`, `misses` and `busy` together are the lookups: one for each call of `get`, `look`, `contains_key`, `get_or_insert_with` and `try_board`, and of
 /// their other forms, and one for each key of `get_many`, `get_many_with` and `look_many`.
 #[derive(Clone, Copy, Debug, Default, PartialEq, Eq, Hash)]
 #[non_exhaustive]
