@@ -68,7 +68,7 @@ template <class Model> struct TiersOf : rl::test_suite<Model, 3> {
         const bool may_be_small = !in_main || copies.load(all) != 0;  //| if is_there && self.has_copies.load(SeqCst) {
         const bool in_small = may_be_small && small.load(all) != none; //| self.small.call(|small| small.handle.has(key))
         if (in_main && in_small && !explored::without("removal of the copy")) {
-            small.store(none, all);                                   //| let removal = if self.is_in_small(key)? { Some(self.small.call(|small| small.handle.remove(key)).ok()?) } else { None };
+            small.store(none, all);                                   //| if let Removal::Removed { .. } = self.small.call(|small| small.handle.remove(key)).ok()? {
         }
         (in_main ? main : small).store(words, all);
     }

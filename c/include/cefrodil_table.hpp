@@ -72,7 +72,7 @@ template <class V> class Table : private Packing<V> {
         }
         return found;
     }
-    // A lookup for a write, which is repeated as often as a put. `moves`: as of Tiers::get.
+    // A lookup for a write, which is repeated as often as a put. With `moves`, a key that is found in the small table moves to the main one.
     Entry look(const Identity &key, bool moves) noexcept {
         for (uint32_t repeat = 0;; repeat++) {
             const Entry entry = look_once(key, moves);

@@ -81,7 +81,7 @@ template <size_t Words> class Turns {
         return status == Status::busy ? get_again(key, most, value) : Seen{status, reply.since};
     }
 
-    // As of Passes.
+    // This thread's slot. Null: it uses the shared one.
     Slot<Words> *own_slot() noexcept { return passes_.own_slot(); }
     // Makes a call by this thread's slot, or by the shared one.
     template <class Call> auto call(Call made) noexcept { return passes_.call(made); }

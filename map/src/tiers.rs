@@ -288,8 +288,10 @@ impl Tiers {
     // Removes the key from the small table, if a move could not take it out.
     #[cold]
     fn remove_copy(&self, key: u64) -> Option<()> {
-        let removal = if self.is_in_small(key)? { Some(self.small.call(|small| small.handle.remove(key)).ok()?) } else { None };
-        if let Some(Removal::Removed { .. }) = removal {
+        if !self.is_in_small(key)? {
+            return Some(());
+        }
+        if let Removal::Removed { .. } = self.small.call(|small| small.handle.remove(key)).ok()? {
             self.main.count(Kind::Removed);
         }
         Some(())

@@ -170,7 +170,7 @@ fn a_small_map_has_a_place_for_each_key() {
         let builder = || Map::<u64, u64>::builder(capacity);
         for (map, most) in [(builder().one_table(), capacity), (builder(), capacity + (capacity / 10).max(1))] {
             let map = map.open().unwrap();
-            // Of a million keys about one finds no place. In tables of half the size 16 of 1,000 would find none.
+            // Hardly a key finds no place. In tables of half the size it would be 16 of 1,000.
             let refused = (0..6_000).filter(|key| map.insert(key, *key).is_err()).count() as u64;
             assert!(refused < 4, "{refused} of 6,000 keys find no place in a map of {most}");
             assert_eq!((map.capacity(), map.len(), map.stats().evicted), (most, most, 6_000 - most as u64 - refused));

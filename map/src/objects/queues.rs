@@ -199,7 +199,7 @@ impl<E: Copy> Lines<E> {
         Some(Queued { entry, line: Line::Main, weight: 0 })
     }
 
-    // So that as great a part of what it takes out is old as of all entries.
+    // From each queue in proportion to its entries. So neither fills up with old ones.
     fn pop_in_turn(&mut self) -> Option<Queued<E>> {
         self.turn += self.small.count;
         let is_small = self.turn >= self.count();
