@@ -2,7 +2,8 @@
 //!
 //! A call that looks objects up is pinned first, and announces the epoch. An object is retired after it has left the index, and notes the epoch of
 //! that. A call that is pinned since this epoch or an earlier one may have found the object. All others can't. Each look for objects that can be
-//! freed begins the next epoch. Each thread that has a slot has a list of what it retired, so writes of several threads share nothing here.
+//! freed begins the next epoch. Each thread that has a slot has a list of what it retired, so writes of several threads share only the epoch, which
+//! moves once for each `BATCH` objects of a thread.
 use crate::slots::lock;
 use std::collections::VecDeque;
 use std::marker::PhantomData;
