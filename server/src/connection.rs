@@ -264,6 +264,8 @@ impl Input {
         }
         let wanted = (self.end + CHUNK).max(needs.min(2 * self.end));
         if self.bytes.len() < wanted {
+            // What the buffer takes is counted, so it has no more than that.
+            self.bytes.reserve_exact(wanted - self.bytes.len());
             self.bytes.resize(wanted, 0);
         }
     }

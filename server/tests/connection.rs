@@ -220,6 +220,17 @@ fn bytes_that_wait_are_counted_once() {
 }
 
 #[test]
+fn a_client_holds_no_more_than_it_needs() {
+    let mut both = Both::new();
+    assert_eq!(both.send(b"set k 0 0 700000\r\n"), Next::Event);
+    for _ in 0..12 {
+        assert_eq!(both.send(&[b'x'; 50_000]), Next::Event);
+    }
+    let held = both.client.store.seats.bytes();
+    assert!((600_000..701_000).contains(&held), "{held}");
+}
+
+#[test]
 fn a_client_that_sends_no_more_gets_all_its_answers() {
     let mut both = Both::new();
     let waiting = both.fill();
