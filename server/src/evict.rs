@@ -13,9 +13,9 @@ const LOOKS: u32 = 1000;
 /// How often no item could be removed before there is no room. Other threads may be about to add to the queue.
 const FAILURES: u32 = 100;
 
-/// How often a command waits, and how long, until items are freed that have left: a tenth of a second at least. It sleeps, so that a thread that
-/// was stopped while it reads them gets the processor.
-const WAITS: u32 = 500;
+/// How often a command waits, and how long, until items are freed that have left: a second at least, as for the turn at a shard. It sleeps, so that
+/// a thread that was stopped while it reads them gets the processor. If many threads wait for processors, a sleep takes longer, and so does the wait.
+const WAITS: u32 = 5000;
 const WAIT: Duration = Duration::from_micros(200);
 
 /// How often a command looks at the memory and evicts, at most, if the process exceeds its ceiling.
