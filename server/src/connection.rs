@@ -2,10 +2,10 @@
 use crate::complain::{complain_at_times, Last};
 use crate::counts::Count;
 use crate::dialogue::{Dialogue, Turn, MOST_WAITING};
+use crate::listen::Stream;
 use crate::seat::Seat;
 use crate::store::Store;
 use mio::event::Event;
-use mio::net::TcpStream;
 use std::cell::Cell;
 use std::io::{self, ErrorKind, Read, Write};
 use std::mem;
@@ -42,7 +42,7 @@ pub enum Next {
 /// A client's connection.
 #[derive(Debug)]
 pub struct Connection {
-    stream: TcpStream,
+    stream: Stream,
     dialogue: Dialogue,
     input: Input,
     /// So many bytes of input must be there before there is anything to do.
@@ -66,14 +66,14 @@ struct Input {
 
 impl Connection {
     /// A client that has just connected.
-    pub fn new(stream: TcpStream, seat: Seat) -> Connection {
+    pub fn new(stream: Stream, seat: Seat) -> Connection {
         let (dialogue, input, output) = (Dialogue::default(), Input::default(), Vec::new());
         let (is_ending, is_dry, is_half_closed) = (false, false, false);
         Connection { stream, dialogue, input, needs: 1, output, is_ending, is_dry, is_half_closed, seat }
     }
 
     /// The connection, for registering it.
-    pub fn stream(&mut self) -> &mut TcpStream {
+    pub fn stream(&mut self) -> &mut Stream {
         &mut self.stream
     }
 

@@ -1,6 +1,7 @@
 //! Connections of clients, turn by turn.
 mod plain;
 use cefrodild::connection::{Connection, Next};
+use cefrodild::listen::Stream;
 use plain::client::{Client, MEGABYTE};
 use std::io::{ErrorKind, Read, Write};
 use std::net::{Shutdown, TcpListener, TcpStream};
@@ -31,7 +32,7 @@ impl Both {
         let arrived = accepted.try_clone().expect("there is a descriptor");
         let client = Client::new(4 * MEGABYTE);
         let seat = client.store.seats.take().expect("a seat is free");
-        Both { client, connection: Connection::new(mio::net::TcpStream::from_std(accepted), seat), arrived, stream }
+        Both { client, connection: Connection::new(Stream::Tcp(mio::net::TcpStream::from_std(accepted)), seat), arrived, stream }
     }
 
     fn turn(&mut self) -> Next {
