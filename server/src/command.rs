@@ -1,5 +1,6 @@
 //! Carries commands out, and writes their answers.
 use crate::counts::Count;
+use crate::dump;
 use crate::item::Item;
 use crate::meta_command;
 use crate::request::{Change, Order, Request};
@@ -86,6 +87,7 @@ pub fn run(store: &Store, request: &Request, data: &[u8], is_quiet: bool, out: &
             "OK"
         }
         Request::Stats(what) => return stats::answer(store, what, out),
+        Request::Dump(class, most) => return dump::answer(store, *class, *most, out),
         Request::Version => concat!("VERSION ", version!()),
         Request::Verbosity => "OK",
         Request::NoOperation => "MN",

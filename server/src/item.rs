@@ -92,7 +92,12 @@ impl About {
 
     /// Whether it has neither expired nor been flushed.
     pub fn is_live(&self, now: u64, flushes: &Flushes) -> bool {
-        now < self.deadline() && !flushes.have_hit(self.born, now)
+        !self.has_expired(now) && !flushes.have_hit(self.born, now)
+    }
+
+    /// Whether its deadline has come.
+    pub fn has_expired(&self, now: u64) -> bool {
+        now >= self.deadline()
     }
 
     /// Notes that it was read.
