@@ -14,6 +14,7 @@ pub fn answer(store: &Store, what: &[u8], out: &mut Vec<u8>) {
         b"" => general(store, out),
         b"reset" => {
             store.counts.reset();
+            store.room.reset_gone();
             line(out, "RESET");
         }
         b"settings" => settings(store, out),
@@ -40,7 +41,9 @@ fn general(store: &Store, out: &mut Vec<u8>) {
         text!(out, "STAT {name} {sum}\r\n");
     }
     text!(out, "STAT stalled_seconds {}\r\n", store.index.stalled().as_secs());
-    text!(out, "STAT evictions {}\r\n", store.room.evicted());
+    for (name, number) in store.room.gone() {
+        text!(out, "STAT {name} {number}\r\n");
+    }
     text!(out, "STAT bytes {}\r\nSTAT curr_items {}\r\n", store.room.used(), store.room.items());
     text!(out, "STAT bytes_waiting {}\r\nSTAT bytes_limit {}\r\n", store.room.waiting(), store.room.limit());
     text!(out, "STAT limit_maxbytes {}\r\n", store.options.memory);

@@ -104,7 +104,8 @@ fn each_name_is_told_once() {
         limit_maxbytes cmd_get cmd_set cmd_flush cmd_touch cmd_meta get_hits get_misses get_expired get_flushed delete_misses delete_hits incr_misses incr_hits \
         decr_misses decr_hits cas_misses cas_hits cas_badval touch_hits touch_misses store_too_large store_no_memory total_items busy held \
         refused crawler_reclaimed connections_out_of_memory buffer_bytes bytes_limit bytes_waiting bytes_read bytes_written total_connections rejected_connections \
-        stalled_seconds rusage_user rusage_system accepting_conns listen_disabled_num connection_structures"
+        stalled_seconds rusage_user rusage_system accepting_conns listen_disabled_num connection_structures \
+        evicted_unfetched reclaimed expired_unfetched"
         .split_whitespace()
         .collect();
     expected.sort_unstable();
@@ -185,6 +186,31 @@ fn connections_are_always_accepted() {
     let mut client = Client::new(MEGABYTE);
     let _seat = client.store.seats.take().expect("it is free");
     assert_eq!(stats(&mut client, "", "accepting_conns listen_disabled_num connection_structures"), "1 0 1");
+}
+
+#[test]
+fn items_that_went_by_themselves() {
+    const NAMES: &str = "evictions evicted_unfetched reclaimed expired_unfetched crawler_reclaimed";
+    let mut client = Client::new(2 * cost(1, 10) as usize);
+    client.ask("set a 0 0 10\n1234567890\nset b 0 0 10\n1234567890\nget a\nset c 0 0 10\n1234567890\n");
+    assert_eq!(stats(&mut client, "", NAMES), "1 1 0 0 0", "b was never read");
+    client.ask("get c\nset d 0 0 10\n1234567890\n");
+    let before = stats(&mut client, "", NAMES);
+    assert!(before.starts_with("2 "), "{before}");
+    client.ask("stats reset\n");
+    assert_eq!(stats(&mut client, "", NAMES), "0 0 0 0 0");
+}
+
+#[test]
+fn expired_items_that_gave_way_were_not_evicted() {
+    const NAMES: &str = "evictions evicted_unfetched reclaimed expired_unfetched crawler_reclaimed";
+    let mut client = Client::new(2 * cost(1, 10) as usize);
+    client.ask("set a 0 -1 10\n1234567890\nset b 0 0 10\n1234567890\nset c 0 0 10\n1234567890\n");
+    assert_eq!(stats(&mut client, "", NAMES), "0 0 1 1 0");
+    let mut client = Client::new(MEGABYTE);
+    client.ask("set a 0 -1 1\n1\nset b 0 100 1\n1\nget b\ntouch b -1\nset c 0 0 1\n1\n");
+    client.store.expire();
+    assert_eq!(stats(&mut client, "", NAMES), "0 0 0 1 2", "b was read once");
 }
 
 #[test]
