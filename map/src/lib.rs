@@ -7,6 +7,7 @@ mod clear;
 mod clock;
 mod compute;
 mod error;
+mod filter;
 mod flight;
 mod handle;
 mod inner;
