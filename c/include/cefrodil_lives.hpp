@@ -33,7 +33,8 @@ inline constexpr uint64_t never = std::numeric_limits<uint64_t>::max();
 class Clock {
   public:
     explicit Clock(const Lives &lives) : lives_(lives) {}
-    bool has_lives() const noexcept { return lives_.time_to_live != forever || lives_.time_to_idle != forever; }
+    bool has_lives() const noexcept { return lives_.time_to_live != forever || has_idle(); }
+    bool has_idle() const noexcept { return lives_.time_to_idle != forever; }
     uint64_t deadline() const noexcept { return deadline_after(lives_.time_to_live); }
     uint64_t idle_deadline() const noexcept { return deadline_after(lives_.time_to_idle); }
     // The deadline of what lives for so long from now on.

@@ -16,9 +16,15 @@
 //     rules.most_weight = 1000000;
 //     const cefrodil::Status opened = pages.open({1000}, rules);
 // The map then holds 1,000 pages or more, as long as they weigh no more than the bound together. While calls put, the sum may be above the bound by
-// what they put. Those objects leave that came first, but for those that a call has found since it was last decided which ones leave. What has left
-// and waits to be freed weighs a sixteenth of the bound and one object more at most, while no function of `look` runs. If a thread is stopped within a
-// write, the sum may stay above the bound until a later put.
+// what they put. What has left and waits to be freed weighs a sixteenth of the bound and one object more at most, while no function of `look` runs. If
+// a thread is stopped within a write, the sum may stay above the bound until a later put. Without a weigher each object counts as 1, and the bound is
+// `entries` of the MapOptions.
+//
+// Which objects leave: a full map puts new keys into a small queue first, of a tenth of the bound. At its head an object that a call has found moves to
+// the main queue, and another one leaves. If its key is put again soon, that goes to the main queue. From there those leave that came first, but for
+// those that a call has found since it was last decided. So keys that are used once evict none that are used often. A put of a new key makes half as
+// many steps again for that as without, and an object takes 48 bytes more. With `small_table` of the MapOptions false there is no small queue. Then
+// a map without a weigher holds `entries` or some more, and each shard evicts by itself (CLOCK).
 //
 // Entries that end: `rules.lives.time_to_live = std::chrono::minutes(30)`. A put begins the time anew, also over a value, and may say another time:
 // `insert_for`. An update does not, but `update_for` does. `time_to_idle` ends what no call has found or put for so long. What has expired is absent for
@@ -188,7 +194,7 @@ template <class K, class V, class Hash = SipHash<K>, class Equal = std::equal_to
     size_t free_unused() noexcept { return inner_ ? inner_->objects.free_now() : 0; }
 
     uint64_t size() const noexcept { return inner_ ? inner_->objects.turns().keys() : 0; }
-    uint64_t capacity() const noexcept { return inner_ ? inner_->objects.turns().capacity() : 0; }
+    uint64_t capacity() const noexcept { return inner_ ? inner_->objects.capacity() : 0; }
     // The sum of the weights, exact while no call writes. What other calls are about to put counts, and what has left does not, though it may wait to
     // be freed. Without a weigher 0.
     uint64_t weight() const noexcept { return inner_ ? inner_->objects.weight() : 0; }
@@ -293,7 +299,8 @@ template <class K, class V, class Hash = SipHash<K>, class Equal = std::equal_to
             }
         }
         // Puts what the function makes of the key's value, if no other thread does meanwhile. `seen`: what it looked up.
-        template <class Function> [[gnu::always_inline]] Changed renew(const inside::Identity &known, Key key, const Life &life, Function &function, Seen &seen) {
+        template <class Function>
+        [[gnu::always_inline]] Changed renew(const inside::Identity &known, Key key, const Life &life, Function &function, Seen &seen) {
             Own object = made_of(known, key, life, function, seen);
             if (seen.status != Status::ok) {
                 return Objects::refused(seen.status);

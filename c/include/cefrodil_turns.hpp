@@ -53,8 +53,8 @@ struct Seen {
 // Calls by the passes of an index. A call that other threads keep from its turn is repeated.
 template <size_t Words> class Turns {
   public:
-    // 0 shards: as many as these entries ask for.
-    [[nodiscard]] Status open(uint32_t entries, uint32_t asked_shards, uint32_t passes, uint32_t tries, uint32_t mix) noexcept {
+    // 0 shards: as many as these entries ask for. `more`: room for so many beside them.
+    [[nodiscard]] Status open(uint32_t entries, uint32_t asked_shards, uint32_t passes, uint32_t tries, uint32_t mix, uint32_t more = 0) noexcept {
         if (!same_version()) {
             return Status::other_version;
         }
@@ -62,7 +62,8 @@ template <size_t Words> class Turns {
         looks_ = std::min(tries, most_looks);
         const uint32_t shards = asked_shards == 0 ? shards_for(entries) : asked_shards;
         cefrodil_shape shape{};
-        const Status status = choose(entries, shards, mix, shape);
+        const uint32_t room = entries == 0 || more > UINT32_MAX - entries ? entries : entries + more;
+        const Status status = choose(room, shards, mix, shape);
         return status == Status::ok ? passes_.open(shape, shards, passes) : status;
     }
     // Opens a second index, with as many passes. It has no more shards than were asked for.
