@@ -20,9 +20,10 @@
 //
 // The map keeps and compares no keys. It knows a key by 128 bits, made with a secret. Half of them are the key's number in the index. The others are
 // a check word, which is stored with the value. A lookup compares it, and a mismatch is a miss. By default the check word of a key whose type has up
-// to 8 bytes, such as an integer, an enum, a pointer or a small struct, is the key itself: two such keys are never confused. Any other key, such as
-// a string of any length, has two hashes. Two of those are confused, as far as is known, with a chance of 2^-128. By a hash of yours, two keys are
-// confused if it gives them the same two words.
+// to 8 bytes, such as an integer, an enum, a pointer or a small struct, is the key itself: two such keys are never confused, unless invalidate_all was
+// called between their puts. Then it is a chance of 2^-64, that they have the same number in the index. Any other key, such as a string of any length,
+// has two hashes. Two of those are confused, as far as is known, with a chance of 2^-128. By a hash of yours, two keys are confused if it gives them the
+// same two words.
 //
 // A forked child finds the map closed: its lookups miss, its other calls return `closed`, and its destructor frees nothing. The child may open it, or
 // others, anew.
@@ -190,12 +191,13 @@ template <class K, class V, class Hash = SipHash<K>> class map {
             if (!flight.has_begun()) {
                 continue;
             }
+            const uint64_t generation = inner_->table.generation().now();
             // Another flight may have ended between the lookup and the begin of this one.
             if (std::optional<V> found; inner_->table.find(known, found) == Status::ok) {
                 return {Status::ok, *found, false};
             }
             const V value = function();
-            return {flight.land([&] { return inner_->table.put_if_absent(known, value).status; }), value, true};
+            return {flight.land([&] { return inner_->table.put_if_absent(known, value, generation).status; }), value, true};
         }
     }
 
@@ -205,8 +207,19 @@ template <class K, class V, class Hash = SipHash<K>> class map {
         if (!inner_) {
             return Status::closed;
         }
-        std::for_each(inner_->flights.begin(), inner_->flights.end(), [](inside::Flights &flights) { flights.outdate_all(); });
+        inner_->outdate_all();
         return inner_->table.clear();
+    }
+    // Once it has returned, no key is found that was put before it began, nor a value that find_or_compute was computing then. A key is found whose put
+    // began afterwards. A put that runs meanwhile comes before or after it. It is one step, however many keys there are: their entries take room until
+    // others overwrite or evict them, and `size` counts them. ok or closed.
+    Status invalidate_all() noexcept {
+        if (!inner_) {
+            return Status::closed;
+        }
+        inner_->table.generation().begin_next();
+        inner_->outdate_all();
+        return Status::ok;
     }
 
     // How many keys there are. Calls that run meanwhile count or not. With a small table, a key whose move others disturbed for a tenth of a second counts
@@ -224,6 +237,9 @@ template <class K, class V, class Hash = SipHash<K>> class map {
     struct Inner {
         explicit Inner(Hash &&hash) : identities(std::move(hash)) {}
         inside::Flights &flights_of(const inside::Identity &key) noexcept { return flights[key.index % flights.size()]; }
+        void outdate_all() noexcept {
+            std::for_each(flights.begin(), flights.end(), [](inside::Flights &some) { some.outdate_all(); });
+        }
 
         inside::Identities<Key, Hash> identities;
         inside::Table<V> table{};

@@ -13,7 +13,7 @@
 namespace cefrodil {
 
 // Why an object left a map. evicted: another key was put, or the weights were over the bound. expired: its time was over before one of the others
-// happened.
+// happened, or invalidate_all had been called since its put.
 enum class Left { replaced, evicted, removed, expired };
 
 // What a map of objects does beside keeping them. None of these functions throws.
@@ -37,30 +37,35 @@ template <class K, class V> struct Object : Retired {
     // What it is made as: this alone, a WeighedObject, or a MortalObject.
     enum Kind : uint8_t { unmade, plain, weighed, mortal };
 
-    // The function gives the value. It is called when there is memory for it.
-    template <class Key, class Give> Object(Kind its_kind, const Key &its_key, const Give &give) : key(its_key), value(give()) {
-        kind.store(its_kind, std::memory_order_release);
-    }
-    // The word of an entry. What the index orders, the load of `is_plain` orders by the rules of the language, too: so ThreadSanitizer sees it.
+    // The function gives the value. It is called when there is memory for it. The kind is unmade.
+    template <class Key, class Give> Object(const Key &its_key, const Give &give) : key(its_key), value(give()) {}
+    // The word of an entry. What the index orders, the load of the head orders by the rules of the language, too: so ThreadSanitizer sees it.
     static Object *found_at(uint64_t word) noexcept { return reinterpret_cast<Object *>(static_cast<uintptr_t>(word)); }
     static Object *at(uint64_t word) noexcept {
         Object *const found = found_at(word);
-        static_cast<void>(found->is_plain());
+        static_cast<void>(found->kind());
         return found;
     }
     std::array<uint64_t, 1> word() const noexcept { return {static_cast<uint64_t>(reinterpret_cast<uintptr_t>(this))}; }
-    bool is_plain() const noexcept { return kind.load(std::memory_order_acquire) == plain; }
-    // It is what it will be, and may be put.
-    void end_making(Kind its_kind) noexcept { kind.store(its_kind, std::memory_order_release); }
+    static Kind kind_of(uint64_t head) noexcept { return static_cast<Kind>(head & all_kinds); }
+    static uint64_t generation_of(uint64_t head) noexcept { return head / (all_kinds + 1); }
+    Kind kind() const noexcept { return kind_of(head.load(std::memory_order_acquire)); }
+    uint64_t generation() const noexcept { return generation_of(head.load(std::memory_order_acquire)); }
+    // It is what it will be, and may be put. Called again, it moves the object to another generation.
+    void end_making(Kind its_kind, uint64_t generation) noexcept {
+        head.store(generation * (all_kinds + 1) + its_kind, std::memory_order_release);
+    }
 
-    std::atomic<Kind> kind{unmade};
+    // The kind, and before it the generation.
+    static constexpr uint64_t all_kinds = 0xff;
+    std::atomic<uint64_t> head{unmade};
     const K key;
     V value;
 };
 
 // The same in a map that bounds the sum of weights.
 template <class K, class V> struct WeighedObject : Object<K, V>, Weighed {
-    template <class Key, class Give> WeighedObject(const Key &its_key, const Give &give) : Object<K, V>(Object<K, V>::unmade, its_key, give) {}
+    using Object<K, V>::Object;
     static WeighedObject &of(Object<K, V> &object) noexcept { return static_cast<WeighedObject &>(object); }
 };
 
@@ -72,7 +77,7 @@ template <class K, class V> struct MortalObject final : WeighedObject<K, V>, Mor
 
 struct Destroy {
     template <class K, class V> void operator()(Object<K, V> *object) const noexcept {
-        switch (object->kind.load(std::memory_order_acquire)) {
+        switch (object->kind()) {
         case Object<K, V>::mortal: delete &MortalObject<K, V>::of(*object); break;
         case Object<K, V>::weighed: delete &WeighedObject<K, V>::of(*object); break;
         default: delete object;

@@ -104,7 +104,8 @@ template <class K, class V, class Hash = SipHash<K>, class Equal = std::equal_to
             return Status::closed;
         }
         Pinned pinned(inner_->objects);
-        const Seen seen = inner_->look(pinned, inner_->identities.of(key), key, inner_->objects.turns().looks());
+        const inside::Identity known = inner_->identities.of(key);
+        const Seen seen = inner_->look(pinned, known, key, inner_->objects.turns().looks(), inner_->generation());
         if (seen.status == Status::ok) {
             see(static_cast<const V &>(seen.object->value));
         }
@@ -150,8 +151,9 @@ template <class K, class V, class Hash = SipHash<K>, class Equal = std::equal_to
         }
         const inside::Identity known = inner_->identities.of(key);
         inner_->flights_of(known).outdate(known);
+        const uint64_t generation = inner_->generation();
         for (uint32_t repeat = 0;; repeat++) {
-            const Seen seen = inner_->look(Pinned(inner_->objects), known, key, inner_->objects.turns().tries());
+            const Seen seen = inner_->look(Pinned(inner_->objects), known, key, inner_->objects.turns().tries(), generation);
             if (seen.status != Status::ok) {
                 return seen.status;
             }
@@ -185,10 +187,21 @@ template <class K, class V, class Hash = SipHash<K>, class Equal = std::equal_to
         if (!inner_) {
             return Status::closed;
         }
-        std::for_each(inner_->flights.begin(), inner_->flights.end(), [](inside::Flights &flights) { flights.outdate_all(); });
+        inner_->outdate_all();
         return inner_->objects.clear();
     }
-    // Removes what has expired. Until then it stays until it is overwritten or evicted, and `size` and `weight` count it. As by `clear`.
+    // Once it has returned, no key is found that was put before it began, nor a value that find_or_compute was computing then. As by cefrodil::map. The
+    // objects stay until others overwrite or evict them, or until erase_expired. Until then `size` and `weight` count them. ok or closed.
+    Status invalidate_all() noexcept {
+        if (!inner_) {
+            return Status::closed;
+        }
+        inner_->objects.generation().begin_next();
+        inner_->outdate_all();
+        return Status::ok;
+    }
+    // Removes what has expired, and what was put before invalidate_all. As by `clear`. Until then it stays until it is overwritten or evicted, and `size` and
+    // `weight` count it.
     [[nodiscard]] Status erase_expired() { return inner_ ? inner_->objects.erase_expired() : Status::closed; }
     // Frees what has left the map and no call can use any more. Other calls do so now and then. Returns how many objects.
     size_t free_unused() noexcept { return inner_ ? inner_->objects.free_now() : 0; }
@@ -208,12 +221,13 @@ template <class K, class V, class Hash = SipHash<K>, class Equal = std::equal_to
         if (!flight.has_begun()) {
             return std::nullopt;
         }
+        const uint64_t generation = inner_->generation();
         // Another flight may have ended between the lookup and the begin of this one.
         if (std::optional<V> found = find(key)) {
             return Computed<V>{Status::ok, std::move(*found), false};
         }
         V value = function();
-        Own object = inner_->objects.make(key, [&]() -> const V & { return value; });
+        Own object = inner_->objects.make(key, [&]() -> const V & { return value; }, generation);
         const Status status = flight.land([&] {
             put = object ? inner_->objects.put_new(known.index, object) : put;
             return put.status == Status::changed ? Status::present : put.status;
@@ -230,9 +244,10 @@ template <class K, class V, class Hash = SipHash<K>, class Equal = std::equal_to
         }
         const inside::Identity known = inner_->identities.of(key);
         inner_->flights_of(known).outdate(known);
+        const uint64_t generation = inner_->generation();
         for (uint32_t repeat = 0;; repeat++) {
             Seen seen{};
-            Changed change = inner_->renew(known, key, life, function, seen);
+            Changed change = inner_->renew(known, key, life, function, generation, seen);
             if (seen.status != Status::ok || !is_lost(change.status)) {
                 return inner_->objects.end(change);
             }
@@ -248,7 +263,9 @@ template <class K, class V, class Hash = SipHash<K>, class Equal = std::equal_to
         }
         const inside::Identity known = inner_->identities.of(key);
         const auto give = [&]() -> Value && { return std::forward<Value>(value); };
-        Own object = life ? inner_->objects.make_until(key, give, inner_->objects.deadline_after(*life)) : inner_->objects.make(key, give);
+        Objects &objects = inner_->objects;
+        const uint64_t generation = inner_->generation();
+        Own object = life ? objects.make_until(key, give, generation, objects.deadline_after(*life)) : objects.make(key, give, generation);
         if (!object) {
             return {Status::no_memory, false, false};
         }
@@ -272,11 +289,17 @@ template <class K, class V, class Hash = SipHash<K>, class Equal = std::equal_to
     struct Inner {
         Inner(size_t slots, Rules &&rules, Hash &&its_hash) : identities(std::move(its_hash)), objects(slots, std::move(rules)) {}
         inside::Flights &flights_of(const inside::Identity &key) noexcept { return flights[key.index % flights.size()]; }
+        void outdate_all() noexcept {
+            std::for_each(flights.begin(), flights.end(), [](inside::Flights &some) { some.outdate_all(); });
+        }
+        uint64_t generation() noexcept { return objects.generation().now(); }
 
         // The key's object. An object of another key with the same number is none of its. Compiled into its callers: a call costs a tenth of a lookup.
-        Seen look(Pinned &&pinned, const inside::Identity &known, Key key, uint32_t most) const { return look(pinned, known, key, most); }
-        [[gnu::always_inline]] Seen look(Pinned &pinned, const inside::Identity &known, Key key, uint32_t most) const {
-            Seen seen = pinned.look(known.index, most);
+        Seen look(Pinned &&pinned, const inside::Identity &known, Key key, uint32_t most, uint64_t generation) const {
+            return look(pinned, known, key, most, generation);
+        }
+        [[gnu::always_inline]] Seen look(Pinned &pinned, const inside::Identity &known, Key key, uint32_t most, uint64_t generation) const {
+            Seen seen = pinned.look(known.index, most, generation);
             if (seen.status == Status::ok && !Equal()(seen.object->key, key)) {
                 seen.status = Status::absent, seen.object = nullptr;
             }
@@ -285,7 +308,7 @@ template <class K, class V, class Hash = SipHash<K>, class Equal = std::equal_to
         // Puts a key that is absent, or says `present`.
         Changed insert(const inside::Identity &known, Key key, Own &object) {
             for (uint32_t repeat = 0;; repeat++) {
-                const Seen seen = look(Pinned(objects), known, key, objects.turns().tries());
+                const Seen seen = look(Pinned(objects), known, key, objects.turns().tries(), object->generation());
                 if (seen.status != Status::absent) {
                     return Objects::refused(seen.status == Status::ok ? Status::present : seen.status);
                 }
@@ -300,8 +323,9 @@ template <class K, class V, class Hash = SipHash<K>, class Equal = std::equal_to
         }
         // Puts what the function makes of the key's value, if no other thread does meanwhile. `seen`: what it looked up.
         template <class Function>
-        [[gnu::always_inline]] Changed renew(const inside::Identity &known, Key key, const Life &life, Function &function, Seen &seen) {
-            Own object = made_of(known, key, life, function, seen);
+        [[gnu::always_inline]] Changed renew(const inside::Identity &known, Key key, const Life &life, Function &function, uint64_t generation,
+                                             Seen &seen) {
+            Own object = made_of(known, key, life, function, generation, seen);
             if (seen.status != Status::ok) {
                 return Objects::refused(seen.status);
             }
@@ -310,14 +334,17 @@ template <class K, class V, class Hash = SipHash<K>, class Equal = std::equal_to
             return object ? objects.put_over(known.index, seen.since, object) : Objects::refused(Status::no_memory);
         }
         template <class Function>
-        [[gnu::always_inline]] Own made_of(const inside::Identity &known, Key key, const Life &life, Function &function, Seen &seen) {
+        [[gnu::always_inline]] Own made_of(const inside::Identity &known, Key key, const Life &life, Function &function, uint64_t generation,
+                                           Seen &seen) {
             Pinned pinned(objects);
-            seen = look(pinned, known, key, objects.turns().tries());
+            seen = look(pinned, known, key, objects.turns().tries(), generation);
             if (seen.status != Status::ok) {
                 return Own();
             }
             const auto give = [&] { return function(static_cast<const V &>(seen.object->value)); };
-            return objects.make_until(key, give, life ? objects.deadline_after(*life) : Objects::deadline_of(*seen.object));
+            // It has the generation of what it replaces.
+            const uint64_t deadline = life ? objects.deadline_after(*life) : Objects::deadline_of(*seen.object);
+            return objects.make_until(key, give, seen.object->generation(), deadline);
         }
 
         inside::Identities<Key, Hash> identities;

@@ -2,6 +2,7 @@
 #ifndef CEFRODIL_OBJECTS_HPP
 #define CEFRODIL_OBJECTS_HPP
 
+#include "cefrodil_generations.hpp"
 #include "cefrodil_map.hpp"
 #include "cefrodil_object.hpp"
 #include <algorithm>
@@ -9,6 +10,7 @@
 #include <memory>
 #include <new>
 #include <optional>
+#include <type_traits>
 #include <utility>
 #include <vector>
 
@@ -52,7 +54,8 @@ template <class K, class V> class Objects {
         return is_open_ && is_weighed && !has_memory(grow) ? Status::no_memory : status;
     }
 
-    // What is under a number, and the moment of its put. None: the status says why. absent: if the moment is not 0, an object is there that has expired.
+    // What is under a number, and the moment of its put. None: the status says why. absent: if the moment is not 0, an object is there that has expired,
+    // or is of an older generation than the call.
     struct Seen {
         Status status;
         Each *object;
@@ -62,20 +65,20 @@ template <class K, class V> class Objects {
     class Pinned {
       public:
         explicit Pinned(Objects &those) noexcept : objects_(those), own_(those.epochs_, those.turns_.place()) {}
-        [[gnu::always_inline]] Seen look(uint64_t index, uint32_t most) noexcept {
+        [[gnu::always_inline]] Seen look(uint64_t index, uint32_t most, uint64_t generation) noexcept {
             std::array<uint64_t, 1> word;
             const inside::Seen seen = objects_.turns_.get(index, most, word);
             if (seen.status != Status::ok) {
                 return {seen.status, nullptr, seen.since};
             }
             Each *const object = Each::found_at(word[0]);
-            return objects_.is_used(*object) ? Seen{Status::ok, object, seen.since} : Seen{Status::absent, nullptr, seen.since};
+            return objects_.is_used(*object, generation) ? Seen{Status::ok, object, seen.since} : Seen{Status::absent, nullptr, seen.since};
         }
-        // The moment of the put of what is under a number, if that has expired, or else 0.
-        uint64_t expired(uint64_t index) noexcept {
+        // The moment of the put of what is under a number, if that has expired or is of an older generation, or else 0.
+        uint64_t expired(uint64_t index, uint64_t generation) noexcept {
             std::array<uint64_t, 1> word;
             const inside::Seen seen = objects_.turns_.get(index, objects_.turns_.looks(), word);
-            return seen.status == Status::ok && objects_.has_expired(*Each::found_at(word[0])) ? seen.since : 0;
+            return seen.status == Status::ok && objects_.has_ended(*Each::found_at(word[0]), generation) ? seen.since : 0;
         }
 
       private:
@@ -92,24 +95,32 @@ template <class K, class V> class Objects {
         Place put;
     };
     static Changed refused(Status status) noexcept { return {status, nullptr, Left::replaced, false, false, {0, 0}}; }
-    // Makes an object. None without memory: then the function is not called.
-    template <class Key, class Give> [[gnu::always_inline]] Own make(const Key &key, const Give &give) const {
+    // Makes an object of this generation. None without memory: then the function is not called.
+    template <class Key, class Give> [[gnu::always_inline]] Own make(const Key &key, const Give &give, uint64_t generation) const {
         if (clock_.has_lives()) {
-            return make_mortal(key, give, clock_.deadline());
+            return make_mortal(key, give, generation, clock_.deadline());
         }
-        return weights_ ? made<Heavy>(Each::weighed, key, give) : Own(new (std::nothrow) Each(Each::plain, key, give));
+        return weights_ ? made<Heavy>(Each::weighed, key, give, generation) : made<Each>(Each::plain, key, give, generation);
     }
     // The same, with a deadline of its own.
-    template <class Key, class Give> Own make_until(const Key &key, const Give &give, uint64_t deadline) const {
-        return clock_.has_lives() || deadline != never ? make_mortal(key, give, deadline) : make(key, give);
+    template <class Key, class Give> Own make_until(const Key &key, const Give &give, uint64_t generation, uint64_t deadline) const {
+        const bool is_mortal = clock_.has_lives() || deadline != never;
+        return is_mortal ? make_mortal(key, give, generation, deadline) : make(key, give, generation);
     }
     uint64_t deadline_after(std::chrono::nanoseconds life) const noexcept { return clock_.deadline_after(life); }
     static uint64_t deadline_of(Each &object) noexcept { return is_mortal(object) ? Dated::of(object).deadline : never; }
     // Puts whatever is there.
     [[gnu::always_inline]] Changed put(uint64_t index, Own &object) noexcept {
-        return offered(index, object, [&] {
+        const Epochs::Pinned pinned(epochs_, turns_.place());
+        Each &put = *object;
+        const Changed change = offered(index, object, [&] {
             return turns_.repeated([&](Slot<1> &slot) { return counted(slot, slot.handle.try_swap(index, object->word())); });
         });
+        // It may have replaced an object of the next generation. Another call may have removed it by now, but it is not freed.
+        if (const uint64_t now = generation_.now(); change.status == Status::ok && put.generation() != now) {
+            put.end_making(put.kind(), now);
+        }
+        return change;
     }
     // Puts only where nothing is. present: something is.
     Changed put_absent(uint64_t index, Own &object) noexcept {
@@ -121,7 +132,7 @@ template <class K, class V> class Objects {
     Changed put_new(uint64_t index, Own &object) noexcept {
         Changed put = put_absent(index, object);
         if (put.status == Status::present) {
-            const uint64_t since = Pinned(*this).expired(index);
+            const uint64_t since = Pinned(*this).expired(index, object->generation());
             put = since != 0 ? put_over(index, since, object) : put;
         }
         return put;
@@ -160,12 +171,12 @@ template <class K, class V> class Objects {
         }
         return status;
     }
-    // Removes what has expired, by such a list.
+    // Removes what has expired or is of an older generation, by such a list.
     Status erase_expired() noexcept {
         std::vector<uint64_t> list;
         Status status = turns_.repeated([&](Slot<1> &slot) { return slot.handle.try_entries(list); });
         for (size_t at = 0; at < list.size() && status == Status::ok; at += 2) {
-            const uint64_t since = Pinned(*this).expired(list[at]);
+            const uint64_t since = Pinned(*this).expired(list[at], generation_.now());
             status = since != 0 ? end(take(list[at], since)) : status;
             status = status == Status::absent || status == Status::changed ? Status::ok : status;
         }
@@ -176,6 +187,7 @@ template <class K, class V> class Objects {
     uint64_t weight() const noexcept { return rules_.weigher ? weights_->sum() : 0; }
     uint64_t capacity() const noexcept { return weights_ && !rules_.weigher ? weights_->bound() : turns_.capacity(); }
 
+    Generation &generation() noexcept { return generation_; }
     const Turns<1> &turns() const noexcept { return turns_; }
 
   private:
@@ -198,7 +210,9 @@ template <class K, class V> class Objects {
         }
         return {taken.status, old, why, false, false, {0, 0}};
     }
-    static bool is_mortal(const Each &object) noexcept { return object.kind.load(std::memory_order_acquire) == Each::mortal; }
+    static bool is_mortal(const Each &object) noexcept { return object.kind() == Each::mortal; }
+    // For a call of this generation.
+    bool has_ended(Each &object, uint64_t generation) const noexcept { return object.generation() < generation || has_expired(object); }
     bool has_expired(Each &object) const noexcept {
         if (!is_mortal(object)) {
             return false;
@@ -206,9 +220,13 @@ template <class K, class V> class Objects {
         const Dated &dated = Dated::of(object);
         return clock_.has_passed(dated.deadline) || clock_.has_passed(dated.idle_deadline.load(std::memory_order_relaxed));
     }
-    // A call has found it. Whether it has not expired: then it is used.
-    [[gnu::always_inline]] bool is_used(Each &object) noexcept {
-        const auto kind = object.kind.load(std::memory_order_acquire);
+    // A call of this generation has found it. Whether it has not ended: then it is used.
+    [[gnu::always_inline]] bool is_used(Each &object, uint64_t generation) noexcept {
+        const uint64_t head = object.head.load(std::memory_order_acquire);
+        if (Each::generation_of(head) < generation) {
+            return false;
+        }
+        const auto kind = Each::kind_of(head);
         if (kind == Each::mortal) {
             return is_used_in_time(Dated::of(object));
         }
@@ -227,16 +245,21 @@ template <class K, class V> class Objects {
         }
         return is_live;
     }
-    template <class Made, class Key, class Give> Own made(typename Each::Kind kind, const Key &key, const Give &give) const {
+    template <class Made, class Key, class Give>
+    Own made(typename Each::Kind kind, const Key &key, const Give &give, uint64_t generation) const {
         Made *const object = new (std::nothrow) Made(key, give);
-        if (object != nullptr) {
-            object->weight = !rules_.weigher ? 1 : rules_.weigher(object->key, object->value);
-            object->end_making(kind);
+        if (object == nullptr) {
+            return Own();
         }
+        if constexpr (!std::is_same_v<Made, Each>) {
+            object->weight = !rules_.weigher ? 1 : rules_.weigher(object->key, object->value);
+        }
+        object->end_making(kind, generation);
         return Own(object);
     }
-    template <class Key, class Give> [[gnu::cold]] [[gnu::noinline]] Own make_mortal(const Key &key, const Give &give, uint64_t deadline) const {
-        Own object = made<Dated>(Each::mortal, key, give);
+    template <class Key, class Give>
+    [[gnu::cold]] [[gnu::noinline]] Own make_mortal(const Key &key, const Give &give, uint64_t generation, uint64_t deadline) const {
+        Own object = made<Dated>(Each::mortal, key, give, generation);
         if (object) {
             Dated::of(*object).deadline = deadline;
             Dated::of(*object).idle_deadline.store(clock_.idle_deadline(), std::memory_order_relaxed);
@@ -265,7 +288,7 @@ template <class K, class V> class Objects {
     }
     void retire(const Changed &change) noexcept {
         if (rules_.listener) {
-            rules_.listener(change.old->key, change.old->value, has_expired(*change.old) ? Left::expired : change.why);
+            rules_.listener(change.old->key, change.old->value, has_ended(*change.old, generation_.now()) ? Left::expired : change.why);
         }
         static_cast<void>(free(epochs_.retire(*change.old)));
     }
@@ -318,6 +341,7 @@ template <class K, class V> class Objects {
     }
 
     Turns<1> turns_{};
+    Generation generation_{};
     bool is_open_ = false;
     Epochs epochs_;
     const Rules rules_;

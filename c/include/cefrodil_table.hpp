@@ -2,6 +2,7 @@
 #ifndef CEFRODIL_TABLE_HPP
 #define CEFRODIL_TABLE_HPP
 
+#include "cefrodil_generations.hpp"
 #include "cefrodil_packing.hpp"
 #include "cefrodil_tiers.hpp"
 #include <algorithm>
@@ -18,7 +19,7 @@ template <class V> struct Found {
 };
 
 // The answer of a put. `renewed`: it overwrote the key's value; or, by `insert_or_assign`, that of a key with the same hash, which is lost.
-// `evicted`: another key's entry is lost.
+// `evicted`: another key's entry is lost. An entry that was put before invalidate_all counts as another key's, but for `insert_or_assign`.
 struct Stored {
     Status status;
     bool renewed;
@@ -33,7 +34,8 @@ template <class V> class Table : private Packing<V> {
     using typename Packing<V>::Words;
 
   public:
-    // What is under a key's number. ok: the key's value, and the moment of its put. absent: if `since` is not 0, another key's entry is there.
+    // What is under a key's number. ok: the key's value, and the moment of its put. absent: if `since` is not 0, another key's entry is there, or one of
+    // another generation.
     struct Entry {
         Status status;
         std::optional<V> value;
@@ -45,7 +47,7 @@ template <class V> class Table : private Packing<V> {
     }
 
     // A lookup for its value, which is set if the status is ok. If it stays busy, that is a miss.
-    Status find(const Identity &key, std::optional<V> &value) noexcept { return looked(key, turns().looks(), true, value).status; }
+    Status find(const Identity &key, std::optional<V> &value) noexcept { return looked(now(key), turns().looks(), true, value).status; }
     // The same for a few keys, by one call of the index. Sets the values that are there. A key that is busy is looked up again by itself, and so is one
     // that the main table lacks if the small one may have it.
     static constexpr size_t few = 32;
@@ -54,10 +56,11 @@ template <class V> class Table : private Packing<V> {
         std::array<Words, few> found;
         std::array<cefrodil_answer, few> answers;
         std::transform(keys, keys + count, indices.begin(), [](const Identity &key) { return key.index; });
+        const uint64_t generation = generation_.now();
         const bool lacks_young = tiers_.get_many(indices.data(), count, found.data(), answers.data());
         for (size_t i = 0; i < count; i++) {
             if (answers[i].status == CEFRODIL_OK) {
-                static_cast<void>(set_value(keys[i], found[i], values[i]));
+                static_cast<void>(set_value(in_generation(keys[i], generation), found[i], values[i]));
             } else if (answers[i].status == CEFRODIL_BUSY || lacks_young) {
                 static_cast<void>(find(keys[i], values[i]));
             }
@@ -65,14 +68,16 @@ template <class V> class Table : private Packing<V> {
     }
     // A lookup that is no use of the key. It is repeated as often as a put.
     Found<V> peek(const Identity &key) noexcept {
+        const Identity known = now(key);
         const Answer<words> answer = tiers_.peek(key.index);
         Found<V> found{answer.status, std::nullopt};
-        if (answer.value && !set_value(key, *answer.value, found.value)) {
+        if (answer.value && !set_value(known, *answer.value, found.value)) {
             found.status = Status::absent;
         }
         return found;
     }
-    // A lookup for a write, which is repeated as often as a put. With `moves`, a key that is found in the small table moves to the main one.
+    // A lookup for a write, which is repeated as often as a put. The key is as its entries of one generation have it. With `moves`, a key that is found in
+    // the small table moves to the main one.
     Entry look(const Identity &key, bool moves) noexcept {
         for (uint32_t repeat = 0;; repeat++) {
             const Entry entry = look_once(key, moves);
@@ -85,40 +90,64 @@ template <class V> class Table : private Packing<V> {
             }
         }
     }
-
-    Stored put(const Identity &key, const V &value) noexcept { return stored(tiers_.put(key.index, pack(key, value))); }
-
-    // Another key's entry under the same number gives way.
+    // Puts whatever is there.
+    Stored put(const Identity &key, const V &value) noexcept {
+        const uint64_t generation = generation_.now();
+        const Stored put = stored(tiers_.put(key.index, pack(in_generation(key, generation), value)));
+        // It may have overwritten an entry of the next generation.
+        if (put.status == Status::ok && generation_.now() != generation) {
+            static_cast<void>(this->put(key, value));
+        }
+        return put;
+    }
     Stored put_if_absent(const Identity &key, const V &value) noexcept {
-        const Words packed = pack(key, value);
+        for (;;) {
+            const Stored put = put_if_absent(key, value, generation_.now());
+            if (put.status != Status::stale) {
+                return put;
+            }
+        }
+    }
+    // The same, as an entry of this generation. An entry of an older one gives way, and so does another key's entry under the same number. stale: a newer
+    // generation has begun, and what is there may be of it.
+    Stored put_if_absent(const Identity &key, const V &value, uint64_t generation) noexcept {
+        const Identity known = in_generation(key, generation);
+        const Words packed = pack(known, value);
         for (uint32_t repeat = 0;; repeat++) {
             const Stored put = stored(tiers_.put_if_absent(key.index, packed));
             if (put.status != Status::present) {
                 return put;
             }
-            const Entry entry = look(key, false);
+            const Entry entry = look(known, false);
             if (entry.status != Status::absent) {
                 return {entry.status == Status::ok ? Status::present : entry.status, false, false};
             }
-            const Status status = entry.since != 0 ? put_over(key, entry.since, packed) : Status::changed;
+            if (generation_.now() != generation) {
+                return {Status::stale, false, false};
+            }
+            const Status status = entry.since != 0 ? put_over(known, entry.since, packed) : Status::changed;
             if (!is_lost(status) || repeat >= turns().tries()) {
                 return {is_lost(status) ? Status::changed : status, false, status == Status::ok};
             }
         }
     }
 
-    // Puts what the function makes of the key's value. If the key is absent, puts `first`, or nothing if that is null.
+    // Puts what the function makes of the key's value. If the key is absent, puts `first`, or nothing if that is null. The new entry has the generation in
+    // which the old one was found.
     template <class Function> Found<V> update(const Identity &key, const V *first, const Function &function) {
         for (uint32_t repeat = 0;; repeat++) {
-            const Entry entry = look(key, true);
+            const uint64_t generation = generation_.now();
+            const Identity known = in_generation(key, generation);
+            const Entry entry = look(known, true);
             if (entry.status != Status::ok && (entry.status != Status::absent || first == nullptr)) {
                 return {entry.status, std::nullopt};
             }
-            const Found<V> tried = entry.value ? renew(key, entry, function) : Found<V>{put_if_absent(key, *first).status, *first};
+            const Found<V> tried =
+                entry.value ? renew(known, entry, function) : Found<V>{put_if_absent(key, *first, generation).status, *first};
             if (tried.status == Status::ok) {
                 return tried;
             }
-            const bool is_late = is_lost(tried.status) || tried.status == Status::present;
+            const bool is_late = is_lost(tried.status) || tried.status == Status::present || tried.status == Status::stale;
             if (!is_late || repeat >= turns().tries()) {
                 return {is_late ? Status::changed : tried.status, std::nullopt};
             }
@@ -127,7 +156,7 @@ template <class V> class Table : private Packing<V> {
 
     Status erase(const Identity &key) noexcept {
         for (uint32_t repeat = 0;; repeat++) {
-            const Entry entry = look(key, false);
+            const Entry entry = look(now(key), false);
             if (entry.status != Status::ok) {
                 return entry.status;
             }
@@ -146,10 +175,13 @@ template <class V> class Table : private Packing<V> {
         return status == Status::ok ? remove_all(main) : status;
     }
 
+    Generation &generation() noexcept { return generation_; }
     Tiers<words> &tiers() noexcept { return tiers_; }
     const Turns<words> &turns() const noexcept { return tiers_.turns(); }
 
   private:
+    // The key as its entries of the present generation have it.
+    Identity now(const Identity &key) const noexcept { return in_generation(key, generation_.now()); }
     // Compiled into `find`.
     [[gnu::always_inline]] Seen looked(const Identity &key, uint32_t most, bool moves, std::optional<V> &value) noexcept {
         Words packed;
@@ -189,6 +221,7 @@ template <class V> class Table : private Packing<V> {
     }
 
     Tiers<words> tiers_{};
+    Generation generation_{};
 };
 
 } // namespace inside
