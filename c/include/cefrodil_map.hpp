@@ -37,7 +37,7 @@
 //
 // No call throws, but what your hash and your functions throw. A call that other threads keep from its turn is repeated, up to `tries` times. At
 // first it spins, then it yields, then it sleeps. At last it returns `held` or `busy`. A call that fails has changed no key and no value; only
-// `clear` may have removed some keys.
+// `clear` may have removed some keys. It can be compiled with -fno-exceptions and -fno-rtti. Then the program ends if a call finds no memory.
 #ifndef CEFRODIL_MAP_HPP
 #define CEFRODIL_MAP_HPP
 

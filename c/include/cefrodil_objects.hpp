@@ -74,6 +74,15 @@ template <class K, class V> class Objects {
             Each *const object = Each::found_at(word[0]);
             return objects_.is_used(*object, generation) ? Seen{Status::ok, object, seen.since} : Seen{Status::absent, nullptr, seen.since};
         }
+        // The same, which is no use of the object. It takes the turn at the key's shard, so the status may be held, and never busy.
+        Seen peek(uint64_t index, uint64_t generation) noexcept {
+            const Answer<1> answer = objects_.turns_.repeated([&](Slot<1> &slot) { return slot.handle.try_peek(index); });
+            if (!answer.value) {
+                return {answer.status, nullptr, answer.since};
+            }
+            Each *const object = Each::at((*answer.value)[0]);
+            return objects_.has_ended(*object, generation) ? Seen{Status::absent, nullptr, answer.since} : Seen{Status::ok, object, answer.since};
+        }
         // The moment of the put of what is under a number, if that has expired or is of an older generation, or else 0.
         uint64_t expired(uint64_t index, uint64_t generation) noexcept {
             std::array<uint64_t, 1> word;
