@@ -42,24 +42,24 @@ struct CxxWeights : rl::test_suite<CxxWeights, 3> {
         }
         const uint64_t old = entry(key).exchange(number, std::memory_order_acq_rel);
         if (explored::without("comparison after entering")) {
-            shrink({key, number});
+            shrink({key, number}, std::nullopt);
         }
-        weights.enter(object, {key, number}, old != 0 ? &objects[old - 1] : nullptr, old != 0);
+        const auto next = weights.enter(object, {key, number}, old != 0 ? &objects[old - 1] : nullptr, old != 0);
         if (!explored::without("comparison after entering")) {
-            shrink({key, number});
+            shrink({key, number}, next);
         }
         if (is_late) {
             weights.add(weight);
         }
     }
-    void shrink(const cefrodil::inside::Place &just_put) {
-        while (weights.is_over()) {
-            const auto victim = weights.victim(just_put);
-            if (!victim) {
+    void shrink(const cefrodil::inside::Place &just_put, std::optional<cefrodil::inside::Place> next) {
+        for (; weights.is_over(); next.reset()) {
+            next = next ? next : weights.victim(just_put);
+            if (!next) {
                 return;
             }
-            if (entry(victim->index).compare_exchange(victim->since, 0, std::memory_order_acq_rel)) {
-                leave(victim->since);
+            if (entry(next->index).compare_exchange(next->since, 0, std::memory_order_acq_rel)) {
+                leave(next->since);
             } else {
                 rl::yield(1, $);
             }

@@ -95,15 +95,17 @@ template <class K, class V> class Objects {
         Epochs::Pinned own_;
     };
 
-    // What a put or a removal came to. `old`: what gave way. It must be given to `end`. `put`: of a put in a map that bounds the sum of weights.
+    // What a put or a removal came to. `old`: what gave way. It must be given to `end`. Of a put in a map that bounds the sum of weights: the put, and what
+    // is to leave.
     struct Changed {
         Status status;
         Each *old;
         Left why;
         bool renewed, evicted;
         Place put;
+        std::optional<Place> victim;
     };
-    static Changed refused(Status status) noexcept { return {status, nullptr, Left::replaced, false, false, {0, 0}}; }
+    static Changed refused(Status status) noexcept { return {status, nullptr, Left::replaced, false, false, {0, 0}, std::nullopt}; }
     // Makes an object of this generation. None without memory: then the function is not called.
     template <class Key, class Give> [[gnu::always_inline]] Own make(const Key &key, const Give &give, uint64_t generation) const {
         if (clock_.has_lives()) {
@@ -163,7 +165,7 @@ template <class K, class V> class Objects {
             retire(change);
         }
         if (weights_) {
-            change.evicted = shrink(change.put) || change.evicted;
+            change.evicted = shrink(change.put, change.victim) || change.evicted;
             free_much();
         }
         return change.status;
@@ -217,7 +219,7 @@ template <class K, class V> class Objects {
         if (weights_ && old != nullptr) {
             weights_->leave(Heavy::of(*old), why == Left::evicted);
         }
-        return {taken.status, old, why, false, false, {0, 0}};
+        return {taken.status, old, why, false, false, {0, 0}, std::nullopt};
     }
     static bool is_mortal(const Each &object) noexcept { return object.kind() == Each::mortal; }
     // For a call of this generation.
@@ -289,7 +291,7 @@ template <class K, class V> class Objects {
         Changed change = ended(object, swapped);
         if (change.status == Status::ok) {
             change.put = {index, swapped.at};
-            weights_->enter(heavy, change.put, change.old != nullptr ? &Heavy::of(*change.old) : nullptr, change.renewed);
+            change.victim = weights_->enter(heavy, change.put, change.old != nullptr ? &Heavy::of(*change.old) : nullptr, change.renewed);
         } else {
             weights_->subtract(heavy.weight);
         }
@@ -301,16 +303,16 @@ template <class K, class V> class Objects {
         }
         static_cast<void>(free(epochs_.retire(*change.old)));
     }
-    // Removes objects until the others are within the bound. Whether any was removed. It gives up if there is none left, or if other threads keep it
-    // from each try: then a later put goes on.
-    bool shrink(const Place &just_put) noexcept {
+    // Removes objects until the others are within the bound: `next` first, if there is one. Whether any was removed. It gives up if there is none left, or
+    // if other threads keep it from each try: then a later put goes on.
+    bool shrink(const Place &just_put, std::optional<Place> next) noexcept {
         bool has_evicted = false;
-        for (uint32_t failed = 0; weights_->is_over() && failed <= turns_.tries();) {
-            const auto victim = weights_->victim(just_put);
-            if (!victim) {
+        for (uint32_t failed = 0; weights_->is_over() && failed <= turns_.tries(); next.reset()) {
+            next = next ? next : weights_->victim(just_put);
+            if (!next) {
                 break;
             }
-            const Changed taken = take(victim->index, victim->since, Left::evicted);
+            const Changed taken = take(next->index, next->since, Left::evicted);
             if (taken.status == Status::ok) {
                 retire(taken);
                 has_evicted = true;
@@ -335,7 +337,7 @@ template <class K, class V> class Objects {
         static_cast<void>(object.release());
         const bool evicted = swapped.evicted.has_value();
         Each *const old = swapped.old ? Each::at((*swapped.old)[0]) : nullptr;
-        return {Status::ok, old, evicted ? Left::evicted : Left::replaced, old != nullptr && !evicted, evicted, {0, 0}};
+        return {Status::ok, old, evicted ? Left::evicted : Left::replaced, old != nullptr && !evicted, evicted, {0, 0}, std::nullopt};
     }
     size_t free(Retired *first) noexcept {
         size_t count = 0;

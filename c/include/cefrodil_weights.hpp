@@ -90,27 +90,32 @@ template <class Parts> class WeightsOf {
     uint64_t bound() const noexcept { return bound_; }
 
     // The object was put. It may have left since: then it does not enter a ring. The caller keeps it from being freed. `old`: what gave way to it in the
-    // index, if anything did; `renewed`: that was under the same key, so the object goes to its ring, and was used if that was.
-    void enter(Weighed &object, const Place &put, Weighed *old, bool renewed) noexcept {
-        {
-            const std::lock_guard<typename Parts::Mutex> guard(lock_);
-            object.place = put;
-            if (renewed && old->ring != In::none) {
-                object.ring = old->ring;
-                object.is_used.store(old->is_used.load(std::memory_order_relaxed), std::memory_order_relaxed);
-            } else {
-                object.ring = ring_of_new(put.index);
-            }
-            if (old != nullptr) {
-                unlink_left(*old);
-            }
-            if (!object.has_left) {
-                link(object);
-            }
-        }
+    // index, if anything did; `renewed`: that was under the same key, so the object goes to its ring, and was used if that was. Returns what `victim`
+    // does, if the sum is over the bound.
+    std::optional<Place> enter(Weighed &object, const Place &put, Weighed *old, bool renewed) noexcept {
         if (old != nullptr) {
             wait_to_be_freed(*old);
         }
+        const std::lock_guard<typename Parts::Mutex> guard(lock_);
+        object.place = put;
+        if (renewed && old->ring != In::none) {
+            object.ring = old->ring;
+            object.is_used.store(old->is_used.load(std::memory_order_relaxed), std::memory_order_relaxed);
+        } else {
+            object.ring = ring_of_new(put.index);
+        }
+        if (old != nullptr) {
+            unlink_left(*old);
+        }
+        if (!object.has_left) {
+            link(object);
+        }
+        return is_over() ? next_victim(put) : std::nullopt;
+    }
+    // The next one to leave, but what was just put only if it must be. It stays in its ring until it has left. None: the rings are empty.
+    std::optional<Place> victim(const Place &just_put) noexcept {
+        const std::lock_guard<typename Parts::Mutex> guard(lock_);
+        return next_victim(just_put);
     }
     // The object has left the index. From now on it waits to be freed. `evicted`: it gave way to the bound.
     void leave(Weighed &object, bool evicted) noexcept {
@@ -126,28 +131,6 @@ template <class Parts> class WeightsOf {
     void freed(const Weighed &object) noexcept { waiting_.fetch_sub(object.weight, std::memory_order_relaxed); }
     // Whether what waits to be freed weighs more than a sixteenth of the bound.
     bool has_much_waiting() const noexcept { return waiting_.load(std::memory_order_relaxed) > bound_ / 16; }
-    // The next one to leave, but what was just put only if it must be. It stays in its ring until it has left. None: the rings are empty.
-    std::optional<Place> victim(const Place &just_put) noexcept {
-        const std::lock_guard<typename Parts::Mutex> guard(lock_);
-        is_full_ = true;
-        In passed = In::none;
-        for (size_t stayed = 0;; stayed++) {
-            Ring &ring = next_ring(passed);
-            if (ring.first == nullptr) {
-                return std::nullopt;
-            }
-            Weighed &object = *ring.first;
-            ring.first = object.next;
-            if (stayed < most_stay && object.is_of(just_put)) {
-                // All that were before it in its ring were looked at.
-                passed = object.ring;
-            } else if (stayed < most_stay && object.is_used.load(std::memory_order_relaxed)) {
-                stay(object);
-            } else {
-                return object.place;
-            }
-        }
-    }
 
   private:
     using Ring = RingOf<Weighed>;
@@ -171,6 +154,26 @@ template <class Parts> class WeightsOf {
         }
         left_->fit(objects_);
         return is_full_ && !left_->take(index) ? In::small : In::main;
+    }
+    std::optional<Place> next_victim(const Place &just_put) noexcept {
+        is_full_ = true;
+        In passed = In::none;
+        for (size_t stayed = 0;; stayed++) {
+            Ring &ring = next_ring(passed);
+            if (ring.first == nullptr) {
+                return std::nullopt;
+            }
+            Weighed &object = *ring.first;
+            ring.first = object.next;
+            if (stayed < most_stay && object.is_of(just_put)) {
+                // All that were before it in its ring were looked at.
+                passed = object.ring;
+            } else if (stayed < most_stay && object.is_used.load(std::memory_order_relaxed)) {
+                stay(object);
+            } else {
+                return object.place;
+            }
+        }
     }
     // It was used, so it goes to the end of the main ring.
     void stay(Weighed &object) noexcept {

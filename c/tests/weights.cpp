@@ -94,16 +94,14 @@ class Rings {
 
     Rings(uint64_t bound, bool has_small) : weights(bound, 1000, has_small) {}
 
-    void enter(uint64_t number, uint64_t weight = 10, Weighed *old = nullptr) {
+    // Returns the number of the next one to leave, if the sum is over the bound, or -1.
+    long enter(uint64_t number, uint64_t weight = 10, Weighed *old = nullptr) {
         objects[number].weight = weight;
         weights.add(weight);
-        weights.enter(objects[number], {number, number}, old, old != nullptr);
+        return number_of(weights.enter(objects[number], {number, number}, old, old != nullptr));
     }
     // The number of the next one to leave.
-    long next(uint64_t just_put = 999) {
-        const auto victim = weights.victim({just_put, just_put});
-        return victim ? long(victim->index) : -1;
-    }
+    long next(uint64_t just_put = 999) { return number_of(weights.victim({just_put, just_put})); }
     // It leaves.
     long evict(uint64_t just_put = 999) {
         const long number = next(just_put);
@@ -113,13 +111,16 @@ class Rings {
 
     cefrodil::inside::Weights weights;
     std::vector<Weighed> objects = std::vector<Weighed>(3000);
+
+  private:
+    static long number_of(const std::optional<cefrodil::inside::Place> &victim) { return victim ? long(victim->index) : -1; }
 };
 
 static void one_ring() {
     Rings rings(100, false);
     MUST(rings.next() == -1);
     for (uint64_t n = 0; n < 4; n++) {
-        rings.enter(n);
+        MUST(rings.enter(n) == -1);
     }
     // Each stays in the ring until it has left.
     MUST(rings.next() == 0 && rings.next() == 1 && rings.next() == 2 && rings.next() == 3 && rings.next() == 0);
@@ -132,8 +133,7 @@ static void one_ring() {
     MUST(rings.next() == 2 && rings.next() == 2 && rings.weights.sum() == 10);
     // What was just put leaves only if it must.
     MUST(rings.next(2) == 2);
-    rings.enter(4);
-    MUST(rings.next(2) == 4 && rings.next(2) == 4 && rings.next(4) == 2);
+    MUST(rings.enter(4) == -1 && rings.next(2) == 4 && rings.next(2) == 4 && rings.next(4) == 2);
     rings.weights.leave(rings.objects[2], false);
     rings.weights.leave(rings.objects[4], false);
     MUST(rings.next() == -1 && rings.weights.sum() == 0 && !rings.weights.is_over());
@@ -141,14 +141,14 @@ static void one_ring() {
     rings.weights.add(10);
     rings.objects[5].weight = 10;
     rings.weights.leave(rings.objects[5], false);
-    rings.weights.enter(rings.objects[5], {5, 5}, nullptr, false);
-    MUST(rings.next() == -1 && rings.weights.sum() == 0);
+    MUST(!rings.weights.enter(rings.objects[5], {5, 5}, nullptr, false) && rings.next() == -1 && rings.weights.sum() == 0);
     // A look for a victim ends, though all were used.
+    Rings many(100000, false);
     for (uint64_t n = 10; n < 3000; n++) {
-        rings.enter(n);
-        rings.objects[n].use();
+        MUST(many.enter(n) == -1);
+        many.objects[n].use();
     }
-    MUST(rings.next() == 10 + 1024);
+    MUST(many.next() == 10 + 1024);
 }
 
 // The small ring may weigh 10 of 100.
@@ -156,41 +156,36 @@ static void two_rings() {
     using In = Rings::Weighed::In;
     Rings rings(100, true);
     for (uint64_t n = 1; n <= 10; n++) {
-        rings.enter(n);
+        MUST(rings.enter(n) == -1);
     }
     MUST(rings.objects[10].ring == In::main && rings.next() == 1 && rings.next() == 2);
     // It is full now. One that is new goes to the small ring, and leaves if it was not used when the next one comes.
-    rings.enter(11);
-    MUST(rings.objects[11].ring == In::small && rings.next(11) == 3);
-    rings.enter(12);
-    MUST(rings.evict(12) == 11 && rings.next() == 4);
+    MUST(rings.enter(11) == 3 && rings.objects[11].ring == In::small);
+    MUST(rings.enter(12) == 11);
+    rings.weights.leave(rings.objects[11], true);
+    MUST(rings.next() == 4);
     // Its key is known when it comes again, once.
-    rings.weights.enter(rings.objects[111], {11, 111}, nullptr, false);
-    rings.weights.enter(rings.objects[112], {11, 112}, nullptr, false);
+    MUST(rings.weights.enter(rings.objects[111], {11, 111}, nullptr, false) && rings.weights.enter(rings.objects[112], {11, 112}, nullptr, false));
     MUST(rings.objects[111].ring == In::main && rings.objects[112].ring == In::small);
     rings.weights.leave(rings.objects[111], false);
     rings.weights.leave(rings.objects[112], false);
     // One that was used moves to the main ring, and stays there while it is used.
     rings.objects[12].use();
-    rings.enter(13);
-    MUST(rings.objects[13].ring == In::small && rings.next(13) == 5 && rings.objects[12].ring == In::main && !rings.objects[12].is_used);
+    MUST(rings.enter(13) == 7 && rings.objects[13].ring == In::small && rings.objects[12].ring == In::main && !rings.objects[12].is_used);
     // One that replaces another one goes to its ring, and was used if that was.
     rings.objects[12].use();
-    rings.enter(14, 10, &rings.objects[12]);
-    rings.enter(15, 10, &rings.objects[13]);
+    MUST(rings.enter(14, 10, &rings.objects[12]) == 8 && rings.enter(15, 10, &rings.objects[13]) == 9);
     MUST(rings.objects[14].ring == In::main && rings.objects[15].ring == In::small && rings.objects[12].has_left);
     MUST(rings.objects[14].is_used && !rings.objects[15].is_used);
     // What was just put stays, though it alone is more than the small ring's part: others leave.
-    rings.enter(16, 90, &rings.objects[15]);
-    MUST(rings.objects[16].ring == In::small && rings.next(16) == 6 && rings.next(16) == 7 && rings.next() == 16);
+    MUST(rings.enter(16, 90, &rings.objects[15]) == 10 && rings.objects[16].ring == In::small);
+    MUST(rings.next(16) == 1 && rings.next(16) == 2 && rings.next() == 16);
     // A key that left long ago is forgotten: of a map with so few objects the sketch keeps few.
     for (uint64_t n = 100; n < 200; n++) {
-        rings.enter(n);
-        MUST(rings.next(n) != -1 && rings.objects[n].ring == In::small);
+        MUST(rings.enter(n) != -1 && rings.objects[n].ring == In::small);
         rings.weights.leave(rings.objects[n], true);
     }
-    rings.weights.enter(rings.objects[200], {199, 200}, nullptr, false);
-    rings.weights.enter(rings.objects[201], {100, 201}, nullptr, false);
+    MUST(rings.weights.enter(rings.objects[200], {199, 200}, nullptr, false) && rings.weights.enter(rings.objects[201], {100, 201}, nullptr, false));
     MUST(rings.objects[200].ring == In::main && rings.objects[201].ring == In::small);
 }
 
