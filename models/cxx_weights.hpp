@@ -35,7 +35,7 @@ struct CxxWeights : rl::test_suite<CxxWeights, 3> {
     // As in cefrodil_objects.hpp.
     void put(uint64_t key, uint64_t number) {
         auto &object = objects[number - 1];
-        object.weight = weight;
+        object.weight = weight, object.place.index = key;
         const bool is_late = explored::without("weight before the put");
         if (!is_late) {
             weights.add(weight);
@@ -44,7 +44,7 @@ struct CxxWeights : rl::test_suite<CxxWeights, 3> {
         if (explored::without("comparison after entering")) {
             shrink({key, number}, std::nullopt);
         }
-        const auto next = weights.enter(object, {key, number}, old != 0 ? &objects[old - 1] : nullptr, old != 0);
+        const auto next = weights.enter(object, {key, number}, old != 0 ? &objects[old - 1] : nullptr);
         if (!explored::without("comparison after entering")) {
             shrink({key, number}, next);
         }

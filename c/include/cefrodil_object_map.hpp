@@ -17,14 +17,16 @@
 //     const cefrodil::Status opened = pages.open({1000}, rules);
 // The map then holds 1,000 pages or more, as long as they weigh no more than the bound together. While calls put, the sum may be above the bound by
 // what they put. What has left and waits to be freed weighs a sixteenth of the bound and one object more at most, while no function of `look` runs. If
-// a thread is stopped within a write, the sum may stay above the bound until a later put. Without a weigher each object counts as 1, and the bound is
-// `entries` of the MapOptions.
+// a thread is stopped within a write, the sum may stay above the bound until a later put. All puts take one lock for this.
 //
 // Which objects leave: a full map puts new keys into a small queue first, of a tenth of the bound. At its head an object that a call has found moves to
 // the main queue, and another one leaves. If its key is put again soon, that goes to the main queue. From there those leave that came first, but for
-// those that a call has found since it was last decided. So keys that are used once evict none that are used often. A put of a new key makes half as
-// many steps again for that as without, and an object takes 48 bytes more. With `small_table` of the MapOptions false there is no small queue. Then
-// a map without a weigher holds `entries` or some more, and each shard evicts by itself (CLOCK).
+// those that a call has found since it was last decided. So keys that are used once evict none that are used often. With `small_table` of the MapOptions
+// false there is no small queue.
+//
+// Without a weigher each object counts as 1. The map then has as many parts as shards, each with queues, a lock and a bound of its own. In a full map a
+// put of a new key takes up to twice as many instructions for this, and an object takes 48 bytes more. With `small_table` false there are no
+// queues. Then a full shard evicts an object that was not used lately, as a cefrodil::map with one table does.
 //
 // Entries that end: `rules.lives.time_to_live = std::chrono::minutes(30)`. A put begins the time anew, also over a value, and may say another time:
 // `insert_for`. An update does not, but `update_for` does. `time_to_idle` ends what no call has found or put for so long. What has expired is absent for

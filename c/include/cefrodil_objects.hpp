@@ -5,6 +5,7 @@
 #include "cefrodil_generations.hpp"
 #include "cefrodil_map.hpp"
 #include "cefrodil_object.hpp"
+#include "cefrodil_parted_weights.hpp"
 #include <algorithm>
 #include <array>
 #include <memory>
@@ -42,16 +43,25 @@ template <class K, class V> class Objects {
         static_cast<void>(free_now());
     }
 
-    // Without a weigher each object weighs 1, unless the index alone decides which ones leave. Then the index has room for one more of each thread,
-    // which is about to put it.
+    // Without a weigher each object weighs 1, unless the index alone decides which ones leave. Then there are as many parts as shards. Each part holds its
+    // share of the entries and some more, as a shard does.
     [[nodiscard]] Status open(const MapOptions &options, uint32_t mix) noexcept {
-        const bool is_weighed = rules_.weigher || options.small_table;
-        const uint32_t more = is_weighed && !rules_.weigher ? std::min(options.passes, most_passes) : 0;
-        const Status status = turns_.open(options.entries, options.shards, options.passes, options.tries, mix, more);
+        if (!same_version()) {
+            return Status::other_version;
+        }
+        const uint32_t shards = options.shards == 0 ? shards_for(options.entries) : options.shards;
+        const uint32_t each = !rules_.weigher && options.small_table ? share(options.entries, shards) : 0;
+        const uint32_t room = each == 0 ? options.entries : room_for(options, shards, each);
+        const Status status = turns_.open(room, shards, options.passes, options.tries, mix);
         is_open_ = status == Status::ok;
-        const uint64_t bound = rules_.weigher ? std::min(rules_.most_weight, Rules().most_weight) : options.entries;
-        const auto grow = [&] { weights_.emplace(bound, options.entries, options.small_table); };
-        return is_open_ && is_weighed && !has_memory(grow) ? Status::no_memory : status;
+        const auto grow = [&] {
+            if (each != 0) {
+                weights_.open(shards, each, each, true);
+            } else if (rules_.weigher) {
+                weights_.open(1, std::min(rules_.most_weight, Rules().most_weight), options.entries, options.small_table);
+            }
+        };
+        return is_open_ && !has_memory(grow) ? Status::no_memory : status;
     }
 
     // What is under a number, and the moment of its put. None: the status says why. absent: if the moment is not 0, an object is there that has expired,
@@ -164,10 +174,10 @@ template <class K, class V> class Objects {
         if (change.old != nullptr) {
             retire(change);
         }
-        if (weights_) {
+        if (change.put.since != 0) {
             change.evicted = shrink(change.put, change.victim) || change.evicted;
-            free_much();
         }
+        free_much();
         return change.status;
     }
     Status end(Changed &&change) noexcept { return end(change); }
@@ -195,14 +205,25 @@ template <class K, class V> class Objects {
     }
     size_t free_now() noexcept { return free(epochs_.free_now()); }
     // The weights of all objects that are there, with those that calls are about to put. Without a weigher 0.
-    uint64_t weight() const noexcept { return rules_.weigher ? weights_->sum() : 0; }
-    uint64_t capacity() const noexcept { return weights_ && !rules_.weigher ? weights_->bound() : turns_.capacity(); }
+    uint64_t weight() const noexcept { return rules_.weigher ? weights_.sum() : 0; }
+    uint64_t capacity() const noexcept { return weights_ && !rules_.weigher ? weights_.bound() : turns_.capacity(); }
 
     Generation &generation() noexcept { return generation_; }
     const Turns<1> &turns() const noexcept { return turns_; }
 
   private:
-    static constexpr uint32_t most_passes = 1024; // as `open` takes
+    // What one of so many shards holds, or 0 if there is no such index.
+    static uint32_t share(uint32_t entries, uint32_t shards) noexcept {
+        cefrodil_shape shape{};
+        return cefrodil_shape_for_items(entries, shards, &shape) == CEFRODIL_OK ? shape.items : 0;
+    }
+    // The entries of an index for all that the parts hold, and for one more of each thread, which is about to put it; or as many as were asked for, if
+    // there is no such index.
+    static uint32_t room_for(const MapOptions &options, uint32_t shards, uint32_t each) noexcept {
+        constexpr uint32_t most_passes = 1024;
+        const uint32_t room = each * shards + std::min(options.passes, most_passes);
+        return share(room, shards) != 0 ? room : options.entries;
+    }
 
     // Counts a new key, unless another one gave way to it.
     static Swapped<1> counted(Slot<1> &slot, const Swapped<1> &tried) noexcept {
@@ -217,7 +238,7 @@ template <class K, class V> class Objects {
         });
         Each *const old = taken.old ? Each::at((*taken.old)[0]) : nullptr;
         if (weights_ && old != nullptr) {
-            weights_->leave(Heavy::of(*old), why == Left::evicted);
+            leave(Heavy::of(*old), why == Left::evicted);
         }
         return {taken.status, old, why, false, false, {0, 0}, std::nullopt};
     }
@@ -257,7 +278,7 @@ template <class K, class V> class Objects {
         return is_live;
     }
     template <class Made, class Key, class Give>
-    Own made(typename Each::Kind kind, const Key &key, const Give &give, uint64_t generation) const {
+    Own made(typename Each::Kind kind, const Key &key, const Give &give, uint64_t generation, [[maybe_unused]] uint64_t deadline = never) const {
         Made *const object = new (std::nothrow) Made(key, give);
         if (object == nullptr) {
             return Own();
@@ -265,38 +286,44 @@ template <class K, class V> class Objects {
         if constexpr (!std::is_same_v<Made, Each>) {
             object->weight = !rules_.weigher ? 1 : rules_.weigher(object->key, object->value);
         }
+        if constexpr (std::is_same_v<Made, Dated>) {
+            object->deadline = deadline;
+            object->idle_deadline.store(clock_.idle_deadline(), std::memory_order_relaxed);
+        }
         object->end_making(kind, generation);
         return Own(object);
     }
     template <class Key, class Give>
     [[gnu::cold]] [[gnu::noinline]] Own make_mortal(const Key &key, const Give &give, uint64_t generation, uint64_t deadline) const {
-        Own object = made<Dated>(Each::mortal, key, give, generation);
-        if (object) {
-            Dated::of(*object).deadline = deadline;
-            Dated::of(*object).idle_deadline.store(clock_.idle_deadline(), std::memory_order_relaxed);
-        }
-        return object;
+        return made<Dated>(Each::mortal, key, give, generation, deadline);
     }
     template <class Put> [[gnu::always_inline]] Changed offered(uint64_t index, Own &object, Put put) noexcept {
         return weights_ ? offered_weighed(index, Heavy::of(*object), object, put) : ended(object, put());
     }
     template <class Put> [[gnu::noinline]] Changed offered_weighed(uint64_t index, Heavy &heavy, Own &object, Put &put) noexcept {
-        if (weights_->refuses(heavy.weight)) {
+        Weights &weights = weights_.of(index);
+        if (weights.refuses(heavy.weight)) {
             return refused(Status::too_heavy);
         }
         // Another call may take it out before it enters the ring. It is not freed meanwhile.
         const Epochs::Pinned pinned(epochs_, turns_.place());
-        weights_->add(heavy.weight);
+        heavy.place.index = index;
+        heavy.end_making(heavy.kind(), heavy.generation());
+        weights.add(heavy.weight);
         const Swapped<1> swapped = put();
         Changed change = ended(object, swapped);
-        if (change.status == Status::ok) {
-            change.put = {index, swapped.at};
-            change.victim = weights_->enter(heavy, change.put, change.old != nullptr ? &Heavy::of(*change.old) : nullptr, change.renewed);
-        } else {
-            weights_->subtract(heavy.weight);
+        if (change.status != Status::ok) {
+            weights.subtract(heavy.weight);
+            return change;
         }
+        if (change.evicted) {
+            leave(Heavy::of(*change.old), false);
+        }
+        change.put = {index, swapped.at};
+        change.victim = weights.enter(heavy, change.put, change.renewed ? &Heavy::of(*change.old) : nullptr);
         return change;
     }
+    void leave(Heavy &object, bool evicted) noexcept { weights_.of(object.place.index).leave(object, evicted); }
     void retire(const Changed &change) noexcept {
         if (rules_.listener) {
             rules_.listener(change.old->key, change.old->value, has_ended(*change.old, generation_.now()) ? Left::expired : change.why);
@@ -306,9 +333,10 @@ template <class K, class V> class Objects {
     // Removes objects until the others are within the bound: `next` first, if there is one. Whether any was removed. It gives up if there is none left, or
     // if other threads keep it from each try: then a later put goes on.
     bool shrink(const Place &just_put, std::optional<Place> next) noexcept {
+        Weights &weights = weights_.of(just_put.index);
         bool has_evicted = false;
-        for (uint32_t failed = 0; weights_->is_over() && failed <= turns_.tries(); next.reset()) {
-            next = next ? next : weights_->victim(just_put);
+        for (uint32_t failed = 0; weights.is_over() && failed <= turns_.tries(); next.reset()) {
+            next = next ? next : weights.victim(just_put);
             if (!next) {
                 break;
             }
@@ -325,7 +353,7 @@ template <class K, class V> class Objects {
     }
     // Without a weigher, what waits is bounded by its number alone, as in a map without weights.
     void free_much() noexcept {
-        if (rules_.weigher && weights_->has_much_waiting()) {
+        if (rules_.weigher && weights_.first().has_much_waiting()) {
             static_cast<void>(free_now());
         }
     }
@@ -344,8 +372,8 @@ template <class K, class V> class Objects {
         for (Retired *next = nullptr; first != nullptr; first = next, count++) {
             next = first->next;
             const Own object(static_cast<Each *>(first));
-            if (weights_) {
-                weights_->freed(Heavy::of(*object));
+            if (rules_.weigher) {
+                weights_.first().freed(Heavy::of(*object));
             }
         }
         return count;
@@ -357,7 +385,7 @@ template <class K, class V> class Objects {
     Epochs epochs_;
     const Rules rules_;
     const Clock clock_;
-    std::optional<Weights> weights_{};
+    PartedWeights weights_{};
 };
 
 } // namespace inside

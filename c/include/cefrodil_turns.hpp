@@ -50,11 +50,21 @@ struct Seen {
     uint64_t since;
 };
 
+// By default a shard has so many entries or more, and there are so many shards at most.
+inline constexpr uint32_t most_shards = 16, entries_of_a_shard = 64;
+inline uint32_t shards_for(uint32_t entries) noexcept {
+    uint32_t shards = 1;
+    while (shards < most_shards && shards * 2 <= entries / entries_of_a_shard) {
+        shards *= 2;
+    }
+    return shards;
+}
+
 // Calls by the passes of an index. A call that other threads keep from its turn is repeated.
 template <size_t Words> class Turns {
   public:
-    // 0 shards: as many as these entries ask for. `more`: room for so many beside them.
-    [[nodiscard]] Status open(uint32_t entries, uint32_t asked_shards, uint32_t passes, uint32_t tries, uint32_t mix, uint32_t more = 0) noexcept {
+    // 0 shards: as many as these entries ask for.
+    [[nodiscard]] Status open(uint32_t entries, uint32_t asked_shards, uint32_t passes, uint32_t tries, uint32_t mix) noexcept {
         if (!same_version()) {
             return Status::other_version;
         }
@@ -62,8 +72,7 @@ template <size_t Words> class Turns {
         looks_ = std::min(tries, most_looks);
         const uint32_t shards = asked_shards == 0 ? shards_for(entries) : asked_shards;
         cefrodil_shape shape{};
-        const uint32_t room = entries == 0 || more > UINT32_MAX - entries ? entries : entries + more;
-        const Status status = choose(room, shards, mix, shape);
+        const Status status = choose(entries, shards, mix, shape);
         return status == Status::ok ? passes_.open(shape, shards, passes) : status;
     }
     // Opens a second index, with as many passes. It has no more shards than were asked for.
@@ -163,16 +172,6 @@ template <size_t Words> class Turns {
     // The most stripes that all shards have together, but each may have `stripes_of_a_shard`. Each stripe has a version of 8 bytes, and more of them
     // would leave less room for entries in the processor's caches.
     static constexpr uint32_t all_stripes = 4096, stripes_of_a_shard = 64;
-
-    // By default a shard has so many entries or more, and there are so many shards at most.
-    static constexpr uint32_t most_shards = 16, entries_of_a_shard = 64;
-    static uint32_t shards_for(uint32_t entries) noexcept {
-        uint32_t shards = 1;
-        while (shards < most_shards && shards * 2 <= entries / entries_of_a_shard) {
-            shards *= 2;
-        }
-        return shards;
-    }
 
     Passes<Words> passes_{};
     uint32_t tries_ = 0, looks_ = 0;

@@ -23,7 +23,8 @@ struct Place {
     uint64_t index, since; // the key's number in the index, and the moment of the put
 };
 
-// What an object has that is weighed. All but the use is written before the object is in the index, or under the lock of the rings.
+// What an object has that is weighed. The weight and the key's number are written before the object is in the index, and all else but the use under the
+// lock of the rings.
 template <class Parts> struct WeighedOf {
     enum class In : uint8_t { none, small, main };
 
@@ -89,16 +90,15 @@ template <class Parts> class WeightsOf {
     bool refuses(uint64_t weight) const noexcept { return weight > bound_; }
     uint64_t bound() const noexcept { return bound_; }
 
-    // The object was put. It may have left since: then it does not enter a ring. The caller keeps it from being freed. `old`: what gave way to it in the
-    // index, if anything did; `renewed`: that was under the same key, so the object goes to its ring, and was used if that was. Returns what `victim`
-    // does, if the sum is over the bound.
-    std::optional<Place> enter(Weighed &object, const Place &put, Weighed *old, bool renewed) noexcept {
+    // The object was put. It may have left since: then it does not enter a ring. The caller keeps it from being freed. `old`: what it replaced under the
+    // same key, or null. Then the object goes to its ring, and was used if that was. Returns what `victim` does, if the sum is over the bound.
+    std::optional<Place> enter(Weighed &object, const Place &put, Weighed *old) noexcept {
         if (old != nullptr) {
             wait_to_be_freed(*old);
         }
         const std::lock_guard<typename Parts::Mutex> guard(lock_);
-        object.place = put;
-        if (renewed && old->ring != In::none) {
+        object.place.since = put.since;
+        if (old != nullptr && old->ring != In::none) {
             object.ring = old->ring;
             object.is_used.store(old->is_used.load(std::memory_order_relaxed), std::memory_order_relaxed);
         } else {

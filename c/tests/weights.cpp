@@ -96,9 +96,14 @@ class Rings {
 
     // Returns the number of the next one to leave, if the sum is over the bound, or -1.
     long enter(uint64_t number, uint64_t weight = 10, Weighed *old = nullptr) {
-        objects[number].weight = weight;
+        objects[number].weight = weight, objects[number].place.index = number;
         weights.add(weight);
-        return number_of(weights.enter(objects[number], {number, number}, old, old != nullptr));
+        return number_of(weights.enter(objects[number], {number, number}, old));
+    }
+    // The same for one of another key.
+    long enter_as(uint64_t number, uint64_t key) {
+        objects[number].weight = 0, objects[number].place.index = key;
+        return number_of(weights.enter(objects[number], {key, number}, nullptr));
     }
     // The number of the next one to leave.
     long next(uint64_t just_put = 999) { return number_of(weights.victim({just_put, just_put})); }
@@ -138,10 +143,8 @@ static void one_ring() {
     rings.weights.leave(rings.objects[4], false);
     MUST(rings.next() == -1 && rings.weights.sum() == 0 && !rings.weights.is_over());
     // One that left before it could enter.
-    rings.weights.add(10);
-    rings.objects[5].weight = 10;
     rings.weights.leave(rings.objects[5], false);
-    MUST(!rings.weights.enter(rings.objects[5], {5, 5}, nullptr, false) && rings.next() == -1 && rings.weights.sum() == 0);
+    MUST(rings.enter_as(5, 5) == -1 && rings.next() == -1 && rings.weights.sum() == 0);
     // A look for a victim ends, though all were used.
     Rings many(100000, false);
     for (uint64_t n = 10; n < 3000; n++) {
@@ -165,7 +168,7 @@ static void two_rings() {
     rings.weights.leave(rings.objects[11], true);
     MUST(rings.next() == 4);
     // Its key is known when it comes again, once.
-    MUST(rings.weights.enter(rings.objects[111], {11, 111}, nullptr, false) && rings.weights.enter(rings.objects[112], {11, 112}, nullptr, false));
+    MUST(rings.enter_as(111, 11) != -1 && rings.enter_as(112, 11) != -1);
     MUST(rings.objects[111].ring == In::main && rings.objects[112].ring == In::small);
     rings.weights.leave(rings.objects[111], false);
     rings.weights.leave(rings.objects[112], false);
@@ -185,7 +188,7 @@ static void two_rings() {
         MUST(rings.enter(n) != -1 && rings.objects[n].ring == In::small);
         rings.weights.leave(rings.objects[n], true);
     }
-    MUST(rings.weights.enter(rings.objects[200], {199, 200}, nullptr, false) && rings.weights.enter(rings.objects[201], {100, 201}, nullptr, false));
+    MUST(rings.enter_as(200, 199) != -1 && rings.enter_as(201, 100) != -1);
     MUST(rings.objects[200].ring == In::main && rings.objects[201].ring == In::small);
 }
 
@@ -229,18 +232,22 @@ static void comes_again() {
     MUST(numbers.contains(115) && !numbers.contains(140));
 }
 
-// Without a weigher a map holds as many entries as were asked for.
+// Without a weigher a map has room for as many entries as were asked for. With one shard it holds just these.
 static void entries_alone() {
-    for (const uint32_t shards : {1, 4}) {
+    for (const uint32_t shards : {1, 4, 0}) {
         Numbers numbers;
-        MUST(numbers.open({1000, shards}) == Status::ok && numbers.capacity() == 1000);
+        MUST(numbers.open({1000, shards}) == Status::ok && (shards == 1 ? numbers.capacity() == 1000 : numbers.capacity() > 1000));
         for (uint64_t key = 0; key < 1000; key++) {
             const auto stored = numbers.insert(key, uint64_t(key));
             MUST(stored.status == Status::ok && !stored.evicted);
         }
-        MUST(numbers.size() == 1000 && numbers.weight() == 0);
-        MUST(numbers.insert(1000, 1).evicted && numbers.size() == 1000 && !numbers.contains(0));
-        MUST(numbers.insert_or_assign(1, 2).renewed && numbers.size() == 1000);
+        MUST(numbers.size() == 1000 && numbers.weight() == 0 && numbers.insert_or_assign(1, 2).renewed && numbers.size() == 1000);
+        uint64_t evicted = 0;
+        for (uint64_t key = 1000; key < 10000; key++) {
+            evicted += numbers.insert(key, uint64_t(key)).evicted;
+        }
+        MUST(numbers.size() == 10000 - evicted && numbers.size() <= numbers.capacity() && numbers.size() > numbers.capacity() - numbers.capacity() / 20);
+        MUST(numbers.meter().counts().evictions == 0);
     }
     cefrodil::MapOptions alone{1000, 1};
     alone.small_table = false;
