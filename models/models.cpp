@@ -3,6 +3,7 @@
 // Arguments: how many schedules with any interruptions, and `tell` to print a line for each model and step.
 #include "cxx_epochs.hpp"
 #include "cxx_flights.hpp"
+#include "cxx_generations.hpp"
 #include "cxx_passes.hpp"
 #include "cxx_tiers.hpp"
 #include "cxx_weights.hpp"
@@ -48,6 +49,7 @@ int main(int argc, char **argv) {
     tells = argc > 2 && argv[2] == std::string("tell");
     explore<CxxEpochs>("C++ epochs", schedules);
     explore<CxxFlights>("C++ flights", schedules);
+    explore<CxxGenerations>("C++ generations", schedules);
     explore<CxxPasses>("C++ passes", schedules);
     explore<CxxTiers>("C++ tiers", schedules);
     explore<CxxWeights>("C++ weights", schedules);

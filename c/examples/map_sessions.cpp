@@ -1,30 +1,33 @@
-// Sessions that live for a time, for any number of threads. The map has no clock, so each value keeps its deadline.
-#include "cefrodil_map.hpp"
+// Sessions that live for a time, for any number of threads.
+#include "cefrodil_timed_map.hpp"
+#include <atomic>
+#include <chrono>
 #include <cstdio>
-#include <optional>
 #include <string>
 
-struct Session { uint64_t deadline, user; }; // the deadline in seconds
-using Sessions = cefrodil::map<std::string, Session>;
+struct Session { uint64_t user, requests; };
+using Sessions = cefrodil::timed_map<std::string, Session>;
+using std::chrono::minutes;
 
-// The session's user, or none if there is no session, or it has ended. An ended session is left to its eviction.
-static std::optional<uint64_t> user_of(const Sessions &sessions, const std::string &token, uint64_t now) {
-    const auto session = sessions.find(token);
-    return session && now < session->deadline ? std::optional(session->user) : std::nullopt;
-}
-// Prolongs a session that has not ended, and returns whether there was one. No session is revived.
-static bool prolong(Sessions &sessions, const std::string &token, uint64_t now, uint64_t deadline) {
-    const auto session = sessions.update(token, [&](const Session &old) { return now < old.deadline ? Session{deadline, old.user} : old; });
-    return session.value && now < session.value->deadline;
+// Each request prolongs its session to half an hour from now. No session that has ended is revived. Returns the user, or 0.
+static uint64_t request(Sessions &sessions, const std::string &token) {
+    const auto session = sessions.update_for(token, minutes(30), [](const Session &old) { return Session{old.user, old.requests + 1}; });
+    return session.value ? session.value->user : 0;
 }
 
 int main() {
+    // A program leaves out the clock: then it is std::chrono::steady_clock.
+    std::atomic<int> now{0};
+    const cefrodil::Lives lives{minutes(30), cefrodil::forever, [&] { return minutes(now); }};
     Sessions sessions;
-    const bool opened = sessions.open({1000}) == cefrodil::Status::ok && sessions.insert("c0ffee", {160, 7}).status == cefrodil::Status::ok;
-    const auto early = user_of(sessions, "c0ffee", 150), late = user_of(sessions, "c0ffee", 160);
-    const bool revived = prolong(sessions, "c0ffee", 160, 200), prolonged = prolong(sessions, "c0ffee", 150, 200);
-    const auto later = user_of(sessions, "c0ffee", 160);
-    std::printf("user %d, then %d, then %d\n", int(early.value_or(0)), int(late.value_or(0)), int(later.value_or(0)));
-    const bool ended = sessions.erase("c0ffee") == cefrodil::Status::ok; // map_logout.cpp: what to do if it is not
-    return !(opened && early == 7u && !late && !revived && prolonged && later == 7u && ended && !sessions.contains("c0ffee"));
+    bool right = sessions.open({1000}, lives) == cefrodil::Status::ok && sessions.insert("c0ffee", {7, 0}).status == cefrodil::Status::ok;
+    right = right && sessions.insert_for("guest", {8, 0}, minutes(5)).status == cefrodil::Status::ok;
+    now = 20;
+    right = right && request(sessions, "c0ffee") == 7 && request(sessions, "guest") == 0;
+    now = 49;
+    const auto session = sessions.find("c0ffee");
+    std::printf("user %d after %d minutes\n", int(session ? session->user : 0), now.load());
+    now = 50;
+    right = right && session && session->requests == 1 && request(sessions, "c0ffee") == 0;
+    return right && sessions.erase_expired() == cefrodil::Status::ok && sessions.size() == 0 ? 0 : 1;
 }

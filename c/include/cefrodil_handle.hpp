@@ -57,7 +57,9 @@ enum class Status : uint32_t {
     // By map::open alone: the kernel gave no random numbers. Nothing is open.
     no_random = 1002,
     // By the puts of an object_map with a bound on weights: the entry alone weighs more. Nothing was put, and an earlier value stays.
-    too_heavy = 1003
+    too_heavy = 1003,
+    // By object_map::update alone: the function made no new value, and the earlier one stays.
+    declined = 1004
 };
 
 namespace inside {
@@ -99,6 +101,9 @@ inline const char *text(Status status) noexcept {
     }
     if (status == Status::no_random) {
         return "the kernel gave no random numbers";
+    }
+    if (status == Status::declined) {
+        return "the function made no new value";
     }
     if (status == Status::too_heavy) {
         return "the entry weighs more than the map may hold";

@@ -1,4 +1,4 @@
-// How long the entries of a map live, for cefrodil_object_map.hpp.
+// How long the entries of a map live, for cefrodil_object_map.hpp and cefrodil_timed_map.hpp.
 #ifndef CEFRODIL_LIVES_HPP
 #define CEFRODIL_LIVES_HPP
 
@@ -33,16 +33,20 @@ inline constexpr uint64_t never = std::numeric_limits<uint64_t>::max();
 class Clock {
   public:
     explicit Clock(const Lives &lives) : lives_(lives) {}
-    bool has_lives() const noexcept { return lives_.time_to_live != forever || lives_.time_to_idle != forever; }
+    bool has_lives() const noexcept { return lives_.time_to_live != forever || has_idle(); }
+    bool has_idle() const noexcept { return lives_.time_to_idle != forever; }
+    // Without a time to idle it says nothing.
+    uint64_t idle_time() const noexcept { return span(lives_.time_to_idle); }
     uint64_t deadline() const noexcept { return deadline_after(lives_.time_to_live); }
     uint64_t idle_deadline() const noexcept { return deadline_after(lives_.time_to_idle); }
     // The deadline of what lives for so long from now on.
     uint64_t deadline_after(std::chrono::nanoseconds life) const noexcept {
-        return life == forever ? never : now() + static_cast<uint64_t>(std::max(life, std::chrono::nanoseconds(0)).count());
+        return life == forever ? never : now() + span(life);
     }
     bool has_passed(uint64_t deadline) const noexcept { return deadline != never && now() >= deadline; }
 
   private:
+    static uint64_t span(std::chrono::nanoseconds life) noexcept { return static_cast<uint64_t>(std::max(life, std::chrono::nanoseconds(0)).count()); }
     // Both a time and a life are less than 2^63, so no sum of them is too large.
     uint64_t now() const noexcept {
         return static_cast<uint64_t>((lives_.clock ? lives_.clock() : std::chrono::steady_clock::now().time_since_epoch()).count());

@@ -12,6 +12,8 @@
 //
 // Compile it over the folder that c/build made: g++ -std=c++17 -I FOLDER/include program.cpp FOLDER/lib/libcefrodil.a -lpthread
 //
+// Entries that end after a time are for cefrodil_timed_map.hpp, and values of any type and size for cefrodil_object_map.hpp.
+//
 // Values are trivially copyable, without padding, up to 56 bytes. Keys that need no hash of yours are strings, integers, enums, pointers, and structs
 // without padding whose bytes are their value; cefrodil_hash.hpp says more. std::pair and std::tuple are not among them: write a struct.
 //
@@ -20,9 +22,10 @@
 //
 // The map keeps and compares no keys. It knows a key by 128 bits, made with a secret. Half of them are the key's number in the index. The others are
 // a check word, which is stored with the value. A lookup compares it, and a mismatch is a miss. By default the check word of a key whose type has up
-// to 8 bytes, such as an integer, an enum, a pointer or a small struct, is the key itself: two such keys are never confused. Any other key, such as
-// a string of any length, has two hashes. Two of those are confused, as far as is known, with a chance of 2^-128. By a hash of yours, two keys are
-// confused if it gives them the same two words.
+// to 8 bytes, such as an integer, an enum, a pointer or a small struct, is the key itself: two such keys are never confused, unless invalidate_all was
+// called between their puts. Then it is a chance of 2^-64, that they have the same number in the index. Any other key, such as a string of any length,
+// has two hashes. Two of those are confused, as far as is known, with a chance of 2^-128. By a hash of yours, two keys are confused if it gives them the
+// same two words.
 //
 // A forked child finds the map closed: its lookups miss, its other calls return `closed`, and its destructor frees nothing. The child may open it, or
 // others, anew.
@@ -34,7 +37,7 @@
 //
 // No call throws, but what your hash and your functions throw. A call that other threads keep from its turn is repeated, up to `tries` times. At
 // first it spins, then it yields, then it sleeps. At last it returns `held` or `busy`. A call that fails has changed no key and no value; only
-// `clear` may have removed some keys.
+// `clear` may have removed some keys. It can be compiled with -fno-exceptions and -fno-rtti. Then the program ends if a call finds no memory.
 #ifndef CEFRODIL_MAP_HPP
 #define CEFRODIL_MAP_HPP
 
@@ -64,7 +67,7 @@ struct MapOptions {
     // there moves to the main table. So keys that are used once evict none that are used often, and more lookups hit (docs/PERFORMANCE.md). For that
     // a lookup that misses the main table of a map that was full looks into the small one, too. If it finds the key there, it moves it: that is a
     // write, for which another entry may be evicted. Each write takes a lock, and a write of a new key looks into both tables. An object_map
-    // has one table, whatever this says.
+    // has a small queue instead, as its header says.
     bool small_table = true;
 };
 
@@ -84,7 +87,8 @@ template <class V> struct Computed {
 //     return cefrodil::SipHash<std::string_view>()(key.name, secret);
 // Or it has 64 bits: `uint64_t operator()(const K &key, uint64_t seed) const`. Then it is called twice, with two seeds, which must give independent
 // hashes.
-template <class K, class V, class Hash = SipHash<K>> class map {
+// `Times`: cefrodil_timed_map.hpp has it for a map whose entries end.
+template <class K, class V, class Hash = SipHash<K>, class Times = inside::Timeless> class map {
     static constexpr bool never_throws = inside::Identities<inside::Taken<K, Hash>, Hash>::never_throws;
 
   public:
@@ -97,18 +101,7 @@ template <class K, class V, class Hash = SipHash<K>> class map {
     // archive is another version's. processor: it is older than x86-64-v2. bad_shards, bad_handles: `shards` or `passes` is out of range. bad_items:
     // no entries, as by open({0}), or too many: a shard holds up to 3,774,873.
     [[nodiscard]] Status open(const MapOptions &options, Hash hash = Hash()) noexcept {
-        if (inner_) {
-            return Status::in_use;
-        }
-        std::unique_ptr<Inner> opened;
-        if (!inside::has_memory([&] { opened = std::make_unique<Inner>(std::move(hash)); })) {
-            return Status::no_memory;
-        }
-        if (!opened->identities.draw()) {
-            return Status::no_random;
-        }
-        const Status status = opened->table.open(options.entries, options.shards, options.passes, options.tries, mix, options.small_table);
-        return status == Status::ok && !inner_.own(std::move(opened)) ? Status::no_memory : status;
+        return open_with(options, std::move(hash), [] { return Times(); });
     }
     bool is_open() const noexcept { return bool(inner_); }
     // Closes the map and frees its memory.
@@ -135,7 +128,7 @@ template <class K, class V, class Hash = SipHash<K>> class map {
     // Writes to `values` what `find` returns for each of `count` keys, with fewer calls of the index. `Each` is what a call takes as a key: of a map
     // of strings, std::string or std::string_view. Returns how many keys were found.
     template <class Each> size_t find_many(const Each *keys, size_t count, std::optional<V> *values) const noexcept(never_throws) {
-        std::array<inside::Identity, inside::Table<V>::few> known;
+        std::array<inside::Identity, inside::Table<V, Times>::few> known;
         std::fill_n(values, count, std::nullopt);
         for (size_t begin = 0; inner_ && begin < count; begin += known.size()) {
             const size_t few = std::min(count - begin, known.size());
@@ -148,12 +141,12 @@ template <class K, class V, class Hash = SipHash<K>> class map {
     // Puts a key that is absent. present: it is there, and keeps its value. no_path, all_recent, spent: it is absent, and was not put. held, busy,
     // changed: other threads were first each time, and nothing was done: call again. closed.
     [[nodiscard]] Stored insert(Key key, const V &value) noexcept(never_throws) {
-        return change(key, Stored{Status::closed, false, false}, [&](const auto &known) { return inner_->table.put_if_absent(known, value); });
+        return put_if_absent(key, value, Life());
     }
     // Puts a key, whether it is there or not. no_path, all_recent: it is absent, and was not put. spent, held: nothing was put; an earlier value, if
     // any, is still there.
     [[nodiscard]] Stored insert_or_assign(Key key, const V &value) noexcept(never_throws) {
-        return change(key, Stored{Status::closed, false, false}, [&](const auto &known) { return inner_->table.put(known, value); });
+        return put(key, value, Life());
     }
     // Removes a key. ok or absent: it is gone. Otherwise nothing was done, and the key may still be there. held, busy, changed: other threads were
     // first each time: call again until it is ok or absent. If nobody may get the key until then, keep it in a set of your own and refuse it, as in
@@ -166,12 +159,12 @@ template <class K, class V, class Hash = SipHash<K>> class map {
     // lost: if another thread is first, the function is called again, with the newer value. Unless ok, nothing was put. absent: the key is not there,
     // and the function was not called, unless another thread removed the key meanwhile. held, busy, changed: as by `insert`. spent, closed.
     template <class Function> [[nodiscard]] Found<V> update(Key key, Function function) {
-        return update(key, nullptr, function);
+        return update(key, nullptr, function, Life());
     }
     // The same, but if the key is absent, puts `first`, and returns that. If another thread puts the key meanwhile, the function is called with the
     // value of that thread. Unless ok, nothing was put. The statuses are those of `update` and `insert`, without absent and present.
     template <class Function> [[nodiscard]] Found<V> update_or_insert(Key key, const V &first, Function function) {
-        return update(key, &first, function);
+        return update(key, &first, function, Life());
     }
 
     // The key's value, or what the function computes, `V function()`, which is then put. Of several callers that miss the key one computes, and
@@ -190,12 +183,13 @@ template <class K, class V, class Hash = SipHash<K>> class map {
             if (!flight.has_begun()) {
                 continue;
             }
+            const uint64_t generation = inner_->table.generation().now();
             // Another flight may have ended between the lookup and the begin of this one.
             if (std::optional<V> found; inner_->table.find(known, found) == Status::ok) {
                 return {Status::ok, *found, false};
             }
             const V value = function();
-            return {flight.land([&] { return inner_->table.put_if_absent(known, value).status; }), value, true};
+            return {flight.land([&] { return inner_->table.put_if_absent_in(generation, known, value).status; }), value, true};
         }
     }
 
@@ -205,8 +199,19 @@ template <class K, class V, class Hash = SipHash<K>> class map {
         if (!inner_) {
             return Status::closed;
         }
-        std::for_each(inner_->flights.begin(), inner_->flights.end(), [](inside::Flights &flights) { flights.outdate_all(); });
+        inner_->outdate_all();
         return inner_->table.clear();
+    }
+    // Once it has returned, no key is found that was put before it began, nor a value that find_or_compute was computing then. A key is found whose put
+    // began afterwards. A put that runs meanwhile comes before or after it. It is one step, however many keys there are: their entries take room until
+    // others overwrite or evict them, and `size` counts them. ok or closed.
+    Status invalidate_all() noexcept {
+        if (!inner_) {
+            return Status::closed;
+        }
+        inner_->table.generation().begin_next();
+        inner_->outdate_all();
+        return Status::ok;
     }
 
     // How many keys there are. Calls that run meanwhile count or not. With a small table, a key whose move others disturbed for a tenth of a second counts
@@ -220,13 +225,54 @@ template <class K, class V, class Hash = SipHash<K>> class map {
     // for that, count the answers of your own calls. A lookup that goes on in a small table counts once.
     Meter meter() const noexcept { return inner_ ? inner_->table.turns().meter() : Meter(nullptr); }
 
+  protected:
+    // A time to live that a call says, in a timed_map.
+    using Life = typename Times::Life;
+
+    template <class Make> Status open_with(const MapOptions &options, Hash hash, Make make_times) noexcept {
+        if (inner_) {
+            return Status::in_use;
+        }
+        std::unique_ptr<Inner> opened;
+        if (!inside::has_memory([&] { opened = std::make_unique<Inner>(std::move(hash), make_times()); })) {
+            return Status::no_memory;
+        }
+        if (!opened->identities.draw()) {
+            return Status::no_random;
+        }
+        const Status status = opened->table.open(options.entries, options.shards, options.passes, options.tries, mix, options.small_table);
+        return status == Status::ok && !inner_.own(std::move(opened)) ? Status::no_memory : status;
+    }
+    Stored put_if_absent(Key key, const V &value, const Life &life) noexcept(never_throws) {
+        return change(key, Stored{Status::closed, false, false}, [&](const auto &known) { return inner_->table.put_if_absent(known, value, life); });
+    }
+    Stored put(Key key, const V &value, const Life &life) noexcept(never_throws) {
+        return change(key, Stored{Status::closed, false, false}, [&](const auto &known) { return inner_->table.put(known, value, life); });
+    }
+    // A flight may begin while the user's function runs: after another thread has removed the key. It may not see what the function does. So after
+    // the function it is outdated, too.
+    template <class Function> Found<V> update(Key key, const V *first, Function &function, const Life &life) {
+        return change(key, Found<V>{Status::closed, std::nullopt}, [&](const auto &known) {
+            const auto outdating = [&](const V &old) {
+                const V value = function(old);
+                inner_->flights_of(known).outdate(known);
+                return value;
+            };
+            return inner_->table.update(known, first, outdating, life);
+        });
+    }
+    Status remove_expired() noexcept { return inner_ ? inner_->table.erase_expired() : Status::closed; }
+
   private:
     struct Inner {
-        explicit Inner(Hash &&hash) : identities(std::move(hash)) {}
+        Inner(Hash &&hash, const Times &times) : identities(std::move(hash)), table(times) {}
         inside::Flights &flights_of(const inside::Identity &key) noexcept { return flights[key.index % flights.size()]; }
+        void outdate_all() noexcept {
+            std::for_each(flights.begin(), flights.end(), [](inside::Flights &some) { some.outdate_all(); });
+        }
 
         inside::Identities<Key, Hash> identities;
-        inside::Table<V> table{};
+        inside::Table<V, Times> table;
         std::array<inside::Flights, 16> flights{};
     };
 
@@ -242,18 +288,6 @@ template <class K, class V, class Hash = SipHash<K>> class map {
         inner_->flights_of(known).outdate(known);
         return make(known);
     }
-    // A flight may begin while the user's function runs: after another thread has removed the key. It may not see what the function does. So after
-    // the function it is outdated, too.
-    template <class Function> Found<V> update(Key key, const V *first, Function &function) {
-        return change(key, Found<V>{Status::closed, std::nullopt}, [&](const auto &known) {
-            const auto outdating = [&](const V &old) {
-                const V value = function(old);
-                inner_->flights_of(known).outdate(known);
-                return value;
-            };
-            return inner_->table.update(known, first, outdating);
-        });
-    }
 
     inside::OwnedPointer<Inner> inner_{};
     // The index hashes what a hash of the user's may have spread badly.
@@ -261,9 +295,10 @@ template <class K, class V, class Hash = SipHash<K>> class map {
 
     // Each fault has one message. A type that is too large or not trivial gets no second one. Clang skips the members after a failed assertion, so
     // these come last.
-    static constexpr bool is_plain = std::is_trivially_copyable_v<V> && words_of<V> <= 7;
+    static constexpr bool is_small = words_of<V> <= 7, is_plain = std::is_trivially_copyable_v<V> && words_of<V> + Times::moments <= 7;
     static_assert(std::is_trivially_copyable_v<V>, "a map's value is trivially copyable: keep an index or a pointer of other objects");
-    static_assert(!std::is_trivially_copyable_v<V> || is_plain, "a map's value has up to 56 bytes");
+    static_assert(!std::is_trivially_copyable_v<V> || is_small, "a map's value has up to 56 bytes");
+    static_assert(!std::is_trivially_copyable_v<V> || !is_small || is_plain, "a timed_map's value has up to 40 bytes");
     static_assert(!is_plain || has_no_padding<V>,
                   "a map's value has no padding: make the padding a member, or see has_no_padding in cefrodil_values.hpp");
     static_assert(!is_plain || std::is_default_constructible_v<V>, "a map's value is default-constructible");

@@ -16,9 +16,17 @@
 //     rules.most_weight = 1000000;
 //     const cefrodil::Status opened = pages.open({1000}, rules);
 // The map then holds 1,000 pages or more, as long as they weigh no more than the bound together. While calls put, the sum may be above the bound by
-// what they put. Those objects leave that came first, but for those that a call has found since it was last decided which ones leave. What has left
-// and waits to be freed weighs a sixteenth of the bound and one object more at most, while no function of `look` runs. If a thread is stopped within a
-// write, the sum may stay above the bound until a later put.
+// what they put. What has left and waits to be freed weighs a sixteenth of the bound and one object more at most, while no function of `look` runs. If
+// a thread is stopped within a write, the sum may stay above the bound until a later put. All puts take one lock for this.
+//
+// Which objects leave: a full map puts new keys into a small queue first, of a tenth of the bound. At its head an object that a call has found moves to
+// the main queue, and another one leaves. If its key is put again soon, that goes to the main queue. From there those leave that came first, but for
+// those that a call has found since it was last decided. So keys that are used once evict none that are used often. With `small_table` of the MapOptions
+// false there is no small queue.
+//
+// Without a weigher each object counts as 1. The map then has as many parts as shards, each with queues, a lock and a bound of its own. In a full map a
+// put of a new key takes up to twice as many instructions for this, and an object takes 48 bytes more. With `small_table` false there are no
+// queues. Then a full shard evicts an object that was not used lately, as a cefrodil::map with one table does.
 //
 // Entries that end: `rules.lives.time_to_live = std::chrono::minutes(30)`. A put begins the time anew, also over a value, and may say another time:
 // `insert_for`. An update does not, but `update_for` does. `time_to_idle` ends what no call has found or put for so long. What has expired is absent for
@@ -31,14 +39,17 @@
 //
 // Keys are compared. Two keys whose hashes of 64 bits are the same can't be in the map at once: the later one replaces the earlier.
 //
+// It can be compiled with -fno-exceptions and -fno-rtti. Then a put that finds no memory for its object returns no_memory all the same. If a call finds no
+// memory for anything else, the program ends.
+//
 // What you promise is what cefrodil_map.hpp lists, and: keys and values may be read by several threads at once, and destroyed by any of them. The
 // listener, the weigher and destructors throw nothing. No key or value that is destroyed by `close` or by the map's destructor calls the map. A
 // reference that `look` passes is not kept. No call throws, but what your functions and types throw. Then the map is as it was, unless an update was repeated.
 #ifndef CEFRODIL_OBJECT_MAP_HPP
 #define CEFRODIL_OBJECT_MAP_HPP
 
+#include "cefrodil_keyed_objects.hpp"
 #include "cefrodil_map.hpp"
-#include "cefrodil_objects.hpp"
 #include <algorithm>
 #include <array>
 #include <functional>
@@ -52,11 +63,13 @@ namespace cefrodil {
 
 // A map of K to V. A hash of yours is as that of cefrodil::map; `Equal` compares a K with what a call takes as a key.
 template <class K, class V, class Hash = SipHash<K>, class Equal = std::equal_to<>> class object_map {
+    using Inner = inside::KeyedObjects<K, V, Hash, Equal>;
     using Objects = inside::Objects<K, V>;
-    using Pinned = typename Objects::Pinned;
-    using Seen = typename Objects::Seen;
-    using Changed = typename Objects::Changed;
-    using Own = typename Objects::Own;
+    using Pinned = typename Inner::Pinned;
+    using Seen = typename Inner::Seen;
+    using Changed = typename Inner::Changed;
+    using Own = typename Inner::Own;
+    using Life = typename Inner::Life;
 
   public:
     // How a call takes a key. A string is taken as a view.
@@ -98,16 +111,38 @@ template <class K, class V, class Hash = SipHash<K>, class Equal = std::equal_to
             return Status::closed;
         }
         Pinned pinned(inner_->objects);
-        const Seen seen = inner_->look(pinned, inner_->identities.of(key), key, inner_->objects.turns().looks());
+        const inside::Identity known = inner_->identities.of(key);
+        const Seen seen = inner_->look(pinned, known, key, inner_->objects.turns().looks(), inner_->generation());
+        if (seen.status == Status::ok) {
+            see(static_cast<const V &>(seen.object->value));
+        }
+        return seen.status;
+    }
+    // The same, but the value doesn't count as used: it leaves as if nobody had looked, and its time to idle goes on. It takes the turn at the key's
+    // shard, as a write does. ok, or absent, held or closed: then `see` was not called.
+    template <class See> [[nodiscard]] Status peek(Key key, See see) const {
+        if (!inner_) {
+            return Status::closed;
+        }
+        Pinned pinned(inner_->objects);
+        const Seen seen = Inner::own(pinned.peek(inner_->identities.of(key).index, inner_->generation()), key);
         if (seen.status == Status::ok) {
             see(static_cast<const V &>(seen.object->value));
         }
         return seen.status;
     }
     // A copy of the key's value, if it is there.
-    [[nodiscard]] std::optional<V> find(Key key) const {
-        std::optional<V> found;
-        static_cast<void>(look(key, [&](const V &value) { found.emplace(value); }));
+    [[nodiscard]] std::optional<V> find(Key key) const { return get(key).value; }
+    // The same, with the status of `look`.
+    [[nodiscard]] Found<V> get(Key key) const {
+        Found<V> found{Status::closed, std::nullopt};
+        found.status = look(key, [&](const V &value) { found.value.emplace(value); });
+        return found;
+    }
+    // The same, with `peek`.
+    [[nodiscard]] Found<V> peek(Key key) const {
+        Found<V> found{Status::closed, std::nullopt};
+        found.status = peek(key, [&](const V &value) { found.value.emplace(value); });
         return found;
     }
     [[nodiscard]] bool contains(Key key) const {
@@ -131,27 +166,37 @@ template <class K, class V, class Hash = SipHash<K>, class Equal = std::equal_to
         return put<Value>(key, value, life, [&](const auto &known, Own &object) { return inner_->objects.put(known.index, object); });
     }
     // Replaces the value of a key that is there by what the function makes of it, `V function(const V &)`. If another thread is first, it is called
-    // again. absent: the key is not there. too_heavy: the new value is, and the old one stays.
+    // again. Or it is `std::optional<V> function(const V &)`. If that returns none, the status is `declined`. Unless ok, the old value stays. absent: the
+    // key is not there. too_heavy: the new value is. held, busy, changed: other threads were first each time. no_memory, closed.
     template <class Function> [[nodiscard]] Status update(Key key, Function function) { return renew(key, std::nullopt, function); }
     // The same, and the entry lives for so long from now on. By `update` its time to live goes on.
     template <class Function> [[nodiscard]] Status update_for(Key key, std::chrono::nanoseconds life, Function function) {
         return renew(key, life, function);
     }
-    // Removes a key. ok or absent: it is gone.
+    // Removes a key. ok or absent: it is gone. Otherwise nothing was done, and the key may still be there. held, busy, changed: other threads were first
+    // each time: call again. spent: open a new map. closed.
     [[nodiscard]] Status erase(Key key) {
+        return erase(key, [](const V &) {});
+    }
+    // The same, and if it is ok, calls `see(const V &)` with the value that it removed. Other calls that found it may still use it.
+    template <class See> [[nodiscard]] Status erase(Key key, See see) {
         if (!inner_) {
             return Status::closed;
         }
         const inside::Identity known = inner_->identities.of(key);
         inner_->flights_of(known).outdate(known);
+        const uint64_t generation = inner_->generation();
         for (uint32_t repeat = 0;; repeat++) {
-            const Seen seen = inner_->look(Pinned(inner_->objects), known, key, inner_->objects.turns().tries());
+            const Seen seen = inner_->look(Pinned(inner_->objects), known, key, inner_->objects.turns().tries(), generation);
             if (seen.status != Status::ok) {
                 return seen.status;
             }
-            const Status status = inner_->objects.end(inner_->objects.take(known.index, seen.since));
-            if (status != Status::changed || repeat >= inner_->objects.turns().tries()) {
-                return status;
+            const Ending taken{inner_->objects, inner_->objects.take(known.index, seen.since)};
+            if (taken.change.old != nullptr) {
+                see(static_cast<const V &>(taken.change.old->value));
+            }
+            if (taken.change.status != Status::changed || repeat >= inner_->objects.turns().tries()) {
+                return taken.change.status;
             }
         }
     }
@@ -179,16 +224,27 @@ template <class K, class V, class Hash = SipHash<K>, class Equal = std::equal_to
         if (!inner_) {
             return Status::closed;
         }
-        std::for_each(inner_->flights.begin(), inner_->flights.end(), [](inside::Flights &flights) { flights.outdate_all(); });
+        inner_->outdate_all();
         return inner_->objects.clear();
     }
-    // Removes what has expired. Until then it stays until it is overwritten or evicted, and `size` and `weight` count it. As by `clear`.
+    // Once it has returned, no key is found that was put before it began, nor a value that find_or_compute was computing then. As by cefrodil::map. The
+    // objects stay until others overwrite or evict them, or until erase_expired. Until then `size` and `weight` count them. ok or closed.
+    Status invalidate_all() noexcept {
+        if (!inner_) {
+            return Status::closed;
+        }
+        inner_->objects.generation().begin_next();
+        inner_->outdate_all();
+        return Status::ok;
+    }
+    // Removes what has expired, and what was put before invalidate_all. As by `clear`. Until then it stays until it is overwritten or evicted, and `size` and
+    // `weight` count it.
     [[nodiscard]] Status erase_expired() { return inner_ ? inner_->objects.erase_expired() : Status::closed; }
     // Frees what has left the map and no call can use any more. Other calls do so now and then. Returns how many objects.
     size_t free_unused() noexcept { return inner_ ? inner_->objects.free_now() : 0; }
 
     uint64_t size() const noexcept { return inner_ ? inner_->objects.turns().keys() : 0; }
-    uint64_t capacity() const noexcept { return inner_ ? inner_->objects.turns().capacity() : 0; }
+    uint64_t capacity() const noexcept { return inner_ ? inner_->objects.capacity() : 0; }
     // The sum of the weights, exact while no call writes. What other calls are about to put counts, and what has left does not, though it may wait to
     // be freed. Without a weigher 0.
     uint64_t weight() const noexcept { return inner_ ? inner_->objects.weight() : 0; }
@@ -202,21 +258,25 @@ template <class K, class V, class Hash = SipHash<K>, class Equal = std::equal_to
         if (!flight.has_begun()) {
             return std::nullopt;
         }
+        const uint64_t generation = inner_->generation();
         // Another flight may have ended between the lookup and the begin of this one.
         if (std::optional<V> found = find(key)) {
             return Computed<V>{Status::ok, std::move(*found), false};
         }
         V value = function();
-        Own object = inner_->objects.make(key, [&]() -> const V & { return value; });
+        Own object = inner_->objects.make(key, [&]() -> const V & { return value; }, generation);
         const Status status = flight.land([&] {
             put = object ? inner_->objects.put_new(known.index, object) : put;
             return put.status == Status::changed ? Status::present : put.status;
         });
         return Computed<V>{status, std::move(value), true};
     }
-    // A time to live that a call says, or that of the map.
-    using Life = std::optional<std::chrono::nanoseconds>;
-
+    // Ends a removal, also if a function of the user's throws.
+    struct Ending {
+        Objects &objects;
+        Changed change;
+        ~Ending() { static_cast<void>(objects.end(change)); }
+    };
     // Replaces the value, until no other thread is first.
     template <class Function> Status renew(Key key, const Life &life, Function &function) {
         if (!inner_) {
@@ -224,10 +284,11 @@ template <class K, class V, class Hash = SipHash<K>, class Equal = std::equal_to
         }
         const inside::Identity known = inner_->identities.of(key);
         inner_->flights_of(known).outdate(known);
+        const uint64_t generation = inner_->generation();
         for (uint32_t repeat = 0;; repeat++) {
             Seen seen{};
-            Changed change = inner_->renew(known, key, life, function, seen);
-            if (seen.status != Status::ok || !is_lost(change.status)) {
+            Changed change = inner_->renew(known, key, life, function, generation, seen);
+            if (seen.status != Status::ok || !Inner::is_lost(change.status)) {
                 return inner_->objects.end(change);
             }
             if (repeat >= inner_->objects.turns().tries()) {
@@ -242,7 +303,9 @@ template <class K, class V, class Hash = SipHash<K>, class Equal = std::equal_to
         }
         const inside::Identity known = inner_->identities.of(key);
         const auto give = [&]() -> Value && { return std::forward<Value>(value); };
-        Own object = life ? inner_->objects.make_until(key, give, inner_->objects.deadline_after(*life)) : inner_->objects.make(key, give);
+        Objects &objects = inner_->objects;
+        const uint64_t generation = inner_->generation();
+        Own object = life ? objects.make_until(key, give, generation, objects.deadline_after(*life)) : objects.make(key, give, generation);
         if (!object) {
             return {Status::no_memory, false, false};
         }
@@ -258,66 +321,6 @@ template <class K, class V, class Hash = SipHash<K>, class Equal = std::equal_to
         }
         return {inner_->objects.end(change), change.renewed, change.evicted};
     }
-    // Whether the entry is another one than was looked up.
-    static bool is_lost(Status status) noexcept {
-        return status == Status::changed || status == Status::absent || status == Status::present;
-    }
-
-    struct Inner {
-        Inner(size_t slots, Rules &&rules, Hash &&its_hash) : identities(std::move(its_hash)), objects(slots, std::move(rules)) {}
-        inside::Flights &flights_of(const inside::Identity &key) noexcept { return flights[key.index % flights.size()]; }
-
-        // The key's object. An object of another key with the same number is none of its. Compiled into its callers: a call costs a tenth of a lookup.
-        Seen look(Pinned &&pinned, const inside::Identity &known, Key key, uint32_t most) const { return look(pinned, known, key, most); }
-        [[gnu::always_inline]] Seen look(Pinned &pinned, const inside::Identity &known, Key key, uint32_t most) const {
-            Seen seen = pinned.look(known.index, most);
-            if (seen.status == Status::ok && !Equal()(seen.object->key, key)) {
-                seen.status = Status::absent, seen.object = nullptr;
-            }
-            return seen;
-        }
-        // Puts a key that is absent, or says `present`.
-        Changed insert(const inside::Identity &known, Key key, Own &object) {
-            for (uint32_t repeat = 0;; repeat++) {
-                const Seen seen = look(Pinned(objects), known, key, objects.turns().tries());
-                if (seen.status != Status::absent) {
-                    return Objects::refused(seen.status == Status::ok ? Status::present : seen.status);
-                }
-                const Changed put = seen.since != 0 ? objects.put_over(known.index, seen.since, object) : objects.put_absent(known.index, object);
-                if (!is_lost(put.status)) {
-                    return put;
-                }
-                if (repeat >= objects.turns().tries()) {
-                    return Objects::refused(Status::changed);
-                }
-            }
-        }
-        // Puts what the function makes of the key's value, if no other thread does meanwhile. `seen`: what it looked up.
-        template <class Function> [[gnu::always_inline]] Changed renew(const inside::Identity &known, Key key, const Life &life, Function &function, Seen &seen) {
-            Own object = made_of(known, key, life, function, seen);
-            if (seen.status != Status::ok) {
-                return Objects::refused(seen.status);
-            }
-            // A flight may have begun while the function ran.
-            flights_of(known).outdate(known);
-            return object ? objects.put_over(known.index, seen.since, object) : Objects::refused(Status::no_memory);
-        }
-        template <class Function>
-        [[gnu::always_inline]] Own made_of(const inside::Identity &known, Key key, const Life &life, Function &function, Seen &seen) {
-            Pinned pinned(objects);
-            seen = look(pinned, known, key, objects.turns().tries());
-            if (seen.status != Status::ok) {
-                return Own();
-            }
-            const auto give = [&] { return function(static_cast<const V &>(seen.object->value)); };
-            return objects.make_until(key, give, life ? objects.deadline_after(*life) : Objects::deadline_of(*seen.object));
-        }
-
-        inside::Identities<Key, Hash> identities;
-        std::array<inside::Flights, 16> flights{};
-        Objects objects;
-    };
-
     inside::OwnedPointer<Inner> inner_{};
     // The index hashes what a hash of the user's may have spread badly.
     static constexpr uint32_t mix = std::is_same_v<Hash, SipHash<K>> ? CEFRODIL_MIX_NONE : CEFRODIL_MIX_FULL;

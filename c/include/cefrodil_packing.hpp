@@ -1,4 +1,5 @@
-// How an entry lies in the words of the index, for cefrodil_map.hpp: the check word of its key, and then its value.
+// How an entry lies in the words of the index, for cefrodil_map.hpp: the check word of its key, the moments at which it ends, if it has any, and then
+// its value.
 #ifndef CEFRODIL_PACKING_HPP
 #define CEFRODIL_PACKING_HPP
 
@@ -16,24 +17,29 @@ namespace cefrodil {
 
 namespace inside {
 
-template <class V> struct Packing {
+// An entry with so many moments.
+template <class V, size_t Moments> struct Packing {
     // A larger value has no map, and gets no second message from the index.
-    static constexpr size_t words = std::min<size_t>(8, 1 + words_of<V>);
+    static constexpr size_t words = std::min<size_t>(8, 1 + Moments + words_of<V>);
     using Words = std::array<uint64_t, words>;
+    using Ends = std::array<uint64_t, Moments>;
 
-    static Words pack(const Identity &key, const V &value) noexcept {
+    static Words pack(const Identity &key, const Ends &ends, const V &value) noexcept {
         Words packed{key.check};
         const auto own = words_from(value);
-        std::copy(own.begin(), own.end(), packed.begin() + 1);
+        std::copy(own.begin(), own.end(), packed.begin() + 1 + Moments);
+        set_ends(packed, ends);
         return packed;
     }
-    // Sets the key's value where it stays: a copy of it would cost. Returns false if the entry is another key's.
-    static bool set_value(const Identity &key, const Words &packed, std::optional<V> &value) noexcept {
-        if (packed[0] != key.check) {
-            return false;
-        }
-        std::memcpy(static_cast<void *>(std::addressof(value.emplace())), packed.data() + 1, sizeof(V));
-        return true;
+    static void set_ends(Words &packed, const Ends &ends) noexcept { std::copy(ends.begin(), ends.end(), packed.begin() + 1); }
+    static Ends ends_of(const Words &packed) noexcept {
+        Ends ends{};
+        std::copy_n(packed.begin() + 1, Moments, ends.begin());
+        return ends;
+    }
+    // Sets the value where it stays: a copy of it would cost.
+    static void set_value(const Words &packed, std::optional<V> &value) noexcept {
+        std::memcpy(static_cast<void *>(std::addressof(value.emplace())), packed.data() + 1 + Moments, sizeof(V));
     }
 };
 

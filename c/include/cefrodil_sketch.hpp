@@ -1,7 +1,8 @@
-// Which keys left a table lately, roughly, for cefrodil_tiers.hpp. It is that of map/src/sketch.rs, which says how it works.
+// Which keys left a table lately, roughly, for cefrodil_tiers.hpp and cefrodil_weights.hpp. It is that of map/src/sketch.rs, which says how it works.
 #ifndef CEFRODIL_SKETCH_HPP
 #define CEFRODIL_SKETCH_HPP
 
+#include <algorithm>
 #include <atomic>
 #include <cstddef>
 #include <cstdint>
@@ -20,24 +21,35 @@ inline uint64_t mixed(uint64_t key) noexcept {
 __extension__ typedef unsigned __int128 Wide;
 
 // One of so many places, by the upper bits of a mixed key.
-inline size_t place_in(size_t places, uint64_t mixed) noexcept { return static_cast<size_t>(static_cast<Wide>(mixed) * places >> 64); }
+inline size_t place_in(size_t places, uint64_t spread) noexcept { return static_cast<size_t>(static_cast<Wide>(spread) * places >> 64); }
 
 // Relaxed: it says nothing of other memory. If two threads change a row at once, one change is lost.
 class Sketch {
   public:
     // For a table of so many entries.
     explicit Sketch(uint64_t entries)
-        : count_((entries + entries_of_a_row - 1) / entries_of_a_row), rows_(std::make_unique<std::atomic<uint16_t>[]>(count_)) {}
+        : count_(rows_for(entries)), rows_(std::make_unique<std::atomic<uint16_t>[]>(count_)), used_(count_) {}
+
+    // The table has so many entries now, and may have had room for many more of them that are smaller. Uses fewer rows then, or else more: a key that
+    // left long ago should be forgotten. Each change forgets all keys, so there are few: one call doubles or halves the rows.
+    void fit(uint64_t entries) noexcept {
+        const size_t used = used_.load(std::memory_order_relaxed), wanted = std::max<size_t>(rows_for(entries), 1);
+        if (used < wanted && used < count_) {
+            used_.store(std::min(2 * used, count_), std::memory_order_relaxed);
+        } else if (used > 4 * wanted) {
+            used_.store(used / 2, std::memory_order_relaxed);
+        }
+    }
 
     // Notes a key.
     void note(uint64_t key) noexcept {
-        const Place place = place_of(key);
+        const Noted place = place_of(key);
         const uint16_t tags = place.row.load(std::memory_order_relaxed);
         place.row.store(static_cast<uint16_t>(tags << bits_of_a_tag | place.tag), std::memory_order_relaxed);
     }
     // Whether the key is noted. It isn't afterwards.
     bool take(uint64_t key) noexcept {
-        const Place place = place_of(key);
+        const Noted place = place_of(key);
         const uint16_t tags = place.row.load(std::memory_order_relaxed);
         const uint16_t kept = without(tags, place.tag);
         if (kept != tags) {
@@ -50,15 +62,18 @@ class Sketch {
     static constexpr size_t entries_of_a_row = 4;
     static constexpr unsigned bits_of_a_tag = 8, low_tag = 0xff;
 
-    struct Place {
+    static size_t rows_for(uint64_t entries) noexcept { return (entries + entries_of_a_row - 1) / entries_of_a_row; }
+
+    struct Noted {
         std::atomic<uint16_t> &row;
         uint16_t tag;
     };
 
     // No key has the tag 0.
-    Place place_of(uint64_t key) noexcept {
+    Noted place_of(uint64_t key) noexcept {
         const uint64_t spread = mixed(key);
-        return {rows_[place_in(count_, spread)], static_cast<uint16_t>(1 + (spread >> 4 & 0xfff) % 255)};
+        const size_t row = place_in(used_.load(std::memory_order_relaxed), spread);
+        return {rows_[row], static_cast<uint16_t>(1 + (spread >> 4 & 0xfff) % 255)};
     }
     static uint16_t without(uint16_t tags, uint16_t tag) noexcept {
         const unsigned first = tags & low_tag, second = tags >> bits_of_a_tag;
@@ -67,6 +82,7 @@ class Sketch {
 
     size_t count_;
     std::unique_ptr<std::atomic<uint16_t>[]> rows_;
+    std::atomic<size_t> used_; // of the rows
 };
 
 } // namespace inside

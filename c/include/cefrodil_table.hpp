@@ -2,8 +2,10 @@
 #ifndef CEFRODIL_TABLE_HPP
 #define CEFRODIL_TABLE_HPP
 
+#include "cefrodil_generations.hpp"
 #include "cefrodil_packing.hpp"
 #include "cefrodil_tiers.hpp"
+#include "cefrodil_times.hpp"
 #include <algorithm>
 #include <array>
 #include <optional>
@@ -18,7 +20,7 @@ template <class V> struct Found {
 };
 
 // The answer of a put. `renewed`: it overwrote the key's value; or, by `insert_or_assign`, that of a key with the same hash, which is lost.
-// `evicted`: another key's entry is lost.
+// `evicted`: another key's entry is lost. An entry that was put before invalidate_all counts as another key's, but for `insert_or_assign`.
 struct Stored {
     Status status;
     bool renewed;
@@ -27,25 +29,41 @@ struct Stored {
 
 namespace inside {
 
-// The entries of a map.
-template <class V> class Table : private Packing<V> {
-    using Packing<V>::words, Packing<V>::pack, Packing<V>::set_value;
-    using typename Packing<V>::Words;
+// The entries of a map. `Times`: when they end, Timeless or Timed.
+template <class V, class Times = Timeless> class Table : private Packing<V, Times::moments>, private Times {
+    using Own = Packing<V, Times::moments>;
+    using Own::words, Own::pack, Own::set_value, Own::ends_of, Own::set_ends;
+    using typename Own::Words, typename Own::Ends;
 
   public:
-    // What is under a key's number. ok: the key's value, and the moment of its put. absent: if `since` is not 0, another key's entry is there.
+    using Life = typename Times::Life;
+
+    // What is under a key's number. ok: the key's value, and the moment of its put. absent: if `since` is not 0, another key's entry is there, or one of
+    // another generation, or one that has expired.
     struct Entry {
         Status status;
         std::optional<V> value;
         uint64_t since;
+        Ends ends;
     };
+
+    Table() = default;
+    explicit Table(const Times &times) : Times(times) {}
 
     [[nodiscard]] Status open(uint32_t entries, uint32_t shards, uint32_t passes, uint32_t tries, uint32_t mix, bool small_table) noexcept {
         return tiers_.open(entries, shards, passes, tries, mix, small_table);
     }
 
     // A lookup for its value, which is set if the status is ok. If it stays busy, that is a miss.
-    Status find(const Identity &key, std::optional<V> &value) noexcept { return looked(key, turns().looks(), true, value).status; }
+    Status find(const Identity &key, std::optional<V> &value) noexcept {
+        const Identity known = now(key);
+        Words packed;
+        const Seen seen = looked(known, turns().looks(), true, packed, value);
+        if (seen.status == Status::ok && Times::is_due(ends_of(packed))) {
+            use(known, seen.since, packed);
+        }
+        return seen.status;
+    }
     // The same for a few keys, by one call of the index. Sets the values that are there. A key that is busy is looked up again by itself, and so is one
     // that the main table lacks if the small one may have it.
     static constexpr size_t few = 32;
@@ -54,25 +72,31 @@ template <class V> class Table : private Packing<V> {
         std::array<Words, few> found;
         std::array<cefrodil_answer, few> answers;
         std::transform(keys, keys + count, indices.begin(), [](const Identity &key) { return key.index; });
+        const uint64_t generation = generation_.now();
         const bool lacks_young = tiers_.get_many(indices.data(), count, found.data(), answers.data());
         for (size_t i = 0; i < count; i++) {
-            if (answers[i].status == CEFRODIL_OK) {
-                static_cast<void>(set_value(keys[i], found[i], values[i]));
-            } else if (answers[i].status == CEFRODIL_BUSY || lacks_young) {
+            const bool is_found = answers[i].status == CEFRODIL_OK;
+            if (is_found ? Times::is_due(ends_of(found[i])) : answers[i].status == CEFRODIL_BUSY || lacks_young) {
                 static_cast<void>(find(keys[i], values[i]));
+            } else if (is_found && is_there(in_generation(keys[i], generation), found[i])) {
+                set_value(found[i], values[i]);
             }
         }
     }
     // A lookup that is no use of the key. It is repeated as often as a put.
     Found<V> peek(const Identity &key) noexcept {
+        const Identity known = now(key);
         const Answer<words> answer = tiers_.peek(key.index);
         Found<V> found{answer.status, std::nullopt};
-        if (answer.value && !set_value(key, *answer.value, found.value)) {
+        if (answer.value && is_there(known, *answer.value)) {
+            set_value(*answer.value, found.value);
+        } else if (answer.value) {
             found.status = Status::absent;
         }
         return found;
     }
-    // A lookup for a write, which is repeated as often as a put. With `moves`, a key that is found in the small table moves to the main one.
+    // A lookup for a write, which is repeated as often as a put. The key is as its entries of one generation have it. With `moves`, a key that is found in
+    // the small table moves to the main one.
     Entry look(const Identity &key, bool moves) noexcept {
         for (uint32_t repeat = 0;; repeat++) {
             const Entry entry = look_once(key, moves);
@@ -81,44 +105,68 @@ template <class V> class Table : private Packing<V> {
             }
             const Status status = tiers_.lacks(key.index);
             if (status != Status::present || repeat >= turns().tries()) {
-                return {status == Status::present ? Status::changed : status, std::nullopt, 0};
+                return {status == Status::present ? Status::changed : status, std::nullopt, 0, {}};
             }
         }
     }
-
-    Stored put(const Identity &key, const V &value) noexcept { return stored(tiers_.put(key.index, pack(key, value))); }
-
-    // Another key's entry under the same number gives way.
-    Stored put_if_absent(const Identity &key, const V &value) noexcept {
-        const Words packed = pack(key, value);
+    // Puts whatever is there.
+    Stored put(const Identity &key, const V &value, const Life &life = {}) noexcept {
+        const uint64_t generation = generation_.now();
+        const Stored put = stored(tiers_.put(key.index, pack(in_generation(key, generation), Times::ends(life), value)));
+        // It may have overwritten an entry of the next generation.
+        if (put.status == Status::ok && generation_.now() != generation) {
+            static_cast<void>(this->put(key, value, life));
+        }
+        return put;
+    }
+    Stored put_if_absent(const Identity &key, const V &value, const Life &life = {}) noexcept {
+        for (;;) {
+            const Stored put = put_if_absent_in(generation_.now(), key, value, life);
+            if (put.status != Status::stale) {
+                return put;
+            }
+        }
+    }
+    // The same, as an entry of this generation. An entry of an older one gives way, and so does another key's entry under the same number. stale: a newer
+    // generation has begun, and what is there may be of it.
+    Stored put_if_absent_in(uint64_t generation, const Identity &key, const V &value, const Life &life = {}) noexcept {
+        const Identity known = in_generation(key, generation);
+        const Words packed = pack(known, Times::ends(life), value);
         for (uint32_t repeat = 0;; repeat++) {
             const Stored put = stored(tiers_.put_if_absent(key.index, packed));
             if (put.status != Status::present) {
                 return put;
             }
-            const Entry entry = look(key, false);
+            const Entry entry = look(known, false);
             if (entry.status != Status::absent) {
                 return {entry.status == Status::ok ? Status::present : entry.status, false, false};
             }
-            const Status status = entry.since != 0 ? put_over(key, entry.since, packed) : Status::changed;
+            if (generation_.now() != generation) {
+                return {Status::stale, false, false};
+            }
+            const Status status = entry.since != 0 ? put_over(known, entry.since, packed) : Status::changed;
             if (!is_lost(status) || repeat >= turns().tries()) {
                 return {is_lost(status) ? Status::changed : status, false, status == Status::ok};
             }
         }
     }
 
-    // Puts what the function makes of the key's value. If the key is absent, puts `first`, or nothing if that is null.
-    template <class Function> Found<V> update(const Identity &key, const V *first, const Function &function) {
+    // Puts what the function makes of the key's value. If the key is absent, puts `first`, or nothing if that is null. The new entry has the generation in
+    // which the old one was found.
+    template <class Function> Found<V> update(const Identity &key, const V *first, const Function &function, const Life &life = {}) {
         for (uint32_t repeat = 0;; repeat++) {
-            const Entry entry = look(key, true);
+            const uint64_t generation = generation_.now();
+            const Identity known = in_generation(key, generation);
+            const Entry entry = look(known, true);
             if (entry.status != Status::ok && (entry.status != Status::absent || first == nullptr)) {
                 return {entry.status, std::nullopt};
             }
-            const Found<V> tried = entry.value ? renew(key, entry, function) : Found<V>{put_if_absent(key, *first).status, *first};
+            const Found<V> tried =
+                entry.value ? renew(known, entry, function, life) : Found<V>{put_if_absent_in(generation, key, *first).status, *first};
             if (tried.status == Status::ok) {
                 return tried;
             }
-            const bool is_late = is_lost(tried.status) || tried.status == Status::present;
+            const bool is_late = is_lost(tried.status) || tried.status == Status::present || tried.status == Status::stale;
             if (!is_late || repeat >= turns().tries()) {
                 return {is_late ? Status::changed : tried.status, std::nullopt};
             }
@@ -127,7 +175,7 @@ template <class V> class Table : private Packing<V> {
 
     Status erase(const Identity &key) noexcept {
         for (uint32_t repeat = 0;; repeat++) {
-            const Entry entry = look(key, false);
+            const Entry entry = look(now(key), false);
             if (entry.status != Status::ok) {
                 return entry.status;
             }
@@ -146,15 +194,32 @@ template <class V> class Table : private Packing<V> {
         return status == Status::ok ? remove_all(main) : status;
     }
 
+    // Removes what has expired. It is listed as by `clear`.
+    Status erase_expired() noexcept {
+        std::vector<uint64_t> small, main;
+        Status status = tiers_.list(small, main);
+        status = status == Status::ok ? remove_expired(small) : status;
+        return status == Status::ok ? remove_expired(main) : status;
+    }
+
+    Generation &generation() noexcept { return generation_; }
     Tiers<words> &tiers() noexcept { return tiers_; }
     const Turns<words> &turns() const noexcept { return tiers_.turns(); }
 
   private:
+    // The key as its entries of the present generation have it.
+    Identity now(const Identity &key) const noexcept { return in_generation(key, generation_.now()); }
+    bool is_there(const Identity &known, const Words &packed) const noexcept {
+        return packed[0] == known.check && !Times::have_passed(ends_of(packed));
+    }
     // Compiled into `find`.
-    [[gnu::always_inline]] Seen looked(const Identity &key, uint32_t most, bool moves, std::optional<V> &value) noexcept {
-        Words packed;
-        const Seen seen = tiers_.get(key, most, moves, packed);
-        return {seen.status == Status::ok && !set_value(key, packed, value) ? Status::absent : seen.status, seen.since};
+    [[gnu::always_inline]] Seen looked(const Identity &known, uint32_t most, bool moves, Words &packed, std::optional<V> &value) noexcept {
+        const Seen seen = tiers_.get(known, most, moves, packed);
+        if (seen.status != Status::ok || !is_there(known, packed)) {
+            return {seen.status == Status::ok ? Status::absent : seen.status, seen.since};
+        }
+        set_value(packed, value);
+        return seen;
     }
     Entry look_once(const Identity &key, bool moves) noexcept {
         const Entry entry = looked_once(key, moves);
@@ -164,9 +229,42 @@ template <class V> class Table : private Packing<V> {
     }
     [[gnu::noinline]] Entry looked_once(const Identity &key, bool moves) noexcept {
         Entry entry{};
-        const Seen seen = looked(key, turns().tries(), moves, entry.value);
+        Words packed;
+        const Seen seen = looked(key, turns().tries(), moves, packed, entry.value);
         entry.status = seen.status, entry.since = seen.since;
+        if (seen.status == Status::ok) {
+            entry.ends = ends_of(packed);
+        }
         return entry;
+    }
+    // Begins the time to idle of an entry anew. If the entry has moved or was changed, looks it up again.
+    [[gnu::cold]] [[gnu::noinline]] void use(const Identity &known, uint64_t since, Words packed) noexcept {
+        for (uint32_t repeat = 0; repeat < turns().looks() && Times::is_due(ends_of(packed)); repeat++) {
+            set_ends(packed, Times::renewed(ends_of(packed), {}));
+            if (!is_lost(tiers_.put_if(known.index, since, packed).status)) {
+                return;
+            }
+            const Seen seen = tiers_.get(known, turns().looks(), false, packed);
+            since = seen.since;
+            if (seen.status != Status::ok || !is_there(known, packed)) {
+                return;
+            }
+        }
+    }
+    Status remove_expired(const std::vector<uint64_t> &list) noexcept {
+        Status status = Status::ok;
+        for (size_t at = 0; at < list.size() && status == Status::ok; at += 1 + words) {
+            const uint64_t since = expired(list[at]);
+            status = since != 0 ? tiers_.take_if(list[at], since) : status;
+            status = is_lost(status) ? Status::ok : status;
+        }
+        return status;
+    }
+    // The moment of the put of what is under a number, if that has expired, or else 0.
+    uint64_t expired(uint64_t index) noexcept {
+        Words packed;
+        const Seen seen = tiers_.get({index, 0}, turns().tries(), false, packed);
+        return seen.status == Status::ok && Times::have_passed(ends_of(packed)) ? seen.since : 0;
     }
     Status remove_all(const std::vector<uint64_t> &list) noexcept {
         Status status = Status::ok;
@@ -183,12 +281,13 @@ template <class V> class Table : private Packing<V> {
     static Stored stored(const Written &written) noexcept { return {written.status, written.renewed, written.evicted.has_value()}; }
     Status put_over(const Identity &key, uint64_t since, const Words &packed) noexcept { return tiers_.put_if(key.index, since, packed).status; }
     // Puts what the function makes of an entry's value, if the entry is still the same.
-    template <class Function> Found<V> renew(const Identity &key, const Entry &entry, const Function &function) {
+    template <class Function> Found<V> renew(const Identity &known, const Entry &entry, const Function &function, const Life &life) {
         const V value = function(*entry.value);
-        return {put_over(key, entry.since, pack(key, value)), value};
+        return {put_over(known, entry.since, pack(known, Times::renewed(entry.ends, life), value)), value};
     }
 
     Tiers<words> tiers_{};
+    Generation generation_{};
 };
 
 } // namespace inside

@@ -50,6 +50,16 @@ struct Seen {
     uint64_t since;
 };
 
+// By default a shard has so many entries or more, and there are so many shards at most.
+inline constexpr uint32_t most_shards = 16, entries_of_a_shard = 64;
+inline uint32_t shards_for(uint32_t entries) noexcept {
+    uint32_t shards = 1;
+    while (shards < most_shards && shards * 2 <= entries / entries_of_a_shard) {
+        shards *= 2;
+    }
+    return shards;
+}
+
 // Calls by the passes of an index. A call that other threads keep from its turn is repeated.
 template <size_t Words> class Turns {
   public:
@@ -162,16 +172,6 @@ template <size_t Words> class Turns {
     // The most stripes that all shards have together, but each may have `stripes_of_a_shard`. Each stripe has a version of 8 bytes, and more of them
     // would leave less room for entries in the processor's caches.
     static constexpr uint32_t all_stripes = 4096, stripes_of_a_shard = 64;
-
-    // By default a shard has so many entries or more, and there are so many shards at most.
-    static constexpr uint32_t most_shards = 16, entries_of_a_shard = 64;
-    static uint32_t shards_for(uint32_t entries) noexcept {
-        uint32_t shards = 1;
-        while (shards < most_shards && shards * 2 <= entries / entries_of_a_shard) {
-            shards *= 2;
-        }
-        return shards;
-    }
 
     Passes<Words> passes_{};
     uint32_t tries_ = 0, looks_ = 0;

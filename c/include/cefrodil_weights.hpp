@@ -1,8 +1,13 @@
-// A bound on the weights of a map's objects, for cefrodil_object_map.hpp. The map adds a weight before it puts the object, and subtracts it once the
-// object has left. After a put, objects leave until the sum is within the bound: those that nobody looked up lately (CLOCK), by a ring of all.
+// A bound on the weights of a map's objects, for cefrodil_object_map.hpp, and the order in which they leave. The map adds a weight before it puts the
+// object, and subtracts it once the object has left. After a put, objects leave until the sum is within the bound.
+//
+// The objects are in two rings. A new key goes to the small ring. At its head an object that was used moves to the main ring, and another one leaves.
+// A sketch notes the keys that left so: such a key goes to the main ring when it is put again. So keys that are used once evict none that are used
+// often. Until the map is full, all keys go to the main ring. A map may do without the small ring.
 #ifndef CEFRODIL_WEIGHTS_HPP
 #define CEFRODIL_WEIGHTS_HPP
 
+#include "cefrodil_sketch.hpp"
 #include "cefrodil_threads.hpp"
 #include <cstddef>
 #include <cstdint>
@@ -13,105 +18,196 @@ namespace cefrodil {
 
 namespace inside {
 
-// What an object has that is weighed. All but the mark is written before the object is in the index, or under the lock of its ring.
+// One put of a key.
+struct Place {
+    uint64_t index, since; // the key's number in the index, and the moment of the put
+};
+
+// What an object has that is weighed. The weight and the key's number are written before the object is in the index, and all else but the use under the
+// lock of the rings.
 template <class Parts> struct WeighedOf {
-    uint64_t weight = 0;
-    uint64_t index = 0, since = 0; // its number in the index, and the moment of its put
-    WeighedOf *next = nullptr, *before = nullptr;
-    bool has_left = false;
-    // Relaxed: it says nothing of other memory.
-    typename Parts::template Atomic<bool> is_used{true};
+    enum class In : uint8_t { none, small, main };
 
     // A call has found it.
-    [[gnu::noinline]] void use() noexcept {
+    void use() noexcept {
         if (!is_used.load(std::memory_order_relaxed)) {
             is_used.store(true, std::memory_order_relaxed);
         }
     }
+    bool is_of(const Place &put) const noexcept { return place.since == put.since && place.index == put.index; }
+
+    uint64_t weight = 0;
+    Place place{0, 0};
+    WeighedOf *next = nullptr, *before = nullptr; // in its ring
+    In ring = In::none;                           // the last one that it was in
+    bool has_left = false;
+    // Since it was at the head of its ring. Relaxed: it says nothing of other memory.
+    typename Parts::template Atomic<bool> is_used{false};
 };
 
-// The sum of the weights, and the ring of the objects.
+// Objects in the order in which they came. The end is before the first.
+template <class Weighed> struct RingOf {
+    void link(Weighed &object) noexcept {
+        first = first == nullptr ? &object : first;
+        object.next = first;
+        object.before = first == &object ? &object : first->before;
+        object.before->next = &object;
+        first->before = &object;
+        weight += object.weight;
+    }
+    void unlink(Weighed &object) noexcept {
+        object.before->next = object.next;
+        object.next->before = object.before;
+        first = first != &object ? first : object.next == &object ? nullptr : object.next;
+        object.next = object.before = nullptr;
+        weight -= object.weight;
+    }
+
+    Weighed *first = nullptr;
+    uint64_t weight = 0;
+};
+
+// The sum of the weights, and the rings of the objects.
 template <class Parts> class WeightsOf {
   public:
     using Weighed = WeighedOf<Parts>;
-    // An object that is to leave.
-    struct Victim {
-        uint64_t index, since;
-    };
 
-    explicit WeightsOf(uint64_t bound) noexcept : bound_(bound) {}
+    // For a map of so many entries, with or without a small ring.
+    WeightsOf(uint64_t bound, uint64_t entries, bool has_small) : bound_(bound) {
+        if (has_small) {
+            left_.emplace(entries);
+        }
+    }
     WeightsOf(const WeightsOf &) = delete;
     WeightsOf &operator=(const WeightsOf &) = delete;
 
     // Relaxed steps on the sum suffice. Of all objects that are there take the one that was added last. Its call compares the sum after that, and sees
-    // them all. It goes on until the sum is within the bound, since the ring has this object.
+    // them all. It goes on until the sum is within the bound, since a ring has this object.
     void add(uint64_t weight) noexcept { sum_.fetch_add(weight, std::memory_order_relaxed); }
     void subtract(uint64_t weight) noexcept { sum_.fetch_sub(weight, std::memory_order_relaxed); }
     uint64_t sum() const noexcept { return sum_.load(std::memory_order_relaxed); }
     bool is_over() const noexcept { return sum() > bound_; }
     bool refuses(uint64_t weight) const noexcept { return weight > bound_; }
+    uint64_t bound() const noexcept { return bound_; }
 
-    // The object was put at this moment. It may have left since: then it does not enter the ring. The caller keeps it from being freed.
-    void enter(Weighed &object, uint64_t since) noexcept {
+    // The object was put. It may have left since: then it does not enter a ring. The caller keeps it from being freed. `old`: what it replaced under the
+    // same key, or null. Then the object goes to its ring, and was used if that was. Returns what `victim` does, if the sum is over the bound.
+    std::optional<Place> enter(Weighed &object, const Place &put, Weighed *old) noexcept {
+        if (old != nullptr) {
+            wait_to_be_freed(*old);
+        }
         const std::lock_guard<typename Parts::Mutex> guard(lock_);
-        object.since = since;
+        object.place.since = put.since;
+        if (old != nullptr && old->ring != In::none) {
+            object.ring = old->ring;
+            object.is_used.store(old->is_used.load(std::memory_order_relaxed), std::memory_order_relaxed);
+        } else {
+            object.ring = ring_of_new(put.index);
+        }
+        if (old != nullptr) {
+            unlink_left(*old);
+        }
         if (!object.has_left) {
             link(object);
         }
+        return is_over() ? next_victim(put) : std::nullopt;
     }
-    // The object has left the index. From now on it waits to be freed.
-    void leave(Weighed &object) noexcept {
+    // The next one to leave, but what was just put only if it must be. It stays in its ring until it has left. None: the rings are empty.
+    std::optional<Place> victim(const Place &just_put) noexcept {
+        const std::lock_guard<typename Parts::Mutex> guard(lock_);
+        return next_victim(just_put);
+    }
+    // The object has left the index. From now on it waits to be freed. `evicted`: it gave way to the bound.
+    void leave(Weighed &object, bool evicted) noexcept {
         {
             const std::lock_guard<typename Parts::Mutex> guard(lock_);
-            object.has_left = true;
-            if (object.next != nullptr) {
-                unlink(object);
+            unlink_left(object);
+            if (evicted && object.ring == In::small) {
+                left_->note(object.place.index);
             }
         }
-        waiting_.fetch_add(object.weight, std::memory_order_relaxed);
-        subtract(object.weight);
+        wait_to_be_freed(object);
     }
     void freed(const Weighed &object) noexcept { waiting_.fetch_sub(object.weight, std::memory_order_relaxed); }
     // Whether what waits to be freed weighs more than a sixteenth of the bound.
     bool has_much_waiting() const noexcept { return waiting_.load(std::memory_order_relaxed) > bound_ / 16; }
-    // The next one to leave: that which entered first, but for those that were used since the last look at them. They go to the ring's end. It stays in
-    // the ring until it has left. None: the ring is empty.
-    std::optional<Victim> victim() noexcept {
-        const std::lock_guard<typename Parts::Mutex> guard(lock_);
-        for (size_t spared = 0; first_ != nullptr; spared++) {
-            Weighed &object = *first_;
-            first_ = object.next;
-            if (spared == most_spared || !object.is_used.load(std::memory_order_relaxed)) {
-                return Victim{object.index, object.since};
-            }
-            object.is_used.store(false, std::memory_order_relaxed);
-        }
-        return std::nullopt;
-    }
 
   private:
-    // So many objects are spared by one look for a victim at most, since other calls wait for the lock.
-    static constexpr size_t most_spared = 1000;
+    using Ring = RingOf<Weighed>;
+    using In = typename Weighed::In;
 
-    // The end of the ring is before its first object.
-    void link(Weighed &object) noexcept {
-        first_ = first_ == nullptr ? &object : first_;
-        object.next = first_;
-        object.before = first_ == &object ? &object : first_->before;
-        object.before->next = &object;
-        first_->before = &object;
+    // map/SETTINGS has these numbers, and those of Rust's maps. The small ring has such a part of the bound. So many objects stay at one look for a
+    // victim at most, since other calls wait for the lock.
+    static constexpr uint64_t small_part = 10;
+    static constexpr size_t most_stay = 1024;
+
+    Ring &ring_of(In ring) noexcept { return ring == In::small ? small_ : main_; }
+    // The ring of the next victim. `passed`: not this one, if the other has any.
+    Ring &next_ring(In passed) noexcept {
+        const bool is_small = passed == In::none ? small_.weight > bound_ / small_part : passed == In::main;
+        Ring &ring = is_small ? small_ : main_, &other = is_small ? main_ : small_;
+        return ring.first != nullptr ? ring : other;
     }
-    void unlink(Weighed &object) noexcept {
-        object.before->next = object.next;
-        object.next->before = object.before;
-        first_ = first_ != &object ? first_ : object.next == &object ? nullptr : object.next;
-        object.next = object.before = nullptr;
+    In ring_of_new(uint64_t index) noexcept {
+        if (!left_) {
+            return In::main;
+        }
+        left_->fit(objects_);
+        return is_full_ && !left_->take(index) ? In::small : In::main;
+    }
+    std::optional<Place> next_victim(const Place &just_put) noexcept {
+        is_full_ = true;
+        In passed = In::none;
+        for (size_t stayed = 0;; stayed++) {
+            Ring &ring = next_ring(passed);
+            if (ring.first == nullptr) {
+                return std::nullopt;
+            }
+            Weighed &object = *ring.first;
+            ring.first = object.next;
+            if (stayed < most_stay && object.is_of(just_put)) {
+                // All that were before it in its ring were looked at.
+                passed = object.ring;
+            } else if (stayed < most_stay && object.is_used.load(std::memory_order_relaxed)) {
+                stay(object);
+            } else {
+                return object.place;
+            }
+        }
+    }
+    // It was used, so it goes to the end of the main ring.
+    void stay(Weighed &object) noexcept {
+        object.is_used.store(false, std::memory_order_relaxed);
+        if (object.ring == In::small) {
+            small_.unlink(object);
+            object.ring = In::main;
+            main_.link(object);
+        }
+    }
+    void link(Weighed &object) noexcept {
+        ring_of(object.ring).link(object);
+        objects_++;
+    }
+    void unlink_left(Weighed &object) noexcept {
+        object.has_left = true;
+        if (object.next != nullptr) {
+            ring_of(object.ring).unlink(object);
+            objects_--;
+        }
+    }
+    void wait_to_be_freed(const Weighed &object) noexcept {
+        waiting_.fetch_add(object.weight, std::memory_order_relaxed);
+        subtract(object.weight);
     }
 
     const uint64_t bound_;
     typename Parts::template Atomic<uint64_t> sum_{0}, waiting_{0};
+    // The lock is for all below.
     typename Parts::Mutex lock_{};
-    Weighed *first_ = nullptr;
+    Ring small_{}, main_{};
+    uint64_t objects_ = 0; // in both rings
+    bool is_full_ = false; // an object was to leave
+    std::optional<Sketch> left_{}; // keys that left the small ring; none: there is no small ring
 };
 
 using Weighed = WeighedOf<Threads>;

@@ -86,10 +86,11 @@ static void idle() {
         MUST(numbers.insert(key, uint64_t(key)).status == Status::ok);
     }
     now = 109;
-    MUST(numbers.find(1) == 1u && numbers.erase_expired() == Status::ok && numbers.size() == 3);
+    // A peek is no use of a value.
+    MUST(numbers.peek(2).value == 2u && numbers.find(1) == 1u && numbers.erase_expired() == Status::ok && numbers.size() == 3);
     now = 110;
     // To look for what has expired is no use of it.
-    MUST(numbers.find(1) == 1u && !numbers.find(2) && numbers.erase_expired() == Status::ok && numbers.size() == 1);
+    MUST(numbers.peek(2).status == Status::absent && numbers.find(1) == 1u && !numbers.find(2) && numbers.erase_expired() == Status::ok && numbers.size() == 1);
     now = 119;
     MUST(numbers.contains(1) && numbers.insert(1, 9).status == Status::present);
     now = 128;

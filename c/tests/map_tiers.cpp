@@ -267,6 +267,42 @@ static void a_copy_goes_like_any_key() {
     MUST(numbers.where(the_key) == In::main && numbers.find(the_key) == 10 && numbers.size() == 44);
 }
 
+// Another thread begins the next generation and puts the key between two calls of the index. One table, where a write has no lock meanwhile.
+static void a_write_beside_the_next_generation() {
+    Numbers::Table table;
+    MUST(table.open(40, 1, 64, 5, CEFRODIL_MIX_FULL, false) == Status::ok);
+    const cefrodil::inside::Identity key{the_key, the_key};
+    const auto found = [&] {
+        std::optional<uint64_t> value;
+        static_cast<void>(table.find(key, value));
+        return value.value_or(0);
+    };
+    const auto put_later = [&] {
+        table.generation().begin_next();
+        MUST(table.put(key, 20).status == Status::ok);
+    };
+    MUST(table.put(key, 10).status == Status::ok && found() == 10);
+    table.generation().begin_next();
+    MUST(found() == 0 && table.put(key, 11).status == Status::ok && found() == 11);
+    // A put over that of the next generation is found.
+    before_call(0, put_later);
+    MUST(table.put(key, 12).status == Status::ok && found() == 12);
+    // No entry of the next generation is taken for an older one.
+    table.generation().begin_next();
+    const uint32_t calls = calls_of([&] { MUST(table.put_if_absent(key, 13).status == Status::ok); });
+    MUST(calls == 3);
+    for (uint32_t others = 0; others < calls; others++) {
+        table.generation().begin_next();
+        before_call(others, put_later);
+        MUST(table.put_if_absent(key, 14).status == Status::present && found() == 20);
+        table.generation().begin_next();
+        const uint64_t first = 15;
+        before_call(others, put_later);
+        const auto updated = table.update(key, &first, [](uint64_t old) { return old + 1; });
+        MUST(updated.status == Status::ok && updated.value == 21u && found() == 21);
+    }
+}
+
 // The small table has room for a tenth more entries, and for one at least. With one shard the main one has room for just what was asked for.
 static void capacities() {
     const uint32_t expected[][3] = {{1, 1, 1}, {2, 2, 1}, {9, 9, 1}, {10, 10, 1}, {20, 20, 2}, {39, 39, 3}, {1000, 1000, 100}, {10000, 10000, 1000}};
@@ -322,6 +358,7 @@ int main() {
     a_write_leaves_no_older_copy();
     a_write_that_cannot_remove_a_copy_changes_nothing();
     a_copy_goes_like_any_key();
+    a_write_beside_the_next_generation();
     capacities();
     a_sketch_notes_a_key_until_others_come();
     return outcome("map_tiers");

@@ -85,6 +85,67 @@ static void statuses() {
     MUST(map.free_unused() == 3 && living == 1);
 }
 
+// Looks that copy, that are no use of a value, and that say why there is none.
+static void looks() {
+    object_map<uint64_t, std::string> closed, map;
+    const auto see_none = [](const auto &) { MUST(false); };
+    MUST(closed.get(1).status == Status::closed && closed.peek(1).status == Status::closed && closed.peek(1, see_none) == Status::closed);
+    MUST(map.open({100, 1}) == Status::ok && map.get(1).status == Status::absent && map.peek(1, see_none) == Status::absent);
+    MUST(map.insert(1, "one").status == Status::ok && map.get(1).value == "one" && map.peek(1).value == "one" && map.get(1).status == Status::ok);
+    size_t size = 0;
+    MUST(map.peek(1, [&](const std::string &value) { size = value.size(); }) == Status::ok && size == 3);
+    MUST(map.invalidate_all() == Status::ok && map.peek(1).status == Status::absent && !map.peek(1).value);
+    object_map<uint64_t, Tracked> tracked;
+    MUST(tracked.open({100}) == Status::ok && tracked.insert(1, Tracked(5)).status == Status::ok);
+    MUST(tracked.peek(1, [](const Tracked &value) { MUST(value.lives() && value.number() == 5); }) == Status::ok);
+    // A peek is no use: of two objects that came first, that one leaves which nobody looked up.
+    for (const bool is_peeked : {true, false}) {
+        MUST(map.clear() == Status::ok && map.close() == Status::ok && map.open({100, 1}) == Status::ok);
+        for (uint64_t key = 0; key < 100; key++) {
+            MUST(map.insert(key, "some").status == Status::ok);
+        }
+        MUST((is_peeked ? map.peek(0) : map.get(0)).status == Status::ok && map.insert(100, "more").evicted && map.contains(0) != is_peeked);
+    }
+    // The status of two keys with one number.
+    object_map<uint64_t, std::string, Meeting> meeting;
+    MUST(meeting.open({100}) == Status::ok && meeting.insert(1, "one").status == Status::ok && meeting.peek(4).status == Status::absent);
+}
+
+// An update that makes no new value, and a removal that shows the old one.
+static void declined_and_removed() {
+    std::vector<Left> heard;
+    object_map<uint64_t, std::unique_ptr<int>> map;
+    using Next = std::optional<std::unique_ptr<int>>;
+    MUST(map.open({100}, [&](const uint64_t &, const auto &, Left why) { heard.push_back(why); }) == Status::ok);
+    MUST(map.insert(1, std::make_unique<int>(1)).status == Status::ok);
+    const auto add_to_odd = [](const std::unique_ptr<int> &old) { return *old % 2 == 1 ? Next(std::make_unique<int>(*old + 1)) : Next(); };
+    MUST(map.update(1, add_to_odd) == Status::ok && map.update(1, add_to_odd) == Status::declined && map.update(2, add_to_odd) == Status::absent);
+    MUST(heard == std::vector<Left>{Left::replaced} && std::string(cefrodil::text(Status::declined)) == "the function made no new value");
+    MUST(map.update_for(1, std::chrono::nanoseconds(0), add_to_odd) == Status::declined && map.contains(1));
+    // A null pointer is a value.
+    MUST(map.update(1, [](const auto &) { return std::unique_ptr<int>(); }) == Status::ok && map.look(1, [](const auto &now) { MUST(!now); }) == Status::ok);
+    MUST(map.insert_or_assign(1, std::make_unique<int>(7)).renewed);
+    heard.clear();
+    int removed = 0;
+    const auto see = [&](const std::unique_ptr<int> &value) { removed = *value, heard.push_back(Left::replaced); };
+    MUST(map.erase(2, see) == Status::absent && removed == 0 && map.erase(1, see) == Status::ok && removed == 7 && !map.contains(1));
+    MUST((heard == std::vector<Left>{Left::replaced, Left::removed}) && map.erase(1, see) == Status::absent);
+    object_map<uint64_t, std::unique_ptr<int>> closed;
+    MUST(closed.erase(1, see) == Status::closed && closed.update(1, add_to_odd) == Status::closed);
+    MUST(map.free_unused() == 4 && map.size() == 0);
+#ifdef __cpp_exceptions
+    // The listener hears of it, and it is freed, though the function throws.
+    MUST(map.insert(1, std::make_unique<int>(8)).status == Status::ok);
+    heard.clear();
+    try {
+        static_cast<void>(map.erase(1, [](const auto &) { throw 1; }));
+        MUST(false);
+    } catch (int) {
+    }
+    MUST(!map.contains(1) && heard == std::vector<Left>{Left::removed} && map.free_unused() == 1);
+#endif
+}
+
 // Two keys with the same number in the index are two keys.
 static void keys_that_meet() {
     std::vector<std::pair<uint64_t, Left>> heard;
@@ -341,6 +402,8 @@ int main(int argc, char **argv) {
     const long less = argc > 1 ? std::atol(argv[1]) : 1;
     any_types();
     statuses();
+    looks();
+    declined_and_removed();
     keys_that_meet();
     stays_while_it_is_used();
     stays_without_a_pass();

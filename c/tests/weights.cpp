@@ -87,43 +87,172 @@ static void order() {
     MUST(numbers.find_or_compute(8, [] { return uint64_t(1); }).status == Status::ok && !numbers.contains(3) && numbers.weight() == 1);
 }
 
-// The ring by itself.
-static void ring() {
-    using cefrodil::inside::Weighed;
-    cefrodil::inside::Weights weights(100);
-    std::array<Weighed, 4> objects;
-    const auto next = [&] { const auto victim = weights.victim(); return victim ? long(victim->index * 100 + victim->since) : -1; };
-    MUST(next() == -1);
+// The rings by themselves: a bound, and objects by their numbers. The number of an object is that of its key, and also the moment of its put.
+class Rings {
+  public:
+    using Weighed = cefrodil::inside::Weighed;
+
+    Rings(uint64_t bound, bool has_small) : weights(bound, 1000, has_small) {}
+
+    // Returns the number of the next one to leave, if the sum is over the bound, or -1.
+    long enter(uint64_t number, uint64_t weight = 10, Weighed *old = nullptr) {
+        objects[number].weight = weight, objects[number].place.index = number;
+        weights.add(weight);
+        return number_of(weights.enter(objects[number], {number, number}, old));
+    }
+    // The same for one of another key.
+    long enter_as(uint64_t number, uint64_t key) {
+        objects[number].weight = 0, objects[number].place.index = key;
+        return number_of(weights.enter(objects[number], {key, number}, nullptr));
+    }
+    // The number of the next one to leave.
+    long next(uint64_t just_put = 999) { return number_of(weights.victim({just_put, just_put})); }
+    // It leaves.
+    long evict(uint64_t just_put = 999) {
+        const long number = next(just_put);
+        weights.leave(objects[size_t(number)], true);
+        return number;
+    }
+
+    cefrodil::inside::Weights weights;
+    std::vector<Weighed> objects = std::vector<Weighed>(3000);
+
+  private:
+    static long number_of(const std::optional<cefrodil::inside::Place> &victim) { return victim ? long(victim->index) : -1; }
+};
+
+static void one_ring() {
+    Rings rings(100, false);
+    MUST(rings.next() == -1);
     for (uint64_t n = 0; n < 4; n++) {
-        objects[n].index = n, objects[n].weight = 10;
-        weights.add(10);
-        weights.enter(objects[n], 10 + n);
+        MUST(rings.enter(n) == -1);
     }
-    // Each is spared once, and stays in the ring.
-    MUST(next() == 10 && next() == 111 && next() == 212 && next() == 313 && next() == 10);
-    objects[1].use();
-    MUST(next() == 212 && next() == 313);
-    weights.leave(objects[0]);
-    MUST(next() == 111 && next() == 212 && weights.sum() == 30);
-    weights.leave(objects[3]);
-    weights.leave(objects[1]);
-    MUST(next() == 212 && next() == 212 && weights.sum() == 10);
-    weights.leave(objects[2]);
-    MUST(next() == -1 && weights.sum() == 0 && !weights.is_over());
+    // Each stays in the ring until it has left.
+    MUST(rings.next() == 0 && rings.next() == 1 && rings.next() == 2 && rings.next() == 3 && rings.next() == 0);
+    rings.objects[1].use();
+    MUST(rings.next() == 2 && rings.next() == 3);
+    rings.weights.leave(rings.objects[0], false);
+    MUST(rings.next() == 1 && rings.next() == 2 && rings.weights.sum() == 30);
+    rings.weights.leave(rings.objects[3], true);
+    rings.weights.leave(rings.objects[1], false);
+    MUST(rings.next() == 2 && rings.next() == 2 && rings.weights.sum() == 10);
+    // What was just put leaves only if it must.
+    MUST(rings.next(2) == 2);
+    MUST(rings.enter(4) == -1 && rings.next(2) == 4 && rings.next(2) == 4 && rings.next(4) == 2);
+    rings.weights.leave(rings.objects[2], false);
+    rings.weights.leave(rings.objects[4], false);
+    MUST(rings.next() == -1 && rings.weights.sum() == 0 && !rings.weights.is_over());
     // One that left before it could enter.
-    Weighed late;
-    late.weight = 10;
-    weights.add(10);
-    weights.leave(late);
-    weights.enter(late, 1);
-    MUST(next() == -1 && weights.sum() == 0);
-    // A look for a victim ends, though all others were used.
-    std::vector<Weighed> many(3000);
-    for (uint64_t n = 0; n < many.size(); n++) {
-        many[n].index = n;
-        weights.enter(many[n], 0);
+    rings.weights.leave(rings.objects[5], false);
+    MUST(rings.enter_as(5, 5) == -1 && rings.next() == -1 && rings.weights.sum() == 0);
+    // A look for a victim ends, though all were used.
+    Rings many(100000, false);
+    for (uint64_t n = 10; n < 3000; n++) {
+        MUST(many.enter(n) == -1);
+        many.objects[n].use();
     }
-    MUST(next() == 1000 * 100);
+    MUST(many.next() == 10 + 1024);
+}
+
+// The small ring may weigh 10 of 100.
+static void two_rings() {
+    using In = Rings::Weighed::In;
+    Rings rings(100, true);
+    for (uint64_t n = 1; n <= 10; n++) {
+        MUST(rings.enter(n) == -1);
+    }
+    MUST(rings.objects[10].ring == In::main && rings.next() == 1 && rings.next() == 2);
+    // It is full now. One that is new goes to the small ring, and leaves if it was not used when the next one comes.
+    MUST(rings.enter(11) == 3 && rings.objects[11].ring == In::small);
+    MUST(rings.enter(12) == 11);
+    rings.weights.leave(rings.objects[11], true);
+    MUST(rings.next() == 4);
+    // Its key is known when it comes again, once.
+    MUST(rings.enter_as(111, 11) != -1 && rings.enter_as(112, 11) != -1);
+    MUST(rings.objects[111].ring == In::main && rings.objects[112].ring == In::small);
+    rings.weights.leave(rings.objects[111], false);
+    rings.weights.leave(rings.objects[112], false);
+    // One that was used moves to the main ring, and stays there while it is used.
+    rings.objects[12].use();
+    MUST(rings.enter(13) == 7 && rings.objects[13].ring == In::small && rings.objects[12].ring == In::main && !rings.objects[12].is_used);
+    // One that replaces another one goes to its ring, and was used if that was.
+    rings.objects[12].use();
+    MUST(rings.enter(14, 10, &rings.objects[12]) == 8 && rings.enter(15, 10, &rings.objects[13]) == 9);
+    MUST(rings.objects[14].ring == In::main && rings.objects[15].ring == In::small && rings.objects[12].has_left);
+    MUST(rings.objects[14].is_used && !rings.objects[15].is_used);
+    // What was just put stays, though it alone is more than the small ring's part: others leave.
+    MUST(rings.enter(16, 90, &rings.objects[15]) == 10 && rings.objects[16].ring == In::small);
+    MUST(rings.next(16) == 1 && rings.next(16) == 2 && rings.next() == 16);
+    // A key that left long ago is forgotten: of a map with so few objects the sketch keeps few.
+    for (uint64_t n = 100; n < 200; n++) {
+        MUST(rings.enter(n) != -1 && rings.objects[n].ring == In::small);
+        rings.weights.leave(rings.objects[n], true);
+    }
+    MUST(rings.enter_as(200, 199) != -1 && rings.enter_as(201, 100) != -1);
+    MUST(rings.objects[200].ring == In::main && rings.objects[201].ring == In::small);
+}
+
+// Some keys are used again and again, and many others once: 400 between two uses of a key. Returns how many lookups of the former miss.
+static uint64_t misses(const cefrodil::MapOptions &options, const Numbers::Rules &rules) {
+    constexpr uint64_t used = 50, rounds = 100;
+    Numbers numbers;
+    MUST(numbers.open(options, rules) == Status::ok);
+    uint64_t missed = 0;
+    for (uint64_t n = 0; n < used * rounds; n++) {
+        missed += !numbers.contains(n % used);
+        MUST(numbers.insert_or_assign(n % used, 1).status == Status::ok);
+        for (uint64_t other = 0; n >= 2 * used && other < 8; other++) {
+            MUST(numbers.insert(1000 + 8 * n + other, 1).status == Status::ok);
+        }
+    }
+    return missed;
+}
+
+// Keys that are used once evict none that are used often, though there is room for 100 alone.
+static void used_keys_stay() {
+    cefrodil::MapOptions options{100, 1}, alone = options;
+    alone.small_table = false;
+    MUST(misses(options, {}) == 50 && misses(alone, {}) > 4000);
+    options.entries = alone.entries = 200;
+    MUST(misses(options, bounded(100)) == 50 && misses(alone, bounded(100)) > 4000);
+}
+
+// A key that left the small queue goes to the main one when it comes again.
+static void comes_again() {
+    Numbers numbers;
+    MUST(numbers.open({100, 1}) == Status::ok);
+    const auto put_all = [&](uint64_t begin, uint64_t end) {
+        for (uint64_t key = begin; key < end; key++) {
+            MUST(numbers.insert(key, 0).status == Status::ok);
+        }
+    };
+    put_all(0, 130);
+    MUST(!numbers.contains(115) && numbers.insert(115, 0).status == Status::ok);
+    put_all(130, 160);
+    MUST(numbers.contains(115) && !numbers.contains(140));
+}
+
+// Without a weigher a map has room for as many entries as were asked for. With one shard it holds just these.
+static void entries_alone() {
+    for (const uint32_t shards : {1, 4, 0}) {
+        Numbers numbers;
+        MUST(numbers.open({1000, shards}) == Status::ok && (shards == 1 ? numbers.capacity() == 1000 : numbers.capacity() > 1000));
+        for (uint64_t key = 0; key < 1000; key++) {
+            const auto stored = numbers.insert(key, uint64_t(key));
+            MUST(stored.status == Status::ok && !stored.evicted);
+        }
+        MUST(numbers.size() == 1000 && numbers.weight() == 0 && numbers.insert_or_assign(1, 2).renewed && numbers.size() == 1000);
+        uint64_t evicted = 0;
+        for (uint64_t key = 1000; key < 10000; key++) {
+            evicted += numbers.insert(key, uint64_t(key)).evicted;
+        }
+        MUST(numbers.size() == 10000 - evicted && numbers.size() <= numbers.capacity() && numbers.size() > numbers.capacity() - numbers.capacity() / 20);
+        MUST(numbers.meter().counts().evictions == 0);
+    }
+    cefrodil::MapOptions alone{1000, 1};
+    alone.small_table = false;
+    Numbers numbers;
+    MUST(numbers.open(alone) == Status::ok && numbers.capacity() == 1000 && numbers.insert(1, 1).status == Status::ok);
 }
 
 // What waits to be freed weighs at most a sixteenth of the bound, and an object, if no call uses it.
@@ -239,7 +368,11 @@ int main(int argc, char **argv) {
     answers();
     too_heavy();
     order();
-    ring();
+    one_ring();
+    two_rings();
+    used_keys_stay();
+    comes_again();
+    entries_alone();
     waiting();
     agrees_with_a_model<cefrodil::SipHash<uint64_t>>({1000}, 1000, 30000 / less);
     agrees_with_a_model<cefrodil::SipHash<uint64_t>>({20, 2}, 1000, 30000 / less);

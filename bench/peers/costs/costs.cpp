@@ -1,14 +1,16 @@
-// What a call of a cefrodil::map costs, for valgrind's callgrind: values of 32 bytes in a map for 1,000 entries. Run it for a smaller and a larger
-// number of calls, and divide what the second run has more.
+// What a call of a map of C++ costs, for valgrind's callgrind: values of 32 bytes in a map for 1,000 entries. Run it for a smaller and a larger number
+// of calls, and divide what the second run has more.
 //
-// usage: costs KIND CALLS TABLES [full]     KIND: hit, miss, over (a put over a value) or new; TABLES: 1, or 2 with a small table; full: the map is full
-#include "cefrodil_map.hpp"
+// usage: costs KIND CALLS CACHE [full]     KIND: hit, miss, over (a put over a value) or new; CACHE: 1, or 2 with a small table; objects of the index
+// alone, or objects+ with a small queue; full: the map is full
+#include "cefrodil_object_map.hpp"
 #include <cstdio>
 #include <cstdlib>
 #include <string>
 
 using Value = std::array<uint64_t, 4>;
 using Map = cefrodil::map<uint64_t, Value>;
+using Objects = cefrodil::object_map<uint64_t, Value>;
 
 static constexpr uint64_t known = 500, fresh = 1000000;
 
@@ -17,9 +19,14 @@ static constexpr uint64_t known = 500, fresh = 1000000;
     const std::optional<Value> found = map.find(key);
     return found ? (*found)[0] : 0;
 }
-[[gnu::noinline]] static uint64_t put(Map &map, uint64_t key) { return map.insert_or_assign(key, Value{key}).renewed; }
+[[gnu::noinline]] static uint64_t look_up(Objects &map, uint64_t key) {
+    uint64_t first = 0;
+    static_cast<void>(map.look(key, [&](const Value &value) { first = value[0]; }));
+    return first;
+}
+template <class Any> [[gnu::noinline]] uint64_t put(Any &map, uint64_t key) { return map.insert_or_assign(key, Value{key}).renewed; }
 
-static uint64_t call(Map &map, char kind, uint64_t n) {
+template <class Any> uint64_t call(Any &map, char kind, uint64_t n) {
     switch (kind) {
     case 'h': return look_up(map, n % known);
     case 'm': return look_up(map, fresh + n);
@@ -29,7 +36,7 @@ static uint64_t call(Map &map, char kind, uint64_t n) {
 }
 
 // Some keys are known. A full map has had many others, and the known ones are used again and again.
-static void fill(Map &map, bool is_full) {
+template <class Any> void fill(Any &map, bool is_full) {
     for (uint64_t key = 0; key < (is_full ? 20 * known : known); key++) {
         if (!map.contains(key % known)) {
             static_cast<void>(put(map, key % known));
@@ -40,21 +47,27 @@ static void fill(Map &map, bool is_full) {
     }
 }
 
+template <class Any> int costs(Any &&map, bool is_small, char kind, uint64_t calls, bool is_full) {
+    cefrodil::MapOptions options{1000};
+    options.small_table = is_small;
+    if (map.open(options) != cefrodil::Status::ok) {
+        return 1;
+    }
+    fill(map, is_full);
+    uint64_t sum = 0;
+    for (uint64_t n = 0; n < calls; n++) {
+        sum += call(map, kind, n);
+    }
+    std::printf("%llu\n", static_cast<unsigned long long>(sum));
+    return 0;
+}
+
 int main(int argc, char **argv) {
     if (argc != 4 && argc != 5) {
         return 2;
     }
-    cefrodil::MapOptions options{1000};
-    options.small_table = std::atoi(argv[3]) == 2;
-    Map map;
-    if (map.open(options) != cefrodil::Status::ok) {
-        return 1;
-    }
-    fill(map, argc == 5);
-    uint64_t sum = 0;
-    for (uint64_t n = 0, calls = std::strtoull(argv[2], nullptr, 10); n < calls; n++) {
-        sum += call(map, *argv[1], n);
-    }
-    std::printf("%llu\n", static_cast<unsigned long long>(sum));
-    return 0;
+    const std::string cache = argv[3];
+    const uint64_t calls = std::strtoull(argv[2], nullptr, 10);
+    const bool is_full = argc == 5;
+    return cache == "1" || cache == "2" ? costs(Map(), cache == "2", *argv[1], calls, is_full) : costs(Objects(), cache == "objects+", *argv[1], calls, is_full);
 }

@@ -1,7 +1,8 @@
-// How many lookups find their key in a cefrodil::map, for `bench/small_table.py`: the same work as in src/main.rs.
+// How many lookups find their key in a map of C++, for `bench/small_table.py`: the same work as in src/main.rs.
 //
-// usage: ratio CAPACITY TABLES     TABLES: 1, or 2 with a small table. It prints a line of 0 and 1: which lookups hit.
-#include "cefrodil_map.hpp"
+// usage: ratio CAPACITY CACHE     CACHE: map, or map+ with a small table; objects by their number with the index alone, or objects+; weights by their
+// weight with one ring, or weights+. It prints a line of 0 and 1: which lookups hit.
+#include "cefrodil_object_map.hpp"
 #include <cstdio>
 #include <cstdlib>
 #include <string>
@@ -19,31 +20,57 @@ static std::vector<uint64_t> input() {
 }
 
 // Looks the key up, and puts it if it is missed. '0' or '1': whether it was found.
-static char look_up(cefrodil::map<uint64_t, uint64_t> &map, uint64_t key) {
+template <class Map> char look_up(Map &map, uint64_t key) {
     const std::optional<uint64_t> found = map.find(key);
-    if (found ? *found != key : map.insert_or_assign(key, key).status != Status::ok) {
+    if (found ? *found != key : map.insert_or_assign(key, uint64_t(key)).status != Status::ok) {
         std::abort();
     }
     return found ? '1' : '0';
+}
+template <class Map> void look_all_up(Map &map) {
+    std::string hits;
+    for (const uint64_t key : input()) {
+        hits += look_up(map, key);
+    }
+    std::puts(hits.c_str());
+}
+
+// One shard, so that the map has room for as many entries as were asked for. A small table is a tenth of the main one.
+static int of_map(uint32_t capacity, bool is_small) {
+    cefrodil::MapOptions options{is_small ? capacity * 10 / 11 : capacity, 1, 2};
+    options.small_table = is_small;
+    cefrodil::map<uint64_t, uint64_t> map;
+    if (map.open(options) != Status::ok || map.capacity() > capacity || map.capacity() + 1 < capacity) {
+        return 1;
+    }
+    look_all_up(map);
+    return 0;
+}
+// If it is bounded by weight alone, its index has room for more.
+static int of_objects(uint32_t capacity, bool is_small, bool is_weighed) {
+    using Map = cefrodil::object_map<uint64_t, uint64_t>;
+    cefrodil::MapOptions options{is_weighed ? 2 * capacity : capacity, 1, 2};
+    options.small_table = is_small;
+    Map::Rules rules;
+    if (is_weighed) {
+        rules.weigher = [](const uint64_t &, const uint64_t &) { return uint64_t(1); };
+        rules.most_weight = capacity;
+    }
+    Map map;
+    if (map.open(options, std::move(rules)) != Status::ok) {
+        return 1;
+    }
+    look_all_up(map);
+    return 0;
 }
 
 int main(int argc, char **argv) {
     if (argc != 3) {
         return 2;
     }
-    // One shard, so that the map has room for as many entries as were asked for. A small table is a tenth of the main one.
     const auto capacity = static_cast<uint32_t>(std::strtoul(argv[1], nullptr, 10));
-    const bool small_table = std::atoi(argv[2]) == 2;
-    cefrodil::MapOptions options{small_table ? capacity * 10 / 11 : capacity, 1, 2};
-    options.small_table = small_table;
-    cefrodil::map<uint64_t, uint64_t> map;
-    if (map.open(options) != Status::ok || map.capacity() > capacity || map.capacity() + 1 < capacity) {
-        return 1;
-    }
-    std::string hits;
-    for (const uint64_t key : input()) {
-        hits += look_up(map, key);
-    }
-    std::puts(hits.c_str());
-    return 0;
+    std::string cache = argv[2];
+    const bool is_small = cache.back() == '+';
+    cache.resize(cache.size() - is_small);
+    return cache == "map" ? of_map(capacity, is_small) : of_objects(capacity, is_small, cache == "weights");
 }

@@ -1,0 +1,112 @@
+// The objects of a map by their keys, for cefrodil_object_map.hpp.
+#ifndef CEFRODIL_KEYED_OBJECTS_HPP
+#define CEFRODIL_KEYED_OBJECTS_HPP
+
+#include "cefrodil_flights.hpp"
+#include "cefrodil_hash.hpp"
+#include "cefrodil_objects.hpp"
+#include <algorithm>
+#include <array>
+#include <chrono>
+#include <optional>
+#include <type_traits>
+#include <utility>
+
+namespace cefrodil {
+
+namespace inside {
+
+template <class K, class V, class Hash, class Equal> struct KeyedObjects {
+    using Key = Taken<K, Hash>;
+    using Entries = Objects<K, V>;
+    using Pinned = typename Entries::Pinned;
+    using Seen = typename Entries::Seen;
+    using Changed = typename Entries::Changed;
+    using Own = typename Entries::Own;
+    // A time to live that a call says, or that of the map.
+    using Life = std::optional<std::chrono::nanoseconds>;
+
+    KeyedObjects(size_t slots, ObjectRules<K, V> &&rules, Hash &&its_hash) : identities(std::move(its_hash)), objects(slots, std::move(rules)) {}
+    Flights &flights_of(const Identity &key) noexcept { return flights[key.index % flights.size()]; }
+    void outdate_all() noexcept {
+        std::for_each(flights.begin(), flights.end(), [](Flights &some) { some.outdate_all(); });
+    }
+    uint64_t generation() noexcept { return objects.generation().now(); }
+    // An object of another key with the same number is none of this key's.
+    static Seen own(Seen seen, Key key) {
+        const bool is_other = seen.status == Status::ok && !Equal()(seen.object->key, key);
+        return is_other ? Seen{Status::absent, nullptr, seen.since} : seen;
+    }
+    // Whether the entry is another one than was looked up.
+    static bool is_lost(Status status) noexcept {
+        return status == Status::changed || status == Status::absent || status == Status::present;
+    }
+
+    // The key's object. Compiled into its callers: a call costs a tenth of a lookup.
+    Seen look(Pinned &&pinned, const Identity &known, Key key, uint32_t most, uint64_t generation) const {
+        return look(pinned, known, key, most, generation);
+    }
+    [[gnu::always_inline]] Seen look(Pinned &pinned, const Identity &known, Key key, uint32_t most, uint64_t generation) const {
+        return own(pinned.look(known.index, most, generation), key);
+    }
+    // Puts a key that is absent, or says `present`.
+    Changed insert(const Identity &known, Key key, Own &object) {
+        for (uint32_t repeat = 0;; repeat++) {
+            const Seen seen = look(Pinned(objects), known, key, objects.turns().tries(), object->generation());
+            if (seen.status != Status::absent) {
+                return Entries::refused(seen.status == Status::ok ? Status::present : seen.status);
+            }
+            const Changed put = seen.since != 0 ? objects.put_over(known.index, seen.since, object) : objects.put_absent(known.index, object);
+            if (!is_lost(put.status)) {
+                return put;
+            }
+            if (repeat >= objects.turns().tries()) {
+                return Entries::refused(Status::changed);
+            }
+        }
+    }
+    // Puts what the function makes of the key's value, if no other thread does meanwhile. `seen`: what it looked up.
+    template <class Function>
+    [[gnu::always_inline]] Changed renew(const Identity &known, Key key, const Life &life, Function &function, uint64_t generation,
+                                         Seen &seen) {
+        Own object = made_of(known, key, life, function, generation, seen);
+        if (seen.status != Status::ok) {
+            return Entries::refused(seen.status);
+        }
+        // A flight may have begun while the function ran.
+        flights_of(known).outdate(known);
+        return object ? objects.put_over(known.index, seen.since, object) : Entries::refused(Status::no_memory);
+    }
+    template <class Function>
+    [[gnu::always_inline]] Own made_of(const Identity &known, Key key, const Life &life, Function &function, uint64_t generation,
+                                       Seen &seen) {
+        Pinned pinned(objects);
+        seen = look(pinned, known, key, objects.turns().tries(), generation);
+        if (seen.status != Status::ok) {
+            return Own();
+        }
+        const auto made = [&] { return function(static_cast<const V &>(seen.object->value)); };
+        // It has the generation of what it replaces.
+        const auto make = [&](const auto &give) {
+            const uint64_t deadline = life ? objects.deadline_after(*life) : Entries::deadline_of(*seen.object);
+            return objects.make_until(key, give, seen.object->generation(), deadline);
+        };
+        if constexpr (std::is_same_v<decltype(made()), std::optional<V>>) {
+            std::optional<V> next = made();
+            seen.status = next ? Status::ok : Status::declined;
+            return next ? make([&] { return std::move(*next); }) : Own();
+        } else {
+            return make(made);
+        }
+    }
+
+    Identities<Key, Hash> identities;
+    std::array<Flights, 16> flights{};
+    Entries objects;
+};
+
+} // namespace inside
+
+} // namespace cefrodil
+
+#endif

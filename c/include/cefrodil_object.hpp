@@ -1,0 +1,92 @@
+// An object of a map of objects, and what such a map does beside keeping them, for cefrodil_object_map.hpp.
+#ifndef CEFRODIL_OBJECT_HPP
+#define CEFRODIL_OBJECT_HPP
+
+#include "cefrodil_epochs.hpp"
+#include "cefrodil_lives.hpp"
+#include "cefrodil_weights.hpp"
+#include <array>
+#include <atomic>
+#include <cstdint>
+#include <functional>
+
+namespace cefrodil {
+
+// Why an object left a map. evicted: another key was put, or the weights were over the bound. expired: its time was over before one of the others
+// happened, or invalidate_all had been called since its put.
+enum class Left { replaced, evicted, removed, expired };
+
+// What a map of objects does beside keeping them. None of these functions throws.
+template <class K, class V> struct ObjectRules {
+    // Hears of each object that leaves the map, before it is freed, in the call that made it leave; but not of those that `close` frees. It may call
+    // the map.
+    std::function<void(const K &, const V &, Left)> listener = nullptr;
+    // What an entry weighs, in any unit, such as bytes. It is asked once, by the thread that puts the entry, and must not call the map. None: the map is
+    // bounded by its number of entries alone.
+    std::function<uint64_t(const K &, const V &)> weigher = nullptr;
+    // The bound on the sum of the weights, 0 to 2^48. A larger number is taken for 2^48.
+    uint64_t most_weight = uint64_t(1) << 48;
+    // How long entries live.
+    Lives lives = {};
+};
+
+namespace inside {
+
+// An object of a map. Its address is the word of an entry in the index.
+template <class K, class V> struct Object : Retired {
+    // What it is made as: this alone, a WeighedObject, or a MortalObject.
+    enum Kind : uint8_t { unmade, plain, weighed, mortal };
+
+    // The function gives the value. It is called when there is memory for it. The kind is unmade.
+    template <class Key, class Give> Object(const Key &its_key, const Give &give) : key(its_key), value(give()) {}
+    // The word of an entry. What the index orders, the load of the head orders by the rules of the language, too: so ThreadSanitizer sees it.
+    static Object *found_at(uint64_t word) noexcept { return reinterpret_cast<Object *>(static_cast<uintptr_t>(word)); }
+    static Object *at(uint64_t word) noexcept {
+        Object *const found = found_at(word);
+        static_cast<void>(found->kind());
+        return found;
+    }
+    std::array<uint64_t, 1> word() const noexcept { return {static_cast<uint64_t>(reinterpret_cast<uintptr_t>(this))}; }
+    static Kind kind_of(uint64_t head) noexcept { return static_cast<Kind>(head & all_kinds); }
+    static uint64_t generation_of(uint64_t head) noexcept { return head / (all_kinds + 1); }
+    Kind kind() const noexcept { return kind_of(head.load(std::memory_order_acquire)); }
+    uint64_t generation() const noexcept { return generation_of(head.load(std::memory_order_acquire)); }
+    // It is what it will be, and may be put. Called again, it moves the object to another generation.
+    void end_making(Kind its_kind, uint64_t generation) noexcept {
+        head.store(generation * (all_kinds + 1) + its_kind, std::memory_order_release);
+    }
+
+    // The kind, and before it the generation.
+    static constexpr uint64_t all_kinds = 0xff;
+    std::atomic<uint64_t> head{unmade};
+    const K key;
+    V value;
+};
+
+// The same in a map that bounds the sum of weights.
+template <class K, class V> struct WeighedObject : Object<K, V>, Weighed {
+    using Object<K, V>::Object;
+    static WeighedObject &of(Object<K, V> &object) noexcept { return static_cast<WeighedObject &>(object); }
+};
+
+// The same with a deadline. In a map that bounds no sum its weight says nothing.
+template <class K, class V> struct MortalObject final : WeighedObject<K, V>, Mortal {
+    using WeighedObject<K, V>::WeighedObject;
+    static MortalObject &of(Object<K, V> &object) noexcept { return static_cast<MortalObject &>(object); }
+};
+
+struct Destroy {
+    template <class K, class V> void operator()(Object<K, V> *object) const noexcept {
+        switch (object->kind()) {
+        case Object<K, V>::mortal: delete &MortalObject<K, V>::of(*object); break;
+        case Object<K, V>::weighed: delete &WeighedObject<K, V>::of(*object); break;
+        default: delete object;
+        }
+    }
+};
+
+} // namespace inside
+
+} // namespace cefrodil
+
+#endif

@@ -1,0 +1,51 @@
+// The weights of a map of objects in parts, for cefrodil_objects.hpp. Each part has rings and a bound of its own, so puts of keys of different parts
+// wait for no lock of each other.
+#ifndef CEFRODIL_PARTED_WEIGHTS_HPP
+#define CEFRODIL_PARTED_WEIGHTS_HPP
+
+#include "cefrodil_weights.hpp"
+#include <cstddef>
+#include <cstdint>
+#include <memory>
+#include <numeric>
+#include <vector>
+
+namespace cefrodil {
+
+namespace inside {
+
+class PartedWeights {
+  public:
+    // A power of two of parts, each with this bound, for so many entries.
+    void open(size_t count, uint64_t bound, uint64_t entries, bool has_small) {
+        for (size_t n = 0; n < count; n++) {
+            parts_.push_back(std::make_unique<Part>(bound, entries, has_small));
+        }
+    }
+    // Whether there are any.
+    explicit operator bool() const noexcept { return !parts_.empty(); }
+
+    // That of the key with this number. The multiplier is odd: numbers may be spread badly.
+    Weights &of(uint64_t index) noexcept { return parts_[index * 0x9e3779b97f4a7c15 >> 32 & (parts_.size() - 1)]->weights; }
+    Weights &first() noexcept { return parts_.front()->weights; }
+    uint64_t sum() const noexcept {
+        return std::accumulate(parts_.begin(), parts_.end(), uint64_t(0), [](uint64_t sum, const auto &part) { return sum + part->weights.sum(); });
+    }
+    uint64_t bound() const noexcept {
+        return std::accumulate(parts_.begin(), parts_.end(), uint64_t(0), [](uint64_t sum, const auto &part) { return sum + part->weights.bound(); });
+    }
+
+  private:
+    // Each has cache lines of its own.
+    struct alignas(128) Part {
+        Part(uint64_t bound, uint64_t entries, bool has_small) : weights(bound, entries, has_small) {}
+        Weights weights;
+    };
+    std::vector<std::unique_ptr<Part>> parts_{};
+};
+
+} // namespace inside
+
+} // namespace cefrodil
+
+#endif
