@@ -2,7 +2,7 @@
 """How many lookups find their key with a small table or queue for new keys, beside models of other policies.
 
 `Map` and `ObjectMap` of the crate `cefrodil-map`, `cefrodil::map` and the server make the same lookups, each without and with the small table or
-queue. An `ObjectMap` is bounded by weights. The server gets its commands without a connection. The models are of CLOCK, LRU, S3-FIFO, W-TinyLFU with
+queue. An `ObjectMap` is bounded by the number of its entries or by weights. The server gets its commands without a connection. The models are of CLOCK, LRU, S3-FIFO, W-TinyLFU with
 exact counts, and of the two tables. Of 100,000 keys, number n is drawn in proportion to 1 / n ** skew (Zipf). A key that is absent is put.
 
 - plain: nothing else.
@@ -35,7 +35,8 @@ SKEWS, SIZES = (0.7, 0.99), (KEYS // 100, KEYS // 10)
 
 # What each program calls its caches, and the table's heads.
 CACHES = {
-    'Rust': {'map': '`Map`', 'map+': '`Map`, small table', 'objects': '`ObjectMap`, one queue', 'objects+': '`ObjectMap`',
+    'Rust': {'map': '`Map`', 'map+': '`Map`, small table', 'number': '`ObjectMap`, `one_queue`', 'number+': '`ObjectMap`',
+             'objects': 'by weights, `one_queue`', 'objects+': 'by weights',
              'server': 'server, one queue', 'server+': 'server'},
     'C++': {'1': '`cefrodil::map`', '2': '`cefrodil::map`, small table'},
 }

@@ -72,7 +72,15 @@ impl<O: Held, S> ObjectInner<O, S> {
     /// The same for a lookup that is a use of it.
     #[inline]
     pub fn is_live_and_used(&self, object: &O) -> bool {
-        object.deadline() == NEVER || self.note_use(object)
+        match object.deadline() {
+            NEVER => true,
+            // Its uses are noted, and if not for this time, for a bound on weights.
+            FAR if self.idle.is_none() => {
+                object.set_used();
+                true
+            }
+            _ => self.note_use(object),
+        }
     }
 
     #[cold]
@@ -99,11 +107,11 @@ impl<O: Held, S> ObjectInner<O, S> {
         self.flights.detach(Print::of_hash(hash));
     }
 
-    /// An object has left the index, by a call that returned its word. The listener hears of it, and it is retired.
-    pub fn left(&self, word: u64, reason: Reason) {
+    /// An object has left the index, by a call that returned its word and its key's hash. The listener hears of it, and it is retired.
+    pub fn left(&self, hash: u64, word: u64, reason: Reason) {
         let left = Left { inner: self, word };
-        if let Some(weights) = &self.weights {
-            weights.give_back(left.object().weight());
+        if let Some(part) = self.part(hash) {
+            part.give_back(self.weight_of(left.object()));
         }
         if let Some(listener) = &self.listener {
             let object = left.object();
@@ -133,8 +141,7 @@ impl<K, V, S> ObjectInner<Object<K, V>, S> {
     pub fn object(&self, key: K, value: V, life: Option<Duration>) -> Box<Object<K, V>> {
         let idle = self.idle.map_or(NEVER, |idle| self.clock.deadline(idle));
         let mut object = Object::new(key, value, self.deadline(life), idle);
-        if let Some(weights) = &self.weights {
-            let weight = (weights.weigher)(&object);
+        if let Some(weight) = self.weights.as_ref().and_then(|weights| weights.weigh(&object)) {
             object.set_weight(weight);
         }
         object

@@ -59,6 +59,14 @@ pub(crate) unsafe trait Held: Sized {
 
     /// Notes the queue that gets its entry. None moves from the main queue to the small one.
     fn set_line(&self, _: Line) {}
+
+    /// In a map with a bound on the number of objects, the moment of the put whose entry in a queue stands for it. `None`: not noted so far.
+    fn entry(&self) -> Option<u64> {
+        None
+    }
+
+    /// Notes that, once.
+    fn set_entry(&self, _: u64) {}
 }
 
 /// What may have a key of this kind.
@@ -80,14 +88,15 @@ pub(crate) struct Object<K, V> {
     deadline: AtomicU64,
     // When it expires if it is not used. Relaxed: as above.
     idle: AtomicU64,
-    // Its weight, which stays, `USED` and `IN_MAIN`. Relaxed: they say nothing of other memory.
+    // Its weight, which stays, `USED` and `IN_MAIN`. Relaxed: they say nothing of other memory. If objects are counted, it has the moment of its entry in
+    // place of the weight, or 0 before that is noted.
     weight: AtomicU64,
     pub value: V,
 }
 
 const USED: u64 = 1 << 63;
 
-// Its entry is in the main queue. The weights of all objects are below it.
+// Its entry is in the main queue. The weights of all objects are below it, and so are all moments.
 const IN_MAIN: u64 = 1 << 62;
 
 impl<K, V> Object<K, V> {
@@ -159,6 +168,14 @@ unsafe impl<K, V> Held for Object<K, V> {
         if line == Line::Main {
             self.weight.fetch_or(IN_MAIN, Relaxed);
         }
+    }
+
+    fn entry(&self) -> Option<u64> {
+        Some(self.weight()).filter(|entry| *entry != 0)
+    }
+
+    fn set_entry(&self, moment: u64) {
+        self.weight.fetch_or(moment, Relaxed);
     }
 }
 

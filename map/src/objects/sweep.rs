@@ -64,7 +64,7 @@ impl<K, V, S> ObjectMap<K, V, S> {
             let taken = inner.slots.in_turn(inner.tries, || inner.slots.call(|handle| handle.try_take(hash)));
             if let Take::Taken { old, .. } = taken.map_err(ClearError::of_removal)? {
                 inner.slots.count(Kind::Removed);
-                inner.left(old.value[0], Reason::Removed);
+                inner.left(hash, old.value[0], Reason::Removed);
             }
         }
         Ok(())

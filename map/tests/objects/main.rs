@@ -2,6 +2,7 @@
 mod boards;
 mod bytes;
 mod collisions;
+mod counted;
 mod each;
 #[path = "../ends/mod.rs"]
 mod ends;
