@@ -2,6 +2,7 @@
 use super::one_shard;
 use super::turns::Turn;
 use crate::objects::{Held, Object};
+use crate::wait::IN_PAUSE;
 use crate::ObjectMap;
 use cefrodil::Handle;
 use std::sync::{Arc, Mutex, OnceLock};
@@ -103,4 +104,35 @@ fn each_part_has_about_as_many_keys() {
 fn what_evicts_by_itself_has_no_queues() {
     assert!(ObjectMap::<u64, u64>::builder(100).one_queue().open().unwrap().inner.weights.is_none());
     assert!(ObjectMap::<u64, u64>::builder(100).open().unwrap().inner.weights.is_some());
+}
+
+// While an object is to be evicted, its key is put again. Then its entry stays, since it stands for the newer object.
+#[test]
+fn an_entry_stays_whose_object_is_replaced_while_it_is_to_give_way() {
+    let map: Arc<OnceLock<Numbers>> = Arc::default();
+    let of = Arc::clone(&map);
+    let listener = move |key: &u64, _: &u64, _| {
+        if *key == 1 {
+            let (map, turn) = (of.get().unwrap().clone(), Turn::begin(&of.get().unwrap().inner.slots, Handle::try_entries));
+            IN_PAUSE.set(Some(Box::new(move || {
+                drop(turn);
+                map.insert(2, 12).unwrap();
+            })));
+        }
+    };
+    let map = map.get_or_init(|| ObjectMap::builder(3).shards(1).listener(listener).open().unwrap());
+    for key in 1..4 {
+        map.insert(key, key).unwrap();
+    }
+    // As if another thread were putting an object. So the next put evicts two.
+    let part = map.inner.part(map.hash_of(&1)).unwrap();
+    assert!(part.take(1));
+    map.insert(4, 4).unwrap();
+    part.give_back(1);
+    assert_eq!((map.peek(&1), map.peek(&2), map.peek(&3), map.len()), (Ok(None), Ok(Some(12)), Ok(None), 2));
+    for key in 5..20 {
+        map.insert(key, key).unwrap();
+        assert_eq!(map.get(&key), Some(key));
+    }
+    assert_eq!((map.peek(&2), map.len()), (Ok(None), 3));
 }
