@@ -29,6 +29,8 @@ pub enum Board<V, L, W> {
 pub struct Lead<'a, K: ?Sized, V: Copy, S = RandomState> {
     inner: &'a Inner<K, V, S>,
     print: Print,
+    // In which its load began.
+    era: u64,
     leader: Leader<'a, V>,
 }
 
@@ -91,7 +93,7 @@ impl<K: Key + ?Sized, V: Copy + Send + Sync + 'static, S: BuildHasher> Map<K, V,
     {
         let inner = &*self.inner;
         let (print, tries) = (inner.print(key), inner.tries.min(TASK_TRIES));
-        if let Some(value) = inner.get(print, tries, |told| told.unwrap_or(None)) {
+        if let Some(value) = inner.get(print.dated(inner.era.now()), tries, |told| told.unwrap_or(None)) {
             return Board::Found(value);
         }
         let leader = match inner.flights.board_task(print) {
@@ -99,10 +101,12 @@ impl<K: Key + ?Sized, V: Copy + Send + Sync + 'static, S: BuildHasher> Map<K, V,
             Boarding::Within => inner.flights.begin_alone(print),
             Boarding::Other(flight) => return Board::Wait(Wait(Passenger::new(flight))),
         };
+        // After the begin of the flight: an invalidation has detached it, or ended this era.
+        let era = inner.era.now();
         // An earlier flight may have ended since the lookup.
         match inner.find(print, tries) {
             Some(value) => Board::Found(value),
-            None => Board::Lead(Lead { inner, print, leader }),
+            None => Board::Lead(Lead { inner, print, era, leader }),
         }
     }
 }
@@ -115,8 +119,8 @@ impl<K: Key + ?Sized, V: Copy + Send + Sync + 'static, S: BuildHasher> Lead<'_, 
     /// put either if it finds no place, or if other threads have the turn of its shard at each of some tries: `refused` of [`stats`](Map::stats)
     /// counts that. Its time to live begins now.
     pub fn publish(self, value: V) -> V {
-        let Lead { inner, print, leader } = self;
-        leader.end(value, || inner.fill(print, value, inner.tries.min(TASK_TRIES)))
+        let Lead { inner, print, era, leader } = self;
+        leader.end(value, || inner.fill(print, era, value, inner.tries.min(TASK_TRIES)))
     }
 }
 

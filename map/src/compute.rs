@@ -41,7 +41,7 @@ impl<K: Key + ?Sized, V: Copy + Send + Sync + 'static, S: BuildHasher> Map<K, V,
     {
         let inner = &self.inner;
         let print = inner.print(key);
-        let mut found = inner.get(print, inner.looks(), |told| told.unwrap_or(None));
+        let mut found = inner.get(print.dated(inner.era.now()), inner.looks(), |told| told.unwrap_or(None));
         loop {
             if let Some(value) = found {
                 return Ok(value);
@@ -66,7 +66,7 @@ impl<K: Key + ?Sized, V: Copy + Send + Sync + 'static, S: BuildHasher> Map<K, V,
     {
         let inner = &self.inner;
         let print = inner.print(key);
-        if let Some(value) = inner.get(print, 1, |told| told)? {
+        if let Some(value) = inner.get(print.dated(inner.era.now()), 1, |told| told)? {
             return Ok(value);
         }
         match inner.flights.board(print) {
@@ -81,9 +81,9 @@ impl<K: Key + ?Sized, V: Copy + Send + Sync + 'static, S: BuildHasher> Map<K, V,
 }
 
 impl<K: Key + ?Sized, V: Copy, S: BuildHasher> Inner<K, V, S> {
-    /// A lookup that isn't counted.
+    /// A lookup that isn't counted, in the era of now.
     pub fn find(&self, print: Print, tries: u32) -> Option<V> {
-        match self.look(print, tries)? {
+        match self.look(print.dated(self.era.now()), tries)? {
             Found::Live(entry, _) => Some(entry.value),
             Found::Expired(_) | Found::Other(_) | Found::Absent => None,
         }
@@ -91,21 +91,24 @@ impl<K: Key + ?Sized, V: Copy, S: BuildHasher> Inner<K, V, S> {
 
     /// Makes the value as the leader of a flight.
     pub fn compute<E>(&self, print: Print, leader: &Leader<V>, tries: u32, make: impl FnOnce() -> Result<V, E>) -> Result<V, E> {
+        // After the begin of the flight: an invalidation has detached it, or ended this era.
+        let era = self.era.now();
         // An earlier flight may have ended since this thread looked the key up. What is found is not for those that wait: it may have been
         // removed before their calls began.
         if let Some(value) = self.find(print, tries.min(LOOKS)) {
             return Ok(value);
         }
         let value = make()?;
-        Ok(leader.end(value, || self.fill(print, value, tries)))
+        Ok(leader.end(value, || self.fill(print, era, value, tries)))
     }
 
-    /// Puts the value where the key has none. Returns the value that another thread has put meanwhile.
-    pub fn fill(&self, print: Print, value: V, tries: u32) -> Option<V> {
+    /// Puts the value where the key has none, unless the era that it was computed in has ended. Returns the value that another thread has put
+    /// meanwhile.
+    pub fn fill(&self, print: Print, era: u64, value: V, tries: u32) -> Option<V> {
         let mut other = None;
         let put = self.change(print, tries, None, |present| {
             other = present;
-            present.is_none().then_some(value)
+            (present.is_none() && self.era.now() == era).then_some(value)
         });
         if put.is_err() {
             self.slots.count(Kind::Refused);

@@ -6,6 +6,7 @@ mod builder;
 mod clear;
 mod clock;
 mod compute;
+mod era;
 mod error;
 mod flight;
 mod handle;

@@ -87,7 +87,7 @@ impl<K: Key + ?Sized, V: Copy + Send + Sync + 'static, S: BuildHasher> Map<K, V,
     where
         K: Borrow<Q>,
     {
-        self.inner.get(self.inner.printer.print(key), self.inner.looks(), |told| told.unwrap_or(None))
+        self.inner.get(self.inner.print_now(key), self.inner.looks(), |told| told.unwrap_or(None))
     }
 
     /// The key's value, by one lookup. `None`: the key is absent, expired or evicted.
@@ -99,7 +99,7 @@ impl<K: Key + ?Sized, V: Copy + Send + Sync + 'static, S: BuildHasher> Map<K, V,
     where
         K: Borrow<Q>,
     {
-        self.inner.get(self.inner.print(key), 1, |told| told)
+        self.inner.get(self.inner.print_now(key), 1, |told| told)
     }
 
     /// The values of these keys, in their order: each as by [`get`](Map::get), with fewer calls of the index.
@@ -115,7 +115,7 @@ impl<K: Key + ?Sized, V: Copy + Send + Sync + 'static, S: BuildHasher> Map<K, V,
     where
         K: Borrow<Q>,
     {
-        let prints: Vec<Print> = keys.into_iter().map(|key| self.inner.print(key)).collect();
+        let prints: Vec<Print> = keys.into_iter().map(|key| self.inner.print_now(key)).collect();
         let mut values = Vec::with_capacity(prints.len());
         prints.chunks(MANY).for_each(|prints| self.inner.get_many(prints, &mut values));
         values
@@ -131,7 +131,7 @@ impl<K: Key + ?Sized, V: Copy + Send + Sync + 'static, S: BuildHasher> Map<K, V,
     where
         K: Borrow<Q>,
     {
-        self.inner.peek(self.inner.print(key), self.inner.tries)
+        self.inner.peek(self.inner.print_now(key), self.inner.tries)
     }
 
     /// Whether the key has a value, which then counts as used lately.

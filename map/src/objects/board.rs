@@ -18,6 +18,8 @@ pub struct ObjectLead<'a, K, V, S = RandomState> {
     inner: &'a ObjectInner<Object<K, V>, S>,
     hash: u64,
     key: K,
+    // In which its load began.
+    era: u64,
     leader: Leader<'a, ()>,
 }
 
@@ -84,10 +86,12 @@ where
             Boarding::Within => inner.flights.begin_alone(print),
             Boarding::Other(flight) => return Board::Wait(ObjectWait(Passenger::new(flight))),
         };
+        // After the begin of the flight: an invalidation has detached it, or ended this era.
+        let era = inner.era.now();
         // An earlier flight may have ended since the lookup.
         match inner.find(hash, key, tries) {
             Some(value) => Board::Found(value),
-            None => Board::Lead(ObjectLead { inner, hash, key: key.to_owned(), leader }),
+            None => Board::Lead(ObjectLead { inner, hash, key: key.to_owned(), era, leader }),
         }
     }
 }
@@ -103,8 +107,8 @@ where
     /// If the key was written or removed since `try_board`, the map keeps that, and this value isn't put: it may be older. Nor is it if it
     /// finds no place, which `refused` of [`stats`](ObjectMap::stats) counts.
     pub fn publish(self, value: V) -> V {
-        let ObjectLead { inner, hash, key, leader } = self;
-        let object = inner.object(key, value.clone(), None);
+        let ObjectLead { inner, hash, key, era, leader } = self;
+        let object = inner.object(key, value.clone(), None, era);
         inner.fill(hash, object, &leader, inner.tries.min(TASK_TRIES)).unwrap_or(value)
     }
 }

@@ -6,6 +6,7 @@ use super::object::{Held, Object};
 use super::queues::Queues;
 use super::weights::{Weigher, Weights};
 use crate::clock::Clock;
+use crate::era::Era;
 use crate::error::OpenError;
 use crate::flight::Flights;
 use crate::settings::Settings;
@@ -31,7 +32,7 @@ pub enum Reason {
     Replaced,
     /// A call removed it.
     Removed,
-    /// It had expired before one of these happened.
+    /// It had expired before one of these happened, or [`invalidate_all`](ObjectMap::invalidate_all) had ended it.
     Expired,
 }
 
@@ -243,6 +244,7 @@ impl<O: Held, S> ObjectInner<O, S> {
             slots: Arc::new(Slots::new(handles)),
             epochs: Epochs::new(threads),
             flights: Flights::new(),
+            era: Era::new(),
             stripes: (0..STRIPES).map(|_| Stripe::default()).collect(),
             clock: Clock::new(),
             hasher,

@@ -125,12 +125,14 @@ impl<K: Eq, V: Clone, S> ObjectInner<Object<K, V>, S> {
         K: Borrow<Q>,
         Q: Eq + ToOwned<Owned = K> + ?Sized,
     {
+        // After the begin of the flight: an invalidation has detached it, or ended this era.
+        let era = self.era.now();
         // An earlier flight may have ended since this thread looked the key up.
         if let Some(value) = self.find(hash, key, tries.min(LOOKS)) {
             return Ok(value);
         }
         let value = make()?;
-        let object = self.object(key.to_owned(), value.clone(), None);
+        let object = self.object(key.to_owned(), value.clone(), None, era);
         Ok(self.fill(hash, object, leader, tries).unwrap_or(value))
     }
 

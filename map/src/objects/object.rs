@@ -31,6 +31,11 @@ pub(crate) unsafe trait Held: Sized {
     /// Moves its deadline.
     fn set_deadline(&self, deadline: u64);
 
+    /// The era that it was made in. By default it outlives all eras.
+    fn era(&self) -> u64 {
+        u64::MAX
+    }
+
     /// When it expires if it is not used.
     fn idle(&self) -> u64 {
         NEVER
@@ -91,6 +96,7 @@ pub(crate) struct Object<K, V> {
     // Its weight, which stays, `USED` and `IN_MAIN`. Relaxed: they say nothing of other memory. If objects are counted, it has the moment of its entry in
     // place of the weight, or 0 before that is noted.
     weight: AtomicU64,
+    era: u64,
     pub value: V,
 }
 
@@ -100,9 +106,9 @@ const USED: u64 = 1 << 63;
 const IN_MAIN: u64 = 1 << 62;
 
 impl<K, V> Object<K, V> {
-    pub fn new(key: K, value: V, deadline: u64, idle: u64) -> Box<Object<K, V>> {
+    pub fn new(key: K, value: V, era: u64, deadline: u64, idle: u64) -> Box<Object<K, V>> {
         let [deadline, idle, weight] = [deadline, idle, 0].map(AtomicU64::new);
-        Box::new(Object { key, deadline, idle, weight, value })
+        Box::new(Object { key, deadline, idle, weight, era, value })
     }
 
     /// Before it is put.
@@ -131,6 +137,11 @@ unsafe impl<K, V> Held for Object<K, V> {
 
     fn set_deadline(&self, deadline: u64) {
         self.deadline.store(deadline, Relaxed);
+    }
+
+    #[inline]
+    fn era(&self) -> u64 {
+        self.era
     }
 
     fn idle(&self) -> u64 {

@@ -6,6 +6,7 @@ mod disturbed;
 #[cfg(feature = "objects")]
 mod epochs;
 mod errors;
+mod eras;
 mod expiry;
 mod fills;
 mod flights;

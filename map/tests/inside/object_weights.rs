@@ -74,7 +74,7 @@ fn an_entry_stays_until_it_is_known_whether_it_stands_for_an_object() {
     map.insert(1, 10).unwrap();
     let hash = map.hash_of(&1);
     // As a put over the value does before it has noted anything.
-    let word = Object::into_word(map.inner.object(1, 11, None));
+    let word = Object::into_word(map.inner.object(1, 11, None, 0));
     let old = map.inner.slots.call(|handle| handle.try_swap(hash, &[word])).unwrap().old.unwrap();
     map.insert(2, 20).unwrap();
     map.insert(3, 30).unwrap();

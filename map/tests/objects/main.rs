@@ -6,6 +6,7 @@ mod counted;
 mod each;
 #[path = "../ends/mod.rs"]
 mod ends;
+mod eras;
 #[path = "../executor/mod.rs"]
 mod executor;
 mod fills;
