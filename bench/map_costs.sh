@@ -1,6 +1,6 @@
 #!/usr/bin/env bash
-# What a call of a map of values costs, in instructions counted by callgrind: values of 32 bytes in a map for 1,000 entries, with one table and with a
-# small one before it. Prints a table.
+# What a call of a map costs, in instructions counted by callgrind: values of 32 bytes in a map for 1,000 entries, with one table and with a small one
+# before it, or as objects without and with a queue for new keys. Prints a table.
 #
 # usage: [CEFRODIL_LIB=LIB] bench/map_costs.sh FOLDER     FOLDER: where the programs are built; LIB: the folder of libcefrodil.a; none: FOLDER
 #
@@ -37,5 +37,7 @@ echo '||hit|miss|miss, full|put over a value|the same, full|put of a new key, fu
 echo '|---|---|---|---|---|---|---|'
 row 'Rust, one table' rust 1
 row 'Rust, with a small table' rust 2
+row 'Rust, `ObjectMap`, `one_queue`' rust objects
+row 'Rust, `ObjectMap`' rust objects+
 row 'C++, one table' cpp 1
 row 'C++, with a small table' cpp 2
