@@ -60,18 +60,27 @@ pub enum Inserted {
     Evicted,
 }
 
-impl<K: Key + ?Sized, V: Copy + Send + Sync + 'static> Map<K, V> {
+// The bounds are those of the calls: so the compiler says of a type that is no key what to do.
+impl<K: ?Sized, V> Map<K, V> {
     /// Opens a map for at least this many entries, with the defaults of [`Builder`].
     ///
     /// # Errors
     ///
     /// [`OpenError`].
-    pub fn new(capacity: usize) -> Result<Map<K, V>, OpenError> {
+    pub fn new(capacity: usize) -> Result<Map<K, V>, OpenError>
+    where
+        K: Key,
+        V: Copy + Send + Sync + 'static,
+    {
         Builder::new(capacity).open()
     }
 
     /// Chooses how to open a map for at least this many entries.
-    pub fn builder(capacity: usize) -> Builder<K, V> {
+    pub fn builder(capacity: usize) -> Builder<K, V>
+    where
+        K: Key,
+        V: Copy + Send + Sync + 'static,
+    {
         Builder::new(capacity)
     }
 }
