@@ -5,11 +5,12 @@ use crate::flight::{Boarding, Leader};
 use crate::inner::{Found, Inner};
 use crate::map::Map;
 use crate::print::Print;
-use crate::stats::Kind;
+use crate::published::Published;
 use crate::wait::LOOKS;
 use std::borrow::Borrow;
 use std::convert::Infallible;
 use std::hash::BuildHasher;
+use std::time::Duration;
 
 impl<K: Key + ?Sized, V: Copy + Send + Sync + 'static, S: BuildHasher> Map<K, V, S> {
     /// The key's value, or else the value that `make` makes, which is put. Threads that want the same key meanwhile wait, and get the same
@@ -99,20 +100,20 @@ impl<K: Key + ?Sized, V: Copy, S: BuildHasher> Inner<K, V, S> {
             return Ok(value);
         }
         let value = make()?;
-        Ok(leader.end(value, || self.fill(print, era, value, tries)))
+        Ok(leader.end(value, || self.fill(print, era, value, None, tries)).value())
     }
 
-    /// Puts the value where the key has none, unless the era that it was computed in has ended. Returns the value that another thread has put
-    /// meanwhile.
-    pub fn fill(&self, print: Print, era: u64, value: V, tries: u32) -> Option<V> {
+    /// Puts the value where the key has none, unless the era that it was computed in has ended. `life`: a time to live of its own.
+    pub fn fill(&self, print: Print, era: u64, value: V, life: Option<Duration>, tries: u32) -> Published<V> {
         let mut other = None;
-        let put = self.change(print, tries, None, |present| {
+        let put = self.change(print, tries, life, |present| {
             other = present;
             (present.is_none() && self.era.now() == era).then_some(value)
         });
-        if put.is_err() {
-            self.slots.count(Kind::Refused);
+        match put {
+            Ok(Some(_)) => Published::Put(value),
+            Ok(None) => other.map_or(Published::Outdated(value), Published::Other),
+            Err(why) => Published::Refused { value, why: self.refused(why) },
         }
-        other
     }
 }

@@ -18,6 +18,7 @@ mod moves;
 #[cfg(feature = "objects")]
 mod objects;
 mod print;
+mod published;
 mod settings;
 mod sip;
 mod sketch;
@@ -44,4 +45,5 @@ pub use objects::{
     AbsentError, Block, Bytes, BytesBuilder, BytesMap, Head, IfError, Line, Look, ObjectBuilder, ObjectLead, ObjectMap,
     ObjectWait, Put, Queued, Queues, Reason, Refused,
 };
+pub use published::Published;
 pub use stats::Stats;

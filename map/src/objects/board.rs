@@ -3,8 +3,9 @@ use super::inner::ObjectInner;
 use super::map::ObjectMap;
 use super::object::Object;
 use crate::board::{Board, TASK_TRIES};
-use crate::flight::{Boarding, Leader, Passenger};
+use crate::flight::{Leader, Passenger};
 use crate::print::Print;
+use crate::published::Published;
 use std::borrow::Borrow;
 use std::collections::hash_map::RandomState;
 use std::fmt::{self, Debug, Formatter};
@@ -12,6 +13,7 @@ use std::future::Future;
 use std::hash::{BuildHasher, Hash};
 use std::pin::Pin;
 use std::task::{Context, Poll};
+use std::time::Duration;
 
 /// The right to load a key's value: see [`ObjectMap::try_board`]. If it is dropped, those that wait begin anew, and one of them gets it.
 pub struct ObjectLead<'a, K, V, S = RandomState> {
@@ -82,9 +84,8 @@ where
         }
         let print = Print::of_hash(hash);
         let leader = match inner.flights.board_task(print) {
-            Boarding::First(leader) => leader,
-            Boarding::Within => inner.flights.begin_alone(print),
-            Boarding::Other(flight) => return Board::Wait(ObjectWait(Passenger::new(flight))),
+            Ok(leader) => leader,
+            Err(passenger) => return Board::Wait(ObjectWait(passenger)),
         };
         // After the begin of the flight: an invalidation has detached it, or ended this era.
         let era = inner.era.now();
@@ -107,9 +108,23 @@ where
     /// If the key was written or removed since `try_board`, the map keeps that, and this value isn't put: it may be older. Nor is it if it
     /// finds no place, which `refused` of [`stats`](ObjectMap::stats) counts.
     pub fn publish(self, value: V) -> V {
+        self.end(value, None).value()
+    }
+
+    /// Like [`publish`](Self::publish), and says whether the value was put.
+    pub fn try_publish(self, value: V) -> Published<V> {
+        self.end(value, None)
+    }
+
+    /// Like [`try_publish`](Self::try_publish), with a time to live of its own, as [`insert_for`](ObjectMap::insert_for) says.
+    pub fn publish_for(self, value: V, life: Duration) -> Published<V> {
+        self.end(value, Some(life))
+    }
+
+    fn end(self, value: V, life: Option<Duration>) -> Published<V> {
         let ObjectLead { inner, hash, key, era, leader } = self;
-        let object = inner.object(key, value.clone(), None, era);
-        inner.fill(hash, object, &leader, inner.tries.min(TASK_TRIES)).unwrap_or(value)
+        let object = inner.object(key, value.clone(), life, era);
+        inner.fill(hash, object, value, &leader, inner.tries.min(TASK_TRIES))
     }
 }
 

@@ -71,8 +71,9 @@ impl<O: Held, S> ObjectInner<O, S> {
         self.is_of_this_era(object) && !self.clock.has_passed(object.deadline().min(object.idle()))
     }
 
+    /// Whether no call has invalidated the objects that were made when it was.
     #[inline]
-    fn is_of_this_era(&self, object: &O) -> bool {
+    pub fn is_of_this_era(&self, object: &O) -> bool {
         object.era() >= self.era.now()
     }
 

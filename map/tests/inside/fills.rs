@@ -1,5 +1,6 @@
 //! A computed value beside a write that begins or ends in the middle of the computation, and what those get that wait for it.
 use super::waiting::LONG;
+use crate::Published;
 use crate::clock::NEVER;
 use crate::flight::{Boarding, Leader};
 use crate::Map;
@@ -75,7 +76,7 @@ fn a_value_begun_before_an_update_puts_is_not_put() {
         5
     });
     let value = leader.unwrap().end(4, || unreachable!("a value that is too old is put"));
-    assert_eq!((updated, value, map.get(&KEY)), (Ok(5), 4, Some(5)));
+    assert_eq!((updated, value, map.get(&KEY)), (Ok(5), Published::Outdated(4), Some(5)));
 }
 
 #[test]
@@ -99,7 +100,7 @@ fn nobody_gets_the_value_before_it_is_put() {
     });
     leader.end(1, || {
         assert!(!flight.has_outcome());
-        None
+        Published::Put(1)
     });
     assert!(flight.has_outcome());
     assert_eq!(flight.wait(), Some(1));

@@ -16,6 +16,7 @@ mod ledger;
 mod listener;
 mod model;
 mod panics;
+mod published;
 mod queues;
 mod small_queue;
 mod stamps;
