@@ -1,8 +1,8 @@
 //! A value that a task loads where the map has none, while other tasks wait without blocking a thread.
-use crate::key::Key;
 use crate::error::InsertError;
 use crate::flight::{Leader, Passenger};
 use crate::inner::Inner;
+use crate::key::Key;
 use crate::map::Map;
 use crate::print::Print;
 use crate::published::Published;

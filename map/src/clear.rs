@@ -1,7 +1,7 @@
 //! The end of all entries: by one step, or by a removal of each.
-use crate::key::Key;
 use crate::error::ClearError;
 use crate::handle::AnyHandle;
+use crate::key::Key;
 use crate::map::Map;
 use crate::stats::Kind;
 use crate::tiers::SmallHandle;

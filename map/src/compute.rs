@@ -1,8 +1,8 @@
 //! A value that is computed where the map has none.
-use crate::key::Key;
 use crate::error::GetError;
 use crate::flight::{Boarding, Leader};
 use crate::inner::{Found, Inner};
+use crate::key::Key;
 use crate::map::Map;
 use crate::print::Print;
 use crate::published::Published;

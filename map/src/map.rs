@@ -1,8 +1,8 @@
 //! The map and its plain calls.
-use crate::key::Key;
 use crate::error::{GetError, InsertError, OpenError, RemoveError};
 use crate::handle::MANY;
 use crate::inner::Inner;
+use crate::key::Key;
 use crate::print::Print;
 use crate::stats::Stats;
 use crate::Builder;

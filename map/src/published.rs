@@ -24,7 +24,9 @@ impl<V> Published<V> {
     /// The value that was loaded, or the one that the key has by now.
     pub fn value(self) -> V {
         match self {
-            Published::Put(value) | Published::Other(value) | Published::Outdated(value) | Published::Refused { value, .. } => value,
+            Published::Put(value) | Published::Other(value) | Published::Outdated(value) | Published::Refused { value, .. } => {
+                value
+            }
         }
     }
 }

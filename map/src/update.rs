@@ -1,7 +1,7 @@
 //! Puts that depend on the value that is there.
-use crate::key::Key;
 use crate::error::{InsertError, UpdateError};
 use crate::inner::{Found, Inner};
+use crate::key::Key;
 use crate::map::Map;
 use crate::print::Print;
 use crate::stats::Kind;

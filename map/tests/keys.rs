@@ -214,7 +214,8 @@ fn print<K: Key + ?Sized>(key: &K) -> Vec<u8> {
 fn keys_write_what_they_are_borrowed_as() {
     assert_eq!(print(&String::from("one")), print("one"));
     assert_eq!((print(&vec![1, 2]), print(&[1, 2])), (print(&[1, 2][..]), print(&[1, 2][..])));
-    let pointers = [print(&Box::new(7)), print(&Rc::new(7)), print(&Arc::new(7)), print(&Cow::Borrowed(&7)), print(&&7), print(&&mut 7)];
+    let pointers =
+        [print(&Box::new(7)), print(&Rc::new(7)), print(&Arc::new(7)), print(&Cow::Borrowed(&7)), print(&&7), print(&&mut 7)];
     assert!(pointers.iter().all(|written| *written == print(&7)));
     assert_eq!(print::<Box<[u8]>>(&Box::from([1, 2])), print(&[1_u8, 2][..]));
 }

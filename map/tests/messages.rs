@@ -33,7 +33,8 @@ fn said_of(program: &str) -> String {
 
 #[test]
 fn a_type_that_is_no_key_says_how_to_make_it_one() {
-    let program = |key| format!("pub struct Name(pub String);\npub fn opens() {{ let _ = cefrodil_map::Map::<{key}, u64>::new(100); }}\n");
+    let program =
+        |key| format!("pub struct Name(pub String);\npub fn opens() {{ let _ = cefrodil_map::Map::<{key}, u64>::new(100); }}\n");
     assert_eq!(said_of(&program("String")), "");
     let said = said_of(&program("Name"));
     for text in ["error[E0277]: `Name` is no key of a `Map`", "cefrodil_map::key!", "cefrodil_map::Hashed<Name>", "`ObjectMap`"] {

@@ -99,7 +99,8 @@ impl<K, V> ObjectBuilder<K, V> {
 }
 
 impl<K, V, S> ObjectBuilder<K, V, S> {
-    /// As [`Builder::shards`](crate::Builder::shards).
+    /// As [`Builder::shards`](crate::Builder::shards). Without [`max_weight`](Self::max_weight) and [`one_queue`](Self::one_queue) the map holds as many
+    /// entries as were asked for, or a few more so that each part has as many as the others: there is one for each shard.
     pub fn shards(mut self, shards: u32) -> Self {
         self.settings.shards = Some(shards);
         self

@@ -264,7 +264,7 @@ impl<O: Held, S> ObjectInner<O, S> {
         let Reply::Found { value: [word], since, .. } = *reply else { return None };
         let object = pinned.object(word);
         let is_so =
-            if self.counts_objects() { object.entry().map_or(true, |entry| entry == place.since) } else { since == place.since };
+            if self.counts_objects() { object.entry().is_none_or(|entry| entry == place.since) } else { since == place.since };
         is_so.then_some((object, since))
     }
 }

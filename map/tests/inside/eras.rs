@@ -1,9 +1,9 @@
 //! Invalidations that come between the steps of a call.
 use super::one_shard;
 use super::turns::{before_calls, calls};
-use crate::{Board, Map};
 #[cfg(feature = "objects")]
 use crate::ObjectMap;
+use crate::{Board, Map};
 
 type Numbers = Map<u64, u64>;
 

@@ -1,9 +1,9 @@
 //! A computed value beside a write that begins or ends in the middle of the computation, and what those get that wait for it.
 use super::waiting::LONG;
-use crate::Published;
 use crate::clock::NEVER;
 use crate::flight::{Boarding, Leader};
 use crate::Map;
+use crate::Published;
 use std::sync::mpsc::{channel, Receiver};
 use std::thread;
 use std::time::Instant;

@@ -5,8 +5,8 @@ mod detaching;
 mod disturbed;
 #[cfg(feature = "objects")]
 mod epochs;
-mod errors;
 mod eras;
+mod errors;
 mod expiry;
 mod fills;
 mod flights;

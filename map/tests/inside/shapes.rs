@@ -16,8 +16,7 @@ fn many_shards_have_few_stripes_each() {
 // One for each 64 entries, a power of two, and 16 at most.
 #[test]
 fn there_are_so_many_shards_by_default() {
-    let expected =
-        [(1, 1), (127, 1), (128, 2), (255, 2), (256, 4), (511, 4), (512, 8), (1_023, 8), (1_024, 16), (3_000_000, 16)];
+    let expected = [(1, 1), (127, 1), (128, 2), (255, 2), (256, 4), (511, 4), (512, 8), (1_023, 8), (1_024, 16), (3_000_000, 16)];
     for (capacity, shards) in expected {
         assert_eq!(Settings::new(capacity).shape().unwrap().1, shards, "of {capacity}");
     }
