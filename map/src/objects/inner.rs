@@ -119,7 +119,10 @@ impl<O: Held, S> ObjectInner<O, S> {
     pub fn left(&self, hash: u64, word: u64, reason: Reason) {
         let left = Left { inner: self, word };
         if let Some(part) = self.part(hash) {
-            part.give_back(self.weight_of(left.object()));
+            part.give_back(left.object().weight());
+            if reason != Reason::Replaced {
+                part.uncount();
+            }
         }
         if let Some(listener) = &self.listener {
             let object = left.object();

@@ -70,8 +70,8 @@ pub(crate) unsafe trait Held: Sized {
         None
     }
 
-    /// Notes that, once.
-    fn set_entry(&self, _: u64) {}
+    /// Notes that, once, and the queue of the entry, and whether it is used. A use that another thread notes meanwhile may be lost.
+    fn set_entry(&self, _: u64, _: Line, _is_used: bool) {}
 }
 
 /// What may have a key of this kind.
@@ -185,8 +185,10 @@ unsafe impl<K, V> Held for Object<K, V> {
         Some(self.weight()).filter(|entry| *entry != 0)
     }
 
-    fn set_entry(&self, moment: u64) {
-        self.weight.fetch_or(moment, Relaxed);
+    fn set_entry(&self, moment: u64, line: Line, is_used: bool) {
+        let line = if line == Line::Main { IN_MAIN } else { 0 };
+        let used = if is_used { USED } else { 0 };
+        self.weight.store(moment | line | used, Relaxed);
     }
 }
 

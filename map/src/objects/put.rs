@@ -260,7 +260,7 @@ impl<O: Held, S> ObjectInner<O, S> {
 
     // `put` puts the word, as the last that it does with it, unless it fails.
     fn offer(&self, hash: u64, object: O::Owner, put: impl FnOnce(u64) -> Result<Done, Fail>) -> Offered<O> {
-        let (weight, part) = (self.weight_of(&object), self.part(hash));
+        let (weight, part) = (object.weight(), self.part(hash));
         if part.is_some_and(|part| !part.take(weight)) {
             return Err((object, Fail::Insert(InsertError::TooHeavy)));
         }

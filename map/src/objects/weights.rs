@@ -7,7 +7,7 @@ use super::put::Done;
 use super::queues::{Line, Queued, Queues};
 use cefrodil::{PutIfError, Reply, TurnError};
 use std::mem;
-use std::sync::atomic::{AtomicU64, AtomicUsize, Ordering::Relaxed};
+use std::sync::atomic::{AtomicIsize, AtomicU64, Ordering::Relaxed};
 
 /// A put looks at so many entries if the queues are too long.
 const TIDIED: usize = 8;
@@ -30,9 +30,10 @@ pub(crate) struct Weights<O> {
 #[repr(align(128))]
 pub(crate) struct Part {
     most: u64,
-    // Of the objects in the map, and of those that are about to be put; and how many they are.
-    sum: AtomicU64,
-    objects: AtomicUsize,
+    // Of the objects in the map, and of those that are about to be put. `None`: each weighs 1.
+    sum: Option<AtomicU64>,
+    // How many objects there are. For a moment one may have left before it is counted.
+    objects: AtomicIsize,
     queues: Queues<Place>,
 }
 
@@ -66,13 +67,15 @@ enum Fate {
 impl<O> Weights<O> {
     /// For objects that weigh so much together at most.
     pub fn weighed(most: u64, weigher: Weigher<O>, queues: Queues<Place>) -> Weights<O> {
-        Weights { weigher: Some(weigher), parts: [Part::new(most, queues)].into() }
+        let sum = Some(AtomicU64::new(0));
+        Weights { weigher: Some(weigher), parts: [Part { most, sum, objects: AtomicIsize::new(0), queues }].into() }
     }
 
     /// For so many objects at most, or as many more as make all parts alike.
     pub fn counted(most: usize, parts: u32) -> Weights<O> {
         let each = most.div_ceil(parts as usize);
-        Weights { weigher: None, parts: (0..parts).map(|_| Part::new(each as u64, Queues::new(each))).collect() }
+        let part = |_| Part { most: each as u64, sum: None, objects: AtomicIsize::new(0), queues: Queues::new(each) };
+        Weights { weigher: None, parts: (0..parts).map(part).collect() }
     }
 
     /// In a forked child: leaves the queues as they are. A thread of the parent may have stopped while it changed one.
@@ -87,7 +90,7 @@ impl<O> Weights<O> {
 
     /// What all objects weigh by the weigher; 0 without one.
     pub fn sum(&self) -> u64 {
-        self.weigher.as_ref().map_or(0, |_| self.parts.iter().map(Part::sum).sum())
+        self.parts.iter().filter_map(|part| part.sum.as_ref()).map(|sum| sum.load(Relaxed)).sum()
     }
 
     /// How many objects there may be, if only their number is bounded.
@@ -109,41 +112,46 @@ impl<O> Weights<O> {
 }
 
 impl Part {
-    fn new(most: u64, queues: Queues<Place>) -> Part {
-        Part { most, sum: AtomicU64::new(0), objects: AtomicUsize::new(0), queues }
-    }
-
-    fn sum(&self) -> u64 {
-        self.sum.load(Relaxed)
-    }
-
-    /// Counts an object that is about to be put. `false`: it is heavier than all together may be.
+    /// Counts the weight of an object that is about to be put. `false`: it is heavier than all together may be.
     pub fn take(&self, weight: u64) -> bool {
+        let Some(sum) = &self.sum else { return true };
         let fits = weight <= self.most;
         if fits {
-            self.sum.fetch_add(weight, Relaxed);
-            self.objects.fetch_add(1, Relaxed);
+            sum.fetch_add(weight, Relaxed);
         }
         fits
     }
 
-    /// An object has left the map, or was not put.
+    /// An object of this weight has left the map, or was not put.
     pub fn give_back(&self, weight: u64) {
-        self.sum.fetch_sub(weight, Relaxed);
+        if let Some(sum) = &self.sum {
+            sum.fetch_sub(weight, Relaxed);
+        }
+    }
+
+    /// An object was put, and has replaced none.
+    pub fn count(&self) {
+        self.objects.fetch_add(1, Relaxed);
+    }
+
+    /// An object has left the map, and none has replaced it.
+    pub fn uncount(&self) {
         self.objects.fetch_sub(1, Relaxed);
+    }
+
+    // How many objects there are.
+    fn objects(&self) -> usize {
+        self.objects.load(Relaxed).max(0) as usize
+    }
+
+    // Whether an object must give way.
+    fn is_over(&self) -> bool {
+        let sum = self.sum.as_ref().map_or_else(|| self.objects() as u64, |sum| sum.load(Relaxed));
+        sum > self.most
     }
 }
 
 impl<O: Held, S> ObjectInner<O, S> {
-    /// What an object weighs.
-    pub fn weight_of(&self, object: &O) -> u64 {
-        if self.counts_objects() {
-            1
-        } else {
-            object.weight()
-        }
-    }
-
     // Whether the number of objects is bounded, and not their weight.
     fn counts_objects(&self) -> bool {
         self.weights.as_ref().is_some_and(|weights| weights.weigher.is_none())
@@ -155,17 +163,21 @@ impl<O: Held, S> ObjectInner<O, S> {
         let (Some(part), Some(pinned)) = (self.part(hash), pinned) else { return done };
         let (object, old) = (pinned.object(word), done.replaced(&pinned));
         let line = old.map_or_else(|| part.queues.line_of_new(hash), O::line);
-        object.set_line(line);
+        if old.is_none() {
+            part.count();
+        }
+        let (entry, mut weight) = (Place { hash, since: done.put.at }, 1);
         if self.counts_objects() {
-            let entry = old.and_then(O::entry);
-            object.set_entry(entry.unwrap_or(done.put.at));
-            if entry.is_some() {
-                object.set_used();
+            let older = old.and_then(O::entry);
+            object.set_entry(older.unwrap_or(entry.since), line, older.is_some());
+            if older.is_some() {
                 return done;
             }
+        } else {
+            object.set_line(line);
+            weight = object.weight();
         }
-        let entry = Place { hash, since: done.put.at };
-        done.queued = Some(Queued { entry, line, weight: self.weight_of(object) });
+        done.queued = Some(Queued { entry, line, weight });
         done
     }
 
@@ -173,10 +185,11 @@ impl<O: Held, S> ObjectInner<O, S> {
     /// the end.
     #[inline(never)]
     pub fn enqueue(&self, queued: Queued<Place>) {
-        let Some(Part { objects, queues, .. }) = self.part(queued.entry.hash) else { return };
+        let Some(part) = self.part(queued.entry.hash) else { return };
+        let queues = &part.queues;
         queues.push(queued);
         for _ in 0..TIDIED {
-            let Some(first) = queues.pop_if_long(objects.load(Relaxed)) else { return };
+            let Some(first) = queues.pop_if_long(part.objects()) else { return };
             let pinned = self.pin();
             let peeked = self.slots.call(|handle| handle.try_peek(first.entry.hash));
             if peeked.map_or(true, |reply| self.stands_for(&pinned, &reply, first.entry).is_some()) {
@@ -192,7 +205,7 @@ impl<O: Held, S> ObjectInner<O, S> {
     pub fn evict_to_bound(&self, just_put: Place) -> bool {
         let (mut stayed, mut from, mut has_evicted) = (0, None, false);
         let Some(part) = self.part(just_put.hash) else { return false };
-        while part.sum() > part.most {
+        while part.is_over() {
             let popped = from.map_or_else(|| part.queues.pop(part.most), |line| part.queues.pop_from(line));
             let Some(queued) = popped else { break };
             let may_stay = stayed < SPARED;

@@ -3,7 +3,7 @@ use super::one_shard;
 use super::turns::Turn;
 use crate::objects::{Held, Object};
 use crate::wait::IN_PAUSE;
-use crate::ObjectMap;
+use crate::{Line, ObjectMap};
 use cefrodil::Handle;
 use std::sync::{Arc, Mutex, OnceLock};
 
@@ -79,7 +79,7 @@ fn an_entry_stays_until_it_is_known_whether_it_stands_for_an_object() {
     map.insert(2, 20).unwrap();
     map.insert(3, 30).unwrap();
     assert_eq!((map.peek(&1), map.peek(&2), map.peek(&3)), (Ok(Some(11)), Ok(None), Ok(Some(30))));
-    map.inner.pin().object(word).set_entry(old.since);
+    map.inner.pin().object(word).set_entry(old.since, Line::Main, false);
     for key in 4..8 {
         map.insert(key, key).unwrap();
         assert_eq!(map.get(&key), Some(key));
@@ -126,9 +126,9 @@ fn an_entry_stays_whose_object_is_replaced_while_it_is_to_give_way() {
     }
     // As if another thread were putting an object. So the next put evicts two.
     let part = map.inner.part(map.hash_of(&1)).unwrap();
-    assert!(part.take(1));
+    part.count();
     map.insert(4, 4).unwrap();
-    part.give_back(1);
+    part.uncount();
     assert_eq!((map.peek(&1), map.peek(&2), map.peek(&3), map.len()), (Ok(None), Ok(Some(12)), Ok(None), 2));
     for key in 5..20 {
         map.insert(key, key).unwrap();
