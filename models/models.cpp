@@ -11,6 +11,7 @@
 #include "rust_flights.hpp"
 #include "rust_slots.hpp"
 #include "rust_tiers.hpp"
+#include "rust_weights.hpp"
 #include <cstdio>
 #include <cstdlib>
 #include <string>
@@ -57,5 +58,6 @@ int main(int argc, char **argv) {
     explore<RustEpochs>("Rust epochs", schedules);
     explore<RustTiers>("Rust tiers", schedules);
     explore<RustEras>("Rust eras", schedules);
+    explore<RustWeights>("Rust weights", schedules);
     return faults == 0 ? 0 : 1;
 }
