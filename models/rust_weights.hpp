@@ -70,7 +70,7 @@ struct RustWeights : rl::test_suite<RustWeights, 3> {
         }
         const int noted = entries[object].load(relaxed);
         if (noted == none && !explored::without("entry of an object that has noted none")) {
-            push(entry);                                                   //| let is_used = object.take_used() || is_being_put;
+            push(entry);                                                   //| let is_used = object.take_used() && self.is_live(object) || is_being_put;
         } else if (noted == entry && !index.compare_exchange(object, none, both)) { //| if self.counts_objects() { object.entry().is_none_or(|entry| entry == place.since) } else { since == place.since };
             const bool is_there = index.load(acquires) != none;
             if (is_there && !explored::without("entry of an object that was replaced")) {

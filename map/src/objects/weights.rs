@@ -256,7 +256,7 @@ impl<O: Held, S> ObjectInner<O, S> {
         }
     }
 
-    // What this entry stands for. A used object goes to the main queue. `None`: each lookup was busy.
+    // What this entry stands for. A used object goes to the main queue, unless it has expired. `None`: each lookup was busy.
     fn holder(&self, place: Place) -> Option<Holder> {
         let pinned = self.pin();
         let reply = self.slots.within(self.looks(), || match self.slots.call(|handle| handle.get_or_turn(place.hash)) {
@@ -265,7 +265,7 @@ impl<O: Held, S> ObjectInner<O, S> {
         })?;
         let Some((object, since)) = self.stands_for(&pinned, &reply, place) else { return Some(Holder::Nothing) };
         let is_being_put = self.counts_objects() && object.entry().is_none();
-        let is_used = object.take_used() || is_being_put;
+        let is_used = object.take_used() && self.is_live(object) || is_being_put;
         if is_used {
             object.set_line(Line::Main);
         }

@@ -66,6 +66,18 @@ fn each_call_takes_an_older_object_for_an_absent_one() {
     }
 }
 
+// Also if they were used.
+#[test]
+fn older_objects_give_way_first() {
+    let builder = || Numbers::builder(KEYS as usize).shards(1);
+    for map in [builder().open().unwrap(), builder().max_weight(KEYS, |_, _| 1).open().unwrap()] {
+        (0..KEYS / 2).for_each(|key| assert!(map.insert(key, key).is_ok() && map.contains_key(&key)));
+        map.invalidate_all();
+        (KEYS / 2..KEYS + 5).for_each(|key| assert!(map.insert(key, key).is_ok()));
+        assert!((KEYS / 2..KEYS + 5).all(|key| map.peek(&key) == Ok(Some(key))));
+    }
+}
+
 #[test]
 fn the_listener_hears_that_it_had_ended() {
     let heard: Arc<Mutex<Vec<(u64, Reason)>>> = Arc::default();
