@@ -8,9 +8,11 @@
 #include "cxx_tiers.hpp"
 #include "cxx_weights.hpp"
 #include "rust_epochs.hpp"
+#include "rust_eras.hpp"
 #include "rust_flights.hpp"
 #include "rust_slots.hpp"
 #include "rust_tiers.hpp"
+#include "rust_weights.hpp"
 #include <cstdio>
 #include <cstdlib>
 #include <string>
@@ -57,5 +59,7 @@ int main(int argc, char **argv) {
     explore<RustSlots>("Rust slots", schedules);
     explore<RustEpochs>("Rust epochs", schedules);
     explore<RustTiers>("Rust tiers", schedules);
+    explore<RustEras>("Rust eras", schedules);
+    explore<RustWeights>("Rust weights", schedules);
     return faults == 0 ? 0 : 1;
 }

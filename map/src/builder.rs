@@ -1,5 +1,6 @@
 //! How a map is opened.
 use crate::clock::Clock;
+use crate::era::Era;
 use crate::error::OpenError;
 use crate::flight::Flights;
 use crate::handle::AnyHandle;
@@ -167,6 +168,7 @@ impl<K: ?Sized, V: Copy + Send + Sync + 'static, S: BuildHasher> Builder<K, V, S
             slots,
             tiers,
             flights: Flights::new(),
+            era: Era::new(),
             clock: Clock::new(),
             printer: if once { Printer::once(hasher) } else { Printer::twice(hasher) },
             layout,

@@ -5,6 +5,7 @@ mod detaching;
 mod disturbed;
 #[cfg(feature = "objects")]
 mod epochs;
+mod eras;
 mod errors;
 mod expiry;
 mod fills;

@@ -2,9 +2,11 @@
 mod boards;
 mod bytes;
 mod collisions;
+mod counted;
 mod each;
 #[path = "../ends/mod.rs"]
 mod ends;
+mod eras;
 #[path = "../executor/mod.rs"]
 mod executor;
 mod fills;
@@ -14,6 +16,7 @@ mod ledger;
 mod listener;
 mod model;
 mod panics;
+mod published;
 mod queues;
 mod small_queue;
 mod stamps;
