@@ -18,8 +18,8 @@ const SPARED: u32 = 1024;
 /// What an object weighs.
 pub(crate) type Weigher<O> = Box<dyn Fn(&O) -> u64 + Send + Sync>;
 
-/// What objects may weigh together. Without a weigher each weighs 1, and each of some parts has a bound of its own: so puts share no lock. Then the entry
-/// of an object stands for those, too, that replace it: so such a put takes no lock.
+/// What objects may weigh together. Without a weigher each weighs 1, and each of some parts has a bound of its own: so puts of most keys share no lock.
+/// Then the entry of an object stands for those, too, that replace it: such a put takes no lock.
 pub(crate) struct Weights<O> {
     weigher: Option<Weigher<O>>,
     // By the hash of the key. A power of two.

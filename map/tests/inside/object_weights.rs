@@ -3,7 +3,7 @@ use super::one_shard;
 use super::turns::Turn;
 use crate::objects::{Held, Object};
 use crate::wait::IN_PAUSE;
-use crate::{Line, ObjectMap};
+use crate::{BytesMap, Head, Line, ObjectMap};
 use cefrodil::Handle;
 use std::sync::{Arc, Mutex, OnceLock};
 
@@ -100,8 +100,22 @@ fn each_part_has_about_as_many_keys() {
     }
 }
 
+/// A head of blocks that have nothing else.
+struct Empty(#[allow(dead_code)] u8);
+
+// SAFETY: it has one byte, and its lengths are always the same.
+unsafe impl Head for Empty {
+    const SIZE: usize = 1;
+
+    fn lengths(&self) -> (usize, usize) {
+        (0, 0)
+    }
+}
+
+// A program with a `BytesMap` evicts by itself.
 #[test]
-fn what_evicts_by_itself_has_no_queues() {
+fn only_maps_of_objects_have_queues() {
+    assert!(BytesMap::<Empty>::builder(100).open().unwrap().inner.weights.is_none());
     assert!(ObjectMap::<u64, u64>::builder(100).one_queue().open().unwrap().inner.weights.is_none());
     assert!(ObjectMap::<u64, u64>::builder(100).open().unwrap().inner.weights.is_some());
 }
