@@ -4,6 +4,7 @@
 #include "cxx_epochs.hpp"
 #include "cxx_flights.hpp"
 #include "cxx_generations.hpp"
+#include "cxx_object_generations.hpp"
 #include "cxx_passes.hpp"
 #include "cxx_tiers.hpp"
 #include "cxx_weights.hpp"
@@ -52,6 +53,7 @@ int main(int argc, char **argv) {
     explore<CxxEpochs>("C++ epochs", schedules);
     explore<CxxFlights>("C++ flights", schedules);
     explore<CxxGenerations>("C++ generations", schedules);
+    explore<CxxObjectGenerations>("C++ generations of objects", schedules);
     explore<CxxPasses>("C++ passes", schedules);
     explore<CxxTiers>("C++ tiers", schedules);
     explore<CxxWeights>("C++ weights", schedules);

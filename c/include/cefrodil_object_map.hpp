@@ -132,7 +132,11 @@ template <class K, class V, class Hash = SipHash<K>, class Equal = std::equal_to
         return seen.status;
     }
     // A copy of the key's value, if it is there.
-    [[nodiscard]] std::optional<V> find(Key key) const { return get(key).value; }
+    [[nodiscard]] std::optional<V> find(Key key) const {
+        std::optional<V> found;
+        static_cast<void>(look(key, [&](const V &value) { found.emplace(value); }));
+        return found;
+    }
     // The same, with the status of `look`.
     [[nodiscard]] Found<V> get(Key key) const {
         Found<V> found{Status::closed, std::nullopt};

@@ -85,6 +85,25 @@ static void statuses() {
     MUST(map.free_unused() == 3 && living == 1);
 }
 
+// A find and a get copy the value once, and move it not at all.
+static void copies_once() {
+    struct Copied {
+        int copies = 0, moves = 0;
+        Copied() = default;
+        Copied(const Copied &other) : copies(other.copies + 1), moves(other.moves) {}
+        Copied(Copied &&other) noexcept : copies(other.copies), moves(other.moves + 1) {}
+        Copied &operator=(Copied &&) = default;
+    };
+    object_map<int, Copied> map;
+    const Copied first;
+    MUST(map.open({100}) == Status::ok && map.insert(1, first).status == Status::ok);
+    const std::optional<Copied> found = map.find(1);
+    const cefrodil::Found<Copied> got = map.get(1), peeked = map.peek(1);
+    for (const std::optional<Copied> *each : {&found, &got.value, &peeked.value}) {
+        MUST(*each && (*each)->copies == 2 && (*each)->moves == 0);
+    }
+}
+
 // Looks that copy, that are no use of a value, and that say why there is none.
 static void looks() {
     object_map<uint64_t, std::string> closed, map;
@@ -402,6 +421,7 @@ int main(int argc, char **argv) {
     const long less = argc > 1 ? std::atol(argv[1]) : 1;
     any_types();
     statuses();
+    copies_once();
     looks();
     declined_and_removed();
     keys_that_meet();

@@ -1,0 +1,76 @@
+// The generations of objects of c/include/cefrodil_objects.hpp, with the header's own count of generations.
+//
+// A thread puts a key, invalidates all, and puts the key again. Another one puts the key meanwhile, and a third one inserts it. Once all is
+// invalidated, the first object is not found. At the end one of the others is found. The index is the number of an object, and each object has the
+// generation in which its call began.
+#ifndef CXX_OBJECT_GENERATIONS_HPP
+#define CXX_OBJECT_GENERATIONS_HPP
+
+#include "cefrodil_generations.hpp"
+#include "explored.hpp"
+
+struct CxxObjectGenerations : rl::test_suite<CxxObjectGenerations, 3> {
+    static constexpr unsigned interruptions = 2;
+    static constexpr std::array<std::string_view, 3> steps{"second look at the generation", "generation of an object", "newer generations are found"};
+
+    struct Parts {
+        template <class T> struct Atomic : explored::Atomic<T> {
+            using explored::Atomic<T>::Atomic;
+        };
+    };
+
+    enum { none, first, again, other, inserted };
+
+    // The number of an object, or 0; and what each has.
+    explored::Atomic<uint64_t> entry{none};
+    std::array<explored::Atomic<uint64_t>, 5> heads{{explored::Atomic<uint64_t>(0), explored::Atomic<uint64_t>(0), explored::Atomic<uint64_t>(0),
+                                                     explored::Atomic<uint64_t>(0), explored::Atomic<uint64_t>(0)}};
+    cefrodil::inside::GenerationOf<Parts> generation{};
+
+    bool is_there(uint64_t object, uint64_t now) const {
+        const uint64_t own = object == none ? 0 : heads[object].load(std::memory_order_acquire);
+        const bool is_live = explored::without("newer generations are found") ? own == now : own >= now;
+        return object != none && (is_live || explored::without("generation of an object"));
+    }
+    uint64_t find() const {
+        const uint64_t now = generation.now(), object = entry.load(std::memory_order_acquire);
+        return is_there(object, now) ? object : uint64_t(none);
+    }
+    // As in cefrodil_objects.hpp.
+    void put(uint64_t object) {
+        const uint64_t begun = generation.now();
+        heads[object].store(begun, std::memory_order_release);
+        entry.exchange(object, std::memory_order_acq_rel);
+        const uint64_t now = explored::without("second look at the generation") ? begun : generation.now();
+        if (now != begun) {
+            heads[object].store(now, std::memory_order_release);
+        }
+    }
+    // As in cefrodil_keyed_objects.hpp.
+    void insert(uint64_t object) {
+        const uint64_t begun = generation.now();
+        heads[object].store(begun, std::memory_order_release);
+        for (;;) {
+            const uint64_t there = entry.load(std::memory_order_acquire);
+            if (is_there(there, begun) || entry.compare_exchange(there, object, std::memory_order_acq_rel)) {
+                return;
+            }
+        }
+    }
+
+    void thread(unsigned index) {
+        if (index == 0) {
+            put(first);
+            generation.begin_next();
+            RL_ASSERT(find() != first);
+            put(again);
+        } else if (index == 1) {
+            put(other);
+        } else {
+            insert(inserted);
+        }
+    }
+    void after() { RL_ASSERT(find() != none && find() != first); }
+};
+
+#endif
