@@ -9,7 +9,7 @@
 #include "cxx_tiers.hpp"
 #include "cxx_weights.hpp"
 #include "rust_epochs.hpp"
-#include "rust_eras.hpp"
+#include "rust_generations.hpp"
 #include "rust_flights.hpp"
 #include "rust_slots.hpp"
 #include "rust_tiers.hpp"
@@ -61,7 +61,7 @@ int main(int argc, char **argv) {
     explore<RustSlots>("Rust slots", schedules);
     explore<RustEpochs>("Rust epochs", schedules);
     explore<RustTiers>("Rust tiers", schedules);
-    explore<RustEras>("Rust eras", schedules);
+    explore<RustGenerations>("Rust generations", schedules);
     explore<RustWeights>("Rust weights", schedules);
     return faults == 0 ? 0 : 1;
 }

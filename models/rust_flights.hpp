@@ -123,7 +123,7 @@ struct RustFlights : rl::test_suite<RustFlights, 3> {
             return value;
         }
         const int made = store.load(std::memory_order_acquire); //| let value = make()?;
-        return end(own, made, [&]() -> std::optional<int> {     //| Ok(leader.end(value, || self.fill(print, era, value, None, tries)).value())
+        return end(own, made, [&]() -> std::optional<int> {     //| Ok(leader.end(value, || self.fill(print, generation, value, None, tries)).value())
             const bool is_put = entry.compare_exchange(none, made, std::memory_order_acq_rel);
             return is_put ? std::nullopt : std::optional<int>(find());
         });

@@ -33,7 +33,7 @@ pub struct Lead<'a, K: ?Sized, V: Copy, S = RandomState> {
     inner: &'a Inner<K, V, S>,
     print: Print,
     // In which its load began.
-    era: u64,
+    generation: u64,
     leader: Leader<'a, V>,
 }
 
@@ -96,19 +96,19 @@ impl<K: Key + ?Sized, V: Copy + Send + Sync + 'static, S: BuildHasher> Map<K, V,
     {
         let inner = &*self.inner;
         let (print, tries) = (inner.print(key), inner.tries.min(TASK_TRIES));
-        if let Some(value) = inner.get(print.dated(inner.era.now()), tries, |told| told.unwrap_or(None)) {
+        if let Some(value) = inner.get(print.dated(inner.generation.now()), tries, |told| told.unwrap_or(None)) {
             return Board::Found(value);
         }
         let leader = match inner.flights.board_task(print) {
             Ok(leader) => leader,
             Err(passenger) => return Board::Wait(Wait(passenger)),
         };
-        // After the begin of the flight: an invalidation has detached it, or ended this era.
-        let era = inner.era.now();
+        // After the begin of the flight: an invalidation has detached it, or ended this generation.
+        let generation = inner.generation.now();
         // An earlier flight may have ended since the lookup.
         match inner.find(print, tries) {
             Some(value) => Board::Found(value),
-            None => Board::Lead(Lead { inner, print, era, leader }),
+            None => Board::Lead(Lead { inner, print, generation, leader }),
         }
     }
 }
@@ -146,12 +146,12 @@ impl<K: Key + ?Sized, V: Copy + Send + Sync + 'static, S: BuildHasher> Lead<'_, 
     }
 
     fn end(self, value: V, life: Option<Duration>) -> Published<V> {
-        let Lead { inner, print, era, leader } = self;
+        let Lead { inner, print, generation, leader } = self;
         leader.end(value, || {
             if life.is_some() && inner.life.is_none() {
                 return Published::Refused { value, why: inner.refused(InsertError::NoTimeToLive.into()) };
             }
-            inner.fill(print, era, value, life, inner.tries.min(TASK_TRIES))
+            inner.fill(print, generation, value, life, inner.tries.min(TASK_TRIES))
         })
     }
 }

@@ -1,8 +1,8 @@
 //! How a map is opened.
 use crate::clock::Clock;
-use crate::era::Era;
 use crate::error::OpenError;
 use crate::flight::Flights;
+use crate::generation::Generation;
 use crate::handle::AnyHandle;
 use crate::inner::Inner;
 use crate::map::Map;
@@ -168,7 +168,7 @@ impl<K: ?Sized, V: Copy + Send + Sync + 'static, S: BuildHasher> Builder<K, V, S
             slots,
             tiers,
             flights: Flights::new(),
-            era: Era::new(),
+            generation: Generation::new(),
             clock: Clock::new(),
             printer: if once { Printer::once(hasher) } else { Printer::twice(hasher) },
             layout,

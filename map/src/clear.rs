@@ -25,7 +25,7 @@ impl<K: ?Sized, V: Copy, S> Map<K, V, S> {
     /// # Ok::<(), Box<dyn std::error::Error>>(())
     /// ```
     pub fn invalidate_all(&self) {
-        self.inner.era.end();
+        self.inner.generation.end();
         self.inner.flights.detach_all();
     }
 }

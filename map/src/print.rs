@@ -1,5 +1,5 @@
 //! The two words by which the map knows a key.
-use crate::era::check_in;
+use crate::generation::check_in;
 use crate::key::Key;
 use crate::sip::{Secret, Sip};
 use std::hash::{BuildHasher, Hash, Hasher};
@@ -15,10 +15,10 @@ pub(crate) struct Print {
 }
 
 impl Print {
-    /// What an entry has that is put in this era, and what a lookup in it compares.
+    /// What an entry has that is put in this generation, and what a lookup in it compares.
     #[inline]
-    pub fn dated(self, era: u64) -> Print {
-        Print { key: self.key, check: check_in(era, self.check) }
+    pub fn dated(self, generation: u64) -> Print {
+        Print { key: self.key, check: check_in(generation, self.check) }
     }
 }
 

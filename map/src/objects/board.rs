@@ -21,7 +21,7 @@ pub struct ObjectLead<'a, K, V, S = RandomState> {
     hash: u64,
     key: K,
     // In which its load began.
-    era: u64,
+    generation: u64,
     leader: Leader<'a, ()>,
 }
 
@@ -87,12 +87,12 @@ where
             Ok(leader) => leader,
             Err(passenger) => return Board::Wait(ObjectWait(passenger)),
         };
-        // After the begin of the flight: an invalidation has detached it, or ended this era.
-        let era = inner.era.now();
+        // After the begin of the flight: an invalidation has detached it, or ended this generation.
+        let generation = inner.generation.now();
         // An earlier flight may have ended since the lookup.
         match inner.find(hash, key, tries) {
             Some(value) => Board::Found(value),
-            None => Board::Lead(ObjectLead { inner, hash, key: key.to_owned(), era, leader }),
+            None => Board::Lead(ObjectLead { inner, hash, key: key.to_owned(), generation, leader }),
         }
     }
 }
@@ -122,8 +122,8 @@ where
     }
 
     fn end(self, value: V, life: Option<Duration>) -> Published<V> {
-        let ObjectLead { inner, hash, key, era, leader } = self;
-        let object = inner.object(key, value.clone(), life, era);
+        let ObjectLead { inner, hash, key, generation, leader } = self;
+        let object = inner.object(key, value.clone(), life, generation);
         inner.fill(hash, object, value, &leader, inner.tries.min(TASK_TRIES))
     }
 }

@@ -6,9 +6,9 @@ use super::object::{Held, Object};
 use super::queues::Queues;
 use super::weights::{Weigher, Weights};
 use crate::clock::Clock;
-use crate::era::Era;
 use crate::error::OpenError;
 use crate::flight::Flights;
+use crate::generation::Generation;
 use crate::settings::Settings;
 use crate::slots::Slots;
 use crate::wait::TRIES;
@@ -245,7 +245,7 @@ impl<O: Held, S> ObjectInner<O, S> {
             slots: Arc::new(Slots::new(handles)),
             epochs: Epochs::new(threads),
             flights: Flights::new(),
-            era: Era::new(),
+            generation: Generation::new(),
             stripes: (0..STRIPES).map(|_| Stripe::default()).collect(),
             clock: Clock::new(),
             hasher,

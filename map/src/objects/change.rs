@@ -58,15 +58,15 @@ where
     }
 }
 
-// What is made of a value has its era, so it ends with that.
+// What is made of a value has its generation, so it ends with that.
 impl<K: Hash + Eq, V, S: BuildHasher> ObjectInner<Object<K, V>, S> {
     fn update(&self, mut key: K, mut change: impl FnMut(Option<&V>) -> V) -> Result<Put, UpdateError> {
         let hash = self.hash(&key);
         for _ in 0..self.tries {
-            let (pinned, era) = (self.pin(), self.era.now());
+            let (pinned, generation) = (self.pin(), self.generation.now());
             let (seen, over) = pinned.place(hash, &key, self.tries).ok_or(UpdateError::Busy)?;
             let value = change(seen.map(|seen| &seen.object.value));
-            let object = self.object(key, value, None, seen.map_or(era, |seen| seen.object.era()));
+            let object = self.object(key, value, None, seen.map_or(generation, |seen| seen.object.generation()));
             self.detach(hash);
             let put = match seen {
                 Some(seen) => self.put_over_seen(&pinned, hash, object, seen),
@@ -96,7 +96,7 @@ impl<K: Hash + Eq, V, S: BuildHasher> ObjectInner<Object<K, V>, S> {
             let pinned = self.pin();
             let (Some(seen), over) = pinned.place(hash, key, self.tries).ok_or(UpdateError::Busy)? else { return Ok(None) };
             let value = change(&seen.object.value);
-            let object = self.object(seen.object.key.clone(), value, anew, seen.object.era());
+            let object = self.object(seen.object.key.clone(), value, anew, seen.object.generation());
             self.detach(hash);
             let put = match anew {
                 Some(_) => self.put_over(hash, object, over, self.tries),

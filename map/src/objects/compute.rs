@@ -125,14 +125,14 @@ impl<K: Eq, V: Clone, S> ObjectInner<Object<K, V>, S> {
         K: Borrow<Q>,
         Q: Eq + ToOwned<Owned = K> + ?Sized,
     {
-        // After the begin of the flight: an invalidation has detached it, or ended this era.
-        let era = self.era.now();
+        // After the begin of the flight: an invalidation has detached it, or ended this generation.
+        let generation = self.generation.now();
         // An earlier flight may have ended since this thread looked the key up.
         if let Some(value) = self.find(hash, key, tries.min(LOOKS)) {
             return Ok(value);
         }
         let value = make()?;
-        let object = self.object(key.to_owned(), value.clone(), None, era);
+        let object = self.object(key.to_owned(), value.clone(), None, generation);
         Ok(self.fill(hash, object, value, leader, tries).value())
     }
 
@@ -151,7 +151,7 @@ impl<K: Eq, V: Clone, S> ObjectInner<Object<K, V>, S> {
                 }
             };
             drop(pinned);
-            if !self.is_of_this_era(&object) {
+            if !self.is_of_this_generation(&object) {
                 return Published::Outdated(value);
             }
             let mut offered = Some(object);

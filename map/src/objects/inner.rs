@@ -4,8 +4,8 @@ use super::epochs::Epochs;
 use super::object::{pointer, Held, Object};
 use super::weights::Weights;
 use crate::clock::{Clock, FAR, NEVER};
-use crate::era::Era;
 use crate::flight::Flights;
+use crate::generation::Generation;
 use crate::print::Print;
 use crate::slots::Slots;
 use crate::stats::Kind;
@@ -22,7 +22,7 @@ pub(crate) struct ObjectInner<O: Held, S> {
     pub slots: Arc<Slots<Handle<1>>>,
     pub epochs: Epochs,
     pub flights: Flights<()>,
-    pub era: Era,
+    pub generation: Generation,
     /// A call that moves or keeps a deadline locks its key's stripe.
     pub stripes: Box<[Stripe]>,
     pub clock: Clock,
@@ -66,24 +66,24 @@ impl<O: Held, S> ObjectInner<O, S> {
         self.weights.is_some() || self.idle.is_some()
     }
 
-    /// Whether the object has not expired, and its era goes on.
+    /// Whether the object has not expired, and its generation goes on.
     pub fn is_live(&self, object: &O) -> bool {
-        self.is_of_this_era(object) && !self.clock.has_passed(object.deadline().min(object.idle()))
+        self.is_of_this_generation(object) && !self.clock.has_passed(object.deadline().min(object.idle()))
     }
 
     /// Whether no call has invalidated the objects that were made when it was.
     #[inline]
-    pub fn is_of_this_era(&self, object: &O) -> bool {
-        object.era() >= self.era.now()
+    pub fn is_of_this_generation(&self, object: &O) -> bool {
+        object.generation() >= self.generation.now()
     }
 
     /// The same for a lookup that is a use of it.
     #[inline]
     pub fn is_live_and_used(&self, object: &O) -> bool {
         match object.deadline() {
-            NEVER => self.is_of_this_era(object),
+            NEVER => self.is_of_this_generation(object),
             // Its uses are noted, and if not for this time, for a bound on weights.
-            FAR if self.idle.is_none() && self.is_of_this_era(object) => {
+            FAR if self.idle.is_none() && self.is_of_this_generation(object) => {
                 object.set_used();
                 true
             }
@@ -148,10 +148,10 @@ impl<O: Held, S> ObjectInner<O, S> {
 }
 
 impl<K, V, S> ObjectInner<Object<K, V>, S> {
-    /// An object that is to be put, made in this era.
-    pub fn object(&self, key: K, value: V, life: Option<Duration>, era: u64) -> Box<Object<K, V>> {
+    /// An object that is to be put, made in this generation.
+    pub fn object(&self, key: K, value: V, life: Option<Duration>, generation: u64) -> Box<Object<K, V>> {
         let idle = self.idle.map_or(NEVER, |idle| self.clock.deadline(idle));
-        let mut object = Object::new(key, value, era, self.deadline(life), idle);
+        let mut object = Object::new(key, value, generation, self.deadline(life), idle);
         if let Some(weight) = self.weights.as_ref().and_then(|weights| weights.weigh(&object)) {
             object.set_weight(weight);
         }

@@ -31,8 +31,8 @@ pub(crate) unsafe trait Held: Sized {
     /// Moves its deadline.
     fn set_deadline(&self, deadline: u64);
 
-    /// The era that it was made in. By default it outlives all eras.
-    fn era(&self) -> u64 {
+    /// The generation that it was made in. By default it outlives all generations.
+    fn generation(&self) -> u64 {
         u64::MAX
     }
 
@@ -96,7 +96,7 @@ pub(crate) struct Object<K, V> {
     // Its weight, which stays, `USED` and `IN_MAIN`. Relaxed: they say nothing of other memory. If objects are counted, it has the moment of its entry in
     // place of the weight, or 0 before that is noted.
     weight: AtomicU64,
-    era: u64,
+    generation: u64,
     pub value: V,
 }
 
@@ -106,9 +106,9 @@ const USED: u64 = 1 << 63;
 const IN_MAIN: u64 = 1 << 62;
 
 impl<K, V> Object<K, V> {
-    pub fn new(key: K, value: V, era: u64, deadline: u64, idle: u64) -> Box<Object<K, V>> {
+    pub fn new(key: K, value: V, generation: u64, deadline: u64, idle: u64) -> Box<Object<K, V>> {
         let [deadline, idle, weight] = [deadline, idle, 0].map(AtomicU64::new);
-        Box::new(Object { key, deadline, idle, weight, era, value })
+        Box::new(Object { key, deadline, idle, weight, generation, value })
     }
 
     /// Before it is put.
@@ -140,8 +140,8 @@ unsafe impl<K, V> Held for Object<K, V> {
     }
 
     #[inline]
-    fn era(&self) -> u64 {
-        self.era
+    fn generation(&self) -> u64 {
+        self.generation
     }
 
     fn idle(&self) -> u64 {

@@ -67,7 +67,7 @@ where
     pub fn put(&self, key: K, value: V, life: Option<Duration>) -> Result<Put, Refused<K, V>> {
         let inner = &self.inner;
         let hash = inner.hash(&key);
-        let object = inner.object(key, value, life, inner.era.now());
+        let object = inner.object(key, value, life, inner.generation.now());
         inner.put(hash, object).map_err(|(object, why)| inner.refuse(*object, why))
     }
 
@@ -79,7 +79,7 @@ where
     pub fn put_if_absent(&self, key: K, value: V, life: Option<Duration>) -> Result<Put, Refused<K, V, AbsentError>> {
         let inner = &self.inner;
         let hash = inner.hash(&key);
-        let object = inner.object(key, value, life, inner.era.now());
+        let object = inner.object(key, value, life, inner.generation.now());
         inner.put_new(hash, object, |object| &object.key).map_err(|(object, why)| inner.refuse(*object, why))
     }
 
@@ -92,7 +92,7 @@ where
     pub fn replace_if(&self, key: K, since: u64, value: V, life: Option<Duration>) -> Result<Put, Refused<K, V, IfError>> {
         let inner = &self.inner;
         let hash = inner.hash(&key);
-        let object = inner.object(key, value, life, inner.era.now());
+        let object = inner.object(key, value, life, inner.generation.now());
         inner.replace(hash, since, object).map_err(|(object, why)| inner.refuse(*object, why))
     }
 }

@@ -23,7 +23,7 @@ impl<K, V, S> ObjectMap<K, V, S> {
     /// # Ok::<(), Box<dyn std::error::Error>>(())
     /// ```
     pub fn invalidate_all(&self) {
-        self.inner.era.end();
+        self.inner.generation.end();
         self.inner.flights.detach_all();
     }
 

@@ -5,12 +5,12 @@ mod detaching;
 mod disturbed;
 #[cfg(feature = "objects")]
 mod epochs;
-mod eras;
 mod errors;
 mod expiry;
 mod fills;
 mod filters;
 mod flights;
+mod generations;
 mod held;
 mod idle;
 mod moves;

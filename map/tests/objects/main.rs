@@ -6,11 +6,11 @@ mod counted;
 mod each;
 #[path = "../ends/mod.rs"]
 mod ends;
-mod eras;
 #[path = "../executor/mod.rs"]
 mod executor;
 mod fills;
 mod frees;
+mod generations;
 mod handles;
 mod ledger;
 mod listener;

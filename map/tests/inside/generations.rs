@@ -11,7 +11,7 @@ fn open() -> Numbers {
     Map::builder(1).one_table().open_shaped(&one_shard(100), 1, 5).unwrap()
 }
 
-// A call of an earlier era finds an entry of a later one.
+// A call of an earlier generation finds an entry of a later one.
 #[test]
 fn an_update_that_began_before_loses_no_later_one() {
     let map = open();
@@ -25,23 +25,23 @@ fn an_update_that_began_before_loses_no_later_one() {
     assert_eq!(map.get(&1), Some(11));
 }
 
-// The era ends before a call of the index that the load makes, and its flight is about to be detached.
+// The generation ends before a call of the index that the load makes, and its flight is about to be detached.
 #[test]
-fn a_load_puts_nothing_that_is_found_in_a_later_era() {
+fn a_load_puts_nothing_that_is_found_in_a_later_generation() {
     for before in 0..2 {
         let map = open();
         let Board::Lead(lead) = map.try_board(&1) else { panic!("nobody loads it") };
         let other = map.clone();
-        before_calls(before, 1, move || other.inner.era.end());
+        before_calls(before, 1, move || other.inner.generation.end());
         assert_eq!(calls(|| lead.publish(7)).1, 7);
         assert_eq!(map.get(&1), None, "before call {before}");
     }
     let map = open();
     let Board::Lead(lead) = map.try_board(&1) else { panic!("nobody loads it") };
-    map.inner.era.end();
+    map.inner.generation.end();
     assert_eq!((lead.publish(7), map.get(&1)), (7, None));
     let make = || {
-        map.inner.era.end();
+        map.inner.generation.end();
         8
     };
     assert_eq!((map.get_or_insert_with(&2, make), map.get(&2)), (8, None));
@@ -63,21 +63,21 @@ fn an_update_of_an_object_that_began_before_loses_no_later_one() {
 
 #[cfg(feature = "objects")]
 #[test]
-fn a_load_of_an_object_puts_nothing_that_is_found_in_a_later_era() {
+fn a_load_of_an_object_puts_nothing_that_is_found_in_a_later_generation() {
     for before in 0..2 {
         let map = ObjectMap::<u64, u64>::new(100).unwrap();
         let other = map.clone();
         let Board::Lead(lead) = map.try_board(&1) else { panic!("nobody loads it") };
-        before_calls(before, 1, move || other.inner.era.end());
+        before_calls(before, 1, move || other.inner.generation.end());
         assert_eq!(calls(|| lead.publish(7)).1, 7);
         assert_eq!(map.get(&1), None, "before call {before}");
     }
     let map = ObjectMap::<u64, u64>::new(100).unwrap();
     let Board::Lead(lead) = map.try_board(&1) else { panic!("nobody loads it") };
-    map.inner.era.end();
+    map.inner.generation.end();
     assert_eq!((lead.publish(7), map.get(&1)), (7, None));
     let make = || {
-        map.inner.era.end();
+        map.inner.generation.end();
         8
     };
     assert_eq!((map.get_or_insert_with(&2, make), map.get(&2)), (8, None));
