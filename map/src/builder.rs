@@ -120,8 +120,9 @@ impl<K: ?Sized, V, S> Builder<K, V, S> {
     /// there moves to the main table. So keys that are used once evict none that are used often, and more lookups hit, most of all where many
     /// keys are used once or in scans.
     ///
-    /// For that a lookup that misses the main table of a map that was full looks into the small one, too. If it finds the key there, it moves it: that
-    /// is a write, for which another entry may be evicted. Each write takes a lock, and a write of a new key looks into both tables.
+    /// For that a lookup that misses the main table of a map that was full looks into the small one, too, if that may have the key. If it finds the key
+    /// there, it moves it: that is a write, for which another entry may be evicted. Each write takes a lock, and a write of a new key looks into the main
+    /// table first.
     ///
     /// ```
     /// use cefrodil_map::Map;
