@@ -8,6 +8,7 @@
 #include "cefrodil_parted_weights.hpp"
 #include <algorithm>
 #include <array>
+#include <atomic>
 #include <memory>
 #include <new>
 #include <optional>
@@ -50,8 +51,10 @@ template <class K, class V> class Objects {
             return Status::other_version;
         }
         const uint32_t shards = options.shards == 0 ? shards_for(options.entries) : options.shards;
-        const uint32_t each = !rules_.weigher && options.small_table ? share(options.entries, shards) : 0;
-        const uint32_t room = each == 0 ? options.entries : room_for(options, shards, each);
+        const uint32_t each = !rules_.weigher && options.small_table ? share_of(options.entries, shards) : 0;
+        // One more of each thread, which is about to put it.
+        const uint32_t more = each * shards + static_cast<uint32_t>(allowed(options.passes));
+        const uint32_t room = each != 0 && share_of(more, shards) != 0 ? more : options.entries;
         const Status status = turns_.open(room, shards, options.passes, options.tries, mix);
         is_open_ = status == Status::ok;
         const auto grow = [&] {
@@ -212,19 +215,6 @@ template <class K, class V> class Objects {
     const Turns<1> &turns() const noexcept { return turns_; }
 
   private:
-    // What one of so many shards holds, or 0 if there is no such index.
-    static uint32_t share(uint32_t entries, uint32_t shards) noexcept {
-        cefrodil_shape shape{};
-        return cefrodil_shape_for_items(entries, shards, &shape) == CEFRODIL_OK ? shape.items : 0;
-    }
-    // The entries of an index for all that the parts hold, and for one more of each thread, which is about to put it; or as many as were asked for, if
-    // there is no such index.
-    static uint32_t room_for(const MapOptions &options, uint32_t shards, uint32_t each) noexcept {
-        constexpr uint32_t most_passes = 1024;
-        const uint32_t room = each * shards + std::min(options.passes, most_passes);
-        return share(room, shards) != 0 ? room : options.entries;
-    }
-
     // Counts a new key, unless another one gave way to it.
     static Swapped<1> counted(Slot<1> &slot, const Swapped<1> &tried) noexcept {
         slot.add(tried.status == Status::ok && !tried.old ? 1 : 0);
@@ -328,6 +318,10 @@ template <class K, class V> class Objects {
         if (rules_.listener) {
             rules_.listener(change.old->key, change.old->value, has_ended(*change.old, generation_.now()) ? Left::expired : change.why);
         }
+        // Relaxed: a number says nothing of other memory.
+        if (rules_.weigher) {
+            waiting_.fetch_add(Heavy::of(*change.old).weight, std::memory_order_relaxed);
+        }
         static_cast<void>(free(epochs_.retire(*change.old)));
     }
     // Removes objects until the others are within the bound: `next` first, if there is one. Whether any was removed. It gives up if there is none left, or
@@ -351,9 +345,9 @@ template <class K, class V> class Objects {
         }
         return has_evicted;
     }
-    // Without a weigher, what waits is bounded by its number alone, as in a map without weights.
+    // Frees what it can if more than a sixteenth of the bound waits. Without a weigher nothing is counted.
     void free_much() noexcept {
-        if (rules_.weigher && weights_.first().has_much_waiting()) {
+        if (rules_.weigher && waiting_.load(std::memory_order_relaxed) > weights_.bound() / 16) {
             static_cast<void>(free_now());
         }
     }
@@ -373,7 +367,7 @@ template <class K, class V> class Objects {
             next = first->next;
             const Own object(static_cast<Each *>(first));
             if (rules_.weigher) {
-                weights_.first().freed(Heavy::of(*object));
+                waiting_.fetch_sub(Heavy::of(*object).weight, std::memory_order_relaxed);
             }
         }
         return count;
@@ -386,6 +380,8 @@ template <class K, class V> class Objects {
     const Rules rules_;
     const Clock clock_;
     PartedWeights weights_{};
+    // The sum of the weights of what has left and waits to be freed.
+    std::atomic<uint64_t> waiting_{0};
 };
 
 } // namespace inside

@@ -3,6 +3,7 @@
 #ifndef CEFRODIL_PARTED_WEIGHTS_HPP
 #define CEFRODIL_PARTED_WEIGHTS_HPP
 
+#include "cefrodil.h"
 #include "cefrodil_weights.hpp"
 #include <cstddef>
 #include <cstdint>
@@ -13,6 +14,12 @@
 namespace cefrodil {
 
 namespace inside {
+
+// What each of so many shards holds, or 0 if there is no such index.
+inline uint32_t share_of(uint32_t entries, uint32_t shards) noexcept {
+    cefrodil_shape shape{};
+    return cefrodil_shape_for_items(entries, shards, &shape) == CEFRODIL_OK ? shape.items : 0;
+}
 
 class PartedWeights {
   public:
@@ -27,7 +34,6 @@ class PartedWeights {
 
     // That of the key with this number. The multiplier is odd: numbers may be spread badly.
     Weights &of(uint64_t index) noexcept { return parts_[index * 0x9e3779b97f4a7c15 >> 32 & (parts_.size() - 1)]->weights; }
-    Weights &first() noexcept { return parts_.front()->weights; }
     uint64_t sum() const noexcept {
         return std::accumulate(parts_.begin(), parts_.end(), uint64_t(0), [](uint64_t sum, const auto &part) { return sum + part->weights.sum(); });
     }

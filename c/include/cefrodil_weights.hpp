@@ -94,7 +94,7 @@ template <class Parts> class WeightsOf {
     // same key, or null. Then the object goes to its ring, and was used if that was. Returns what `victim` does, if the sum is over the bound.
     std::optional<Place> enter(Weighed &object, const Place &put, Weighed *old) noexcept {
         if (old != nullptr) {
-            wait_to_be_freed(*old);
+            subtract(old->weight);
         }
         const std::lock_guard<typename Parts::Mutex> guard(lock_);
         object.place.since = put.since;
@@ -117,7 +117,7 @@ template <class Parts> class WeightsOf {
         const std::lock_guard<typename Parts::Mutex> guard(lock_);
         return next_victim(just_put);
     }
-    // The object has left the index. From now on it waits to be freed. `evicted`: it gave way to the bound.
+    // The object has left the index. `evicted`: it gave way to the bound.
     void leave(Weighed &object, bool evicted) noexcept {
         {
             const std::lock_guard<typename Parts::Mutex> guard(lock_);
@@ -126,11 +126,8 @@ template <class Parts> class WeightsOf {
                 left_->note(object.place.index);
             }
         }
-        wait_to_be_freed(object);
+        subtract(object.weight);
     }
-    void freed(const Weighed &object) noexcept { waiting_.fetch_sub(object.weight, std::memory_order_relaxed); }
-    // Whether what waits to be freed weighs more than a sixteenth of the bound.
-    bool has_much_waiting() const noexcept { return waiting_.load(std::memory_order_relaxed) > bound_ / 16; }
 
   private:
     using Ring = RingOf<Weighed>;
@@ -195,13 +192,9 @@ template <class Parts> class WeightsOf {
             objects_--;
         }
     }
-    void wait_to_be_freed(const Weighed &object) noexcept {
-        waiting_.fetch_add(object.weight, std::memory_order_relaxed);
-        subtract(object.weight);
-    }
 
     const uint64_t bound_;
-    typename Parts::template Atomic<uint64_t> sum_{0}, waiting_{0};
+    typename Parts::template Atomic<uint64_t> sum_{0};
     // The lock is for all below.
     typename Parts::Mutex lock_{};
     Ring small_{}, main_{};
