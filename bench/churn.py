@@ -6,8 +6,8 @@ tells it before and after, as a multiple of -m.
 
 With MCCHECK cefrodild runs once more, for as long, with --audit and less to do. Then mccheck's last line is printed.
 
-usage: [MEMORY=M] bench/churn.py LIB MINUTES [MCCHECK]     MEMORY: -m; none: 64; LIB: the folder of libcefrodil.a, as c/build makes it; MCCHECK: the
-program of crates/mccheck
+usage: [MEMORY=M] [SERVERS=NAME,..] bench/churn.py LIB MINUTES [MCCHECK]     MEMORY: -m; none: 64; SERVERS: of cefrodild, memcached and audited; none:
+all; LIB: the folder of libcefrodil.a, as c/build makes it; MCCHECK: the program of crates/mccheck
 
 It needs cargo and, of Debian: apt-get install librust-mio-dev memcached.
 """
@@ -24,6 +24,7 @@ from servers import MEMCACHED, built, connected, running
 
 MEGABYTE = 1 << 20
 MEMORY = int(os.environ.get('MEMORY', '64'))
+SERVERS = os.environ.get('SERVERS', 'cefrodild,memcached,audited').split(',')
 CLIENTS = 4
 # The least and the largest size of values, one phase after the other. The logarithm of a size is drawn.
 PHASES = ((10, 100), (10, 200_000), (5_000, 60_000), (1, 1_000), (500_000, 1_000_000), (100, 10_000))
@@ -114,20 +115,25 @@ def run(server, seconds, pause):
         return alone, beside, sets.value
 
 
+def row(name, server, seconds, pause):
+    """Prints a row of the table."""
+    alone, beside, sets = run(server, seconds, pause)
+    cells = (f'{most / MEGABYTE:.0f}; {without / MEGABYTE / MEMORY:.2f}' for most, without in (alone, beside))
+    print(f'|{name}|{"|".join(cells)}|{sets // 1000:,}|', flush=True)
+
+
 def main(arguments):
     if len(arguments) not in (2, 3) or not os.path.isfile(f'{arguments[0]}/libcefrodil.a') or not arguments[1].isdigit():
         sys.exit(__doc__)
     seconds = 60 * int(arguments[1])
     with tempfile.TemporaryDirectory(prefix='churn-') as folder:
-        program = built(arguments[0], folder)[0]
+        program, log = built(arguments[0], folder)[0], f'{folder}/log'
         print('||alone|beside busy processes|sets, thousands|\n|---|---|---|---|')
         for name, server in ('cefrodild', [program]), ('memcached', MEMCACHED):
-            alone, beside, sets = run(server, seconds, 0)
-            cells = (f'{most / MEGABYTE:.0f}; {without / MEGABYTE / MEMORY:.2f}' for most, without in (alone, beside))
-            print(f'|{name}|{"|".join(cells)}|{sets // 1000:,}|', flush=True)
-        if len(arguments) == 3:
-            log = f'{folder}/log'
-            run([program, '-n', '10000', '--audit', log], seconds, 0.05)
+            if name in SERVERS:
+                row(name, server, seconds, 0)
+        if 'audited' in SERVERS and len(arguments) == 3:
+            row('cefrodild with a log', [program, '-n', '10000', '--audit', log], seconds, 0.05)
             print(subprocess.run([arguments[2], log], check=True, capture_output=True, text=True).stdout.splitlines()[-1])
 
 

@@ -17,12 +17,19 @@
 // The lock of a write, and the removal of the copy:
 //| const KeyLocks::Guard locked = between_->locks.lock(key);
 //| const std::optional<Place> at = locked ? place(slot, key) : std::nullopt;
-//| const Status removed = slot.small.try_remove(key).status;
+//| const Status status = removed(slot, slot.small, key, slot.small.try_remove(key).status);
+// The counts of the filter: before a put; after a removal, a move and an eviction; and in a lookup and a write.
+//| between_->young.add(key);
+//| &handle == &slot.small ? between_->young.subtract(key) : between_->set_full(false);
+//| between_->young.subtract(key);
+//| between_->young.subtract(*put.evicted);
+//| const cefrodil_status status = between_->young.may_have(key)
+//| return between_->young.may_have(key) ? has(slot.small, key) : std::optional<bool>(false);
 // The end of a lookup:
 //| if (status == CEFRODIL_ABSENT && between_->moves.has_lasted(slot.rest)) {
 //| return turns_.get(key.index, most, value);
 struct CxxTiers : TiersOf<CxxTiers> {
-    static constexpr std::array<std::string_view, 8> steps = steps_of_both;
+    static constexpr std::array<std::string_view, 10> steps = steps_of_both;
 
     struct Parts {
         template <class T> using Atomic = explored::Atomic<T>;

@@ -12,6 +12,17 @@ namespace cefrodil {
 
 namespace inside {
 
+// Spreads keys, which may be spread badly.
+inline uint64_t mixed(uint64_t key) noexcept {
+    // An odd number whose bits look random.
+    return (key ^ key >> 32) * 0x9e3779b97f4a7c15;
+}
+
+__extension__ typedef unsigned __int128 Wide;
+
+// One of so many places, by the upper bits of a mixed key.
+inline size_t place_in(size_t places, uint64_t mixed) noexcept { return static_cast<size_t>(static_cast<Wide>(mixed) * places >> 64); }
+
 // Relaxed: it says nothing of other memory. If two threads change a row at once, one change is lost.
 class Sketch {
   public:
@@ -60,17 +71,14 @@ class Sketch {
 
     // No key has the tag 0.
     Noted place_of(uint64_t key) noexcept {
-        // An odd number whose bits look random: keys may be spread badly.
-        const uint64_t mixed = (key ^ key >> 32) * 0x9e3779b97f4a7c15;
-        const auto row = static_cast<size_t>(static_cast<Wide>(mixed) * used_.load(std::memory_order_relaxed) >> 64);
-        return {rows_[row], static_cast<uint16_t>(1 + (mixed >> 4 & 0xfff) % 255)};
+        const uint64_t spread = mixed(key);
+        return {rows_[place_in(used_.load(std::memory_order_relaxed), spread)], static_cast<uint16_t>(1 + (spread >> 4 & 0xfff) % 255)};
     }
     static uint16_t without(uint16_t tags, uint16_t tag) noexcept {
         const unsigned first = tags & low_tag, second = tags >> bits_of_a_tag;
         return static_cast<uint16_t>((second == tag ? 0 : second) << bits_of_a_tag | (first == tag ? 0 : first));
     }
 
-    __extension__ typedef unsigned __int128 Wide;
     size_t count_;
     std::unique_ptr<std::atomic<uint16_t>[]> rows_;
     std::atomic<size_t> used_; // of the rows

@@ -6,6 +6,7 @@
 #ifndef CEFRODIL_TIERS_HPP
 #define CEFRODIL_TIERS_HPP
 
+#include "cefrodil_filter.hpp"
 #include "cefrodil_hash.hpp"
 #include "cefrodil_key_locks.hpp"
 #include "cefrodil_moves.hpp"
@@ -24,7 +25,8 @@ namespace inside {
 
 // What the tables have in common: locks by the key, the keys that left the small table, and the moves.
 struct BetweenTables {
-    explicit BetweenTables(uint64_t entries) : left(entries) {}
+    // For so many entries in both tables, and in the small one.
+    BetweenTables(uint64_t entries, uint64_t small) : left(entries), young(small) {}
     BetweenTables(const BetweenTables &) = delete;
     BetweenTables &operator=(const BetweenTables &) = delete;
 
@@ -38,6 +40,8 @@ struct BetweenTables {
 
     KeyLocks locks{};
     Sketch left;
+    // What the small table may have.
+    Filter young;
     // The last put of a new key into the main table evicted another one, and none was removed there since. Read relaxed: it is a guess.
     std::atomic<bool> is_full{false};
     // Whether a key was ever put into the small table, and whether a move ever left one in both. Each is set before that, while the key's lock is held.
@@ -56,8 +60,9 @@ template <size_t Words> class Tiers {
         if (status != Status::ok || !small_table) {
             return status;
         }
+        const uint64_t main = turns_.capacity();
         status = turns_.open_small(std::max<uint32_t>(entries / entries_of_a_small_one, 1), shards, mix);
-        const auto grow = [&] { between_ = std::make_unique<BetweenTables>(turns_.capacity()); };
+        const auto grow = [&] { between_ = std::make_unique<BetweenTables>(turns_.capacity(), turns_.capacity() - main); };
         return status == Status::ok && !has_memory(grow) ? Status::no_memory : status;
     }
     // Whether the small table may have keys that the main one lacks.
@@ -126,7 +131,7 @@ template <size_t Words> class Tiers {
             return turns_.removal([&](Handle<Words> &handle) { return handle.try_take_if(key, since).status; });
         }
         return change_if(key, since, Status::held, Status::changed, [&](Slot<Words> &slot, Handle<Words> &handle, uint64_t moment) {
-            return removed(slot, handle, handle.try_take_if(key, moment).status);
+            return removed(slot, handle, key, handle.try_take_if(key, moment).status);
         });
     }
     // Removes the key from both tables.
@@ -137,7 +142,7 @@ template <size_t Words> class Tiers {
         return turns_.repeated([&](Slot<Words> &slot) {
             return in_place(slot, key, Status::held, [&](Place at) {
                 Handle<Words> &handle = at == Place::small ? slot.small : slot.handle;
-                return removed(slot, handle, handle.try_remove(key).status);
+                return removed(slot, handle, key, handle.try_remove(key).status);
             });
         });
     }
@@ -175,7 +180,9 @@ template <size_t Words> class Tiers {
     }
     // The main table counted a miss. It stays one if the small table lacks the key, too.
     [[gnu::noinline]] Status look_small(Slot<Words> &slot, uint64_t key, Value &value, cefrodil_reply &reply) noexcept {
-        const cefrodil_status status = cefrodil_get_or_turn_of_width(slot.small.raw(), key, value.data(), Words, &reply);
+        const cefrodil_status status = between_->young.may_have(key)
+                                           ? cefrodil_get_or_turn_of_width(slot.small.raw(), key, value.data(), Words, &reply)
+                                           : CEFRODIL_ABSENT;
         if (status == CEFRODIL_ABSENT && between_->moves.has_lasted(slot.rest)) {
             return Status::absent;
         }
@@ -232,7 +239,9 @@ template <size_t Words> class Tiers {
         }
         const auto take = [&](Slot<Words> &slot) { return slot.small.try_take_if(key, found.since).status; };
         const bool is_taken = within(tries, turns_.call(take), [&] { return turns_.call(take); }) == Status::ok;
-        if (!is_taken) {
+        if (is_taken) {
+            between_->young.subtract(key);
+        } else {
             BetweenTables::set(between_->has_copies, true);
         }
         if (put.evicted) {
@@ -264,7 +273,7 @@ template <size_t Words> class Tiers {
         return may_be_both && !remove_copy(slot, key) ? std::nullopt : is_there;
     }
     std::optional<bool> is_in_small(Slot<Words> &slot, uint64_t key) noexcept {
-        return between_->is_small_used.load() ? has(slot.small, key) : std::optional<bool>(false);
+        return between_->young.may_have(key) ? has(slot.small, key) : std::optional<bool>(false);
     }
     // Removes the key from the small table, if a move could not take it out. False: other threads disturbed this.
     [[gnu::cold]] [[gnu::noinline]] bool remove_copy(Slot<Words> &slot, uint64_t key) noexcept {
@@ -272,9 +281,8 @@ template <size_t Words> class Tiers {
         if (!is_there || !*is_there) {
             return is_there.has_value();
         }
-        const Status removed = slot.small.try_remove(key).status;
-        slot.add(removed == Status::ok ? -1 : 0);
-        return removed == Status::ok || removed == Status::absent;
+        const Status status = removed(slot, slot.small, key, slot.small.try_remove(key).status);
+        return status == Status::ok || status == Status::absent;
     }
     // It isn't counted.
     static std::optional<bool> has(Handle<Words> &handle, uint64_t key) noexcept {
@@ -327,8 +335,14 @@ template <size_t Words> class Tiers {
     }
     Written put_small(Slot<Words> &slot, uint64_t key, const Value &value) noexcept {
         BetweenTables::set(between_->is_small_used, true);
+        between_->young.add(key);
         const Written put = slot.small.try_put(key, value);
+        // Otherwise it counts already, or is not there.
+        if (put.status != Status::ok || put.renewed) {
+            between_->young.subtract(key);
+        }
         if (put.evicted) {
+            between_->young.subtract(*put.evicted);
             between_->left.note(*put.evicted);
         }
         return counted(slot, put);
@@ -339,12 +353,10 @@ template <size_t Words> class Tiers {
     }
 
     // Notes a removal. There is room in the main table if it was there.
-    Status removed(Slot<Words> &slot, const Handle<Words> &handle, Status status) noexcept {
+    Status removed(Slot<Words> &slot, const Handle<Words> &handle, uint64_t key, Status status) noexcept {
         if (status == Status::ok) {
             slot.add(-1);
-        }
-        if (status == Status::ok && &handle == &slot.handle) {
-            between_->set_full(false);
+            &handle == &slot.small ? between_->young.subtract(key) : between_->set_full(false);
         }
         return status;
     }

@@ -108,15 +108,94 @@ static void a_peek_finds_a_key_in_both_tables_and_moves_none() {
     MUST(numbers.find(the_key) == 10 && numbers.where(the_key) == In::main && numbers.peek(the_key) == 10);
 }
 
-// A miss costs a third call only after a key has moved.
+// A key for which the filter has a cell with another one. The other key is in the small table.
+static uint64_t beside_young(Numbers &numbers) {
+    uint64_t key = 100000;
+    while (calls_of([&] { MUST(!numbers.contains(key)); }) == 1) {
+        key++;
+    }
+    return key;
+}
+
+// A miss looks into the small table only if that may have the key. It costs one more call after a key has moved.
 static void a_miss_looks_at_each_table_once() {
     Numbers numbers;
     Numbers::with_young(numbers);
-    MUST(calls_of([&] { MUST(numbers.find(7) == 0); }) == 2);
+    MUST(calls_of([&] { MUST(numbers.find(7) == 0); }) == 1);
+    const uint64_t beside = beside_young(numbers);
+    MUST(calls_of([&] { MUST(numbers.find(beside) == 0); }) == 2);
     MUST(numbers.find(the_key) == 10);
-    MUST(calls_of([&] { MUST(numbers.find(7) == 0); }) == 3);
     MUST(calls_of([&] { MUST(numbers.find(7) == 0); }) == 2);
+    MUST(calls_of([&] { MUST(numbers.find(7) == 0); }) == 1);
+    MUST(calls_of([&] { MUST(numbers.find(beside) == 0); }) == 1);
     MUST(calls_of([&] { MUST(numbers.find(the_key) == 10); }) == 1);
+}
+
+static void a_filter_has_a_key_until_it_has_left_as_often_as_it_came() {
+    cefrodil::inside::Filter filter(100);
+    const auto have = [&](uint64_t from, uint64_t to) {
+        uint64_t count = 0;
+        for (uint64_t number = from; number < to; number++) {
+            count += filter.may_have(number * 0x0123456789abcdef);
+        }
+        return count;
+    };
+    const auto change = [&](uint64_t to, bool adds) {
+        for (uint64_t number = 0; number < to; number++) {
+            const uint64_t key = number * 0x0123456789abcdef;
+            adds ? filter.add(key) : filter.subtract(key);
+        }
+    };
+    MUST(have(0, 1000) == 0);
+    change(100, true);
+    MUST(have(0, 100) == 100 && have(1000, 2000) > 20 && have(1000, 2000) < 200);
+    change(50, true);
+    change(100, false);
+    MUST(have(0, 50) == 50);
+    change(50, false);
+    MUST(have(0, 2000) == 0);
+}
+
+static void a_cell_that_was_full_has_any_key_from_then_on() {
+    cefrodil::inside::Filter filter(1);
+    const auto add_and_subtract = [&](int times) {
+        for (int n = 0; n < times; n++) {
+            filter.add(7);
+        }
+        for (int n = 0; n < times; n++) {
+            filter.subtract(7);
+        }
+        return filter.may_have(7);
+    };
+    MUST(!add_and_subtract(254));
+    MUST(add_and_subtract(255) && add_and_subtract(600));
+}
+
+// Each way out of the small table empties the key's cell: then a miss costs one call, whatever its key is.
+static void what_has_left_the_small_table_is_not_looked_for_there() {
+    void (*const ways[])(Numbers &) = {
+        [](Numbers &numbers) { MUST(numbers.find(the_key) == 10); },
+        [](Numbers &numbers) { MUST(numbers.erase(the_key) == Status::ok); },
+        [](Numbers &numbers) { MUST(numbers.table.clear() == Status::ok); },
+        [](Numbers &numbers) {
+            MUST(numbers.put(the_key, 11) == Status::ok && numbers.update(the_key, same).value == 11u && numbers.erase(the_key) == Status::ok);
+        },
+        [](Numbers &numbers) {
+            numbers.while_held([&] { MUST(numbers.put(7, 70) == Status::held && numbers.erase(the_key) != Status::ok); });
+            MUST(numbers.erase(the_key) == Status::ok);
+        },
+    };
+    for (const auto &way : ways) {
+        Numbers numbers;
+        Numbers::with_young(numbers);
+        way(numbers);
+        MUST(!numbers.contains(7)); // It costs more after a key has moved.
+        uint64_t calls = 0;
+        for (uint64_t key = 100000; key < 101000; key++) {
+            calls += calls_of([&] { MUST(!numbers.contains(key)); });
+        }
+        MUST(calls == 1000);
+    }
 }
 
 // A lookup is one hit or one miss, wherever it looks. What a write looks for, and what moves, counts for none.
@@ -272,6 +351,9 @@ int main() {
     a_scan_evicts_only_what_was_scanned();
     a_peek_finds_a_key_in_both_tables_and_moves_none();
     a_miss_looks_at_each_table_once();
+    a_filter_has_a_key_until_it_has_left_as_often_as_it_came();
+    a_cell_that_was_full_has_any_key_from_then_on();
+    what_has_left_the_small_table_is_not_looked_for_there();
     each_lookup_counts_once();
     a_write_leaves_no_older_copy();
     a_write_that_cannot_remove_a_copy_changes_nothing();

@@ -157,8 +157,9 @@ impl<K: ?Sized, V: Copy + Send + Sync + 'static, S: BuildHasher> Builder<K, V, S
         let mut tiers = None;
         if self.settings.small_table {
             let mut small = self.small_handles(width)?;
-            capacity += small[0].capacity();
-            tiers = Some(Tiers::new(Arc::clone(&slots), small, capacity));
+            let young = small[0].capacity();
+            capacity += young;
+            tiers = Some(Tiers::new(Arc::clone(&slots), small, capacity, young));
         }
         let Settings { hasher, once, life, idle, .. } = self.settings;
         Ok(Map::of(Inner {

@@ -7,6 +7,7 @@ mod clear;
 mod clock;
 mod compute;
 mod error;
+mod filter;
 mod flight;
 mod handle;
 mod inner;
@@ -40,7 +41,7 @@ pub use key::{Hashed, Key};
 pub use map::{Inserted, Map};
 #[cfg(feature = "objects")]
 pub use objects::{
-    AbsentError, Block, Bytes, BytesBuilder, BytesMap, Head, IfError, Line, Look, ObjectBuilder, ObjectLead, ObjectMap,
+    AbsentError, Block, Bytes, BytesBuilder, BytesMap, Cursor, Head, IfError, Line, Look, ObjectBuilder, ObjectLead, ObjectMap,
     ObjectWait, Put, Queued, Queues, Reason, Refused,
 };
 pub use stats::Stats;

@@ -51,9 +51,20 @@ impl Sketch {
 
     // No key has the tag 0.
     fn place(&self, key: u64) -> (&AtomicU16, u16) {
-        // An odd number whose bits look random: keys may be spread badly.
-        let mixed = (key ^ key >> 32).wrapping_mul(0x9e37_79b9_7f4a_7c15);
-        let row = ((u128::from(mixed) * self.used.load(Relaxed) as u128) >> 64) as usize;
-        (&self.rows[row], 1 + (mixed as u16 >> 4) % 255)
+        let mixed = mixed(key);
+        (&self.rows[place_in(self.used.load(Relaxed), mixed)], 1 + (mixed as u16 >> 4) % 255)
     }
+}
+
+/// Spreads keys, which may be spread badly.
+#[inline]
+pub(crate) fn mixed(key: u64) -> u64 {
+    // An odd number whose bits look random.
+    (key ^ key >> 32).wrapping_mul(0x9e37_79b9_7f4a_7c15)
+}
+
+/// One of so many places, by the upper bits of a mixed key.
+#[inline]
+pub(crate) fn place_in(places: usize, mixed: u64) -> usize {
+    ((u128::from(mixed) * places as u128) >> 64) as usize
 }

@@ -159,7 +159,7 @@ impl<H: 'static> Slots<H> {
     /// The index of that slot. No two threads have the same one at a time.
     #[inline]
     pub fn index(self: &Arc<Self>) -> Option<usize> {
-        let last = LAST.get();
+        let last = LAST.with(|last| last[last_of(self.id)].get());
         if last.id == self.id {
             Some(last.index)
         } else {
@@ -173,7 +173,7 @@ impl<H: 'static> Slots<H> {
         if recent.id != self.id {
             return self.claim();
         }
-        LAST.set(recent);
+        LAST.with(|last| last[last_of(self.id)].set(recent));
         Some(recent.index)
     }
 
@@ -246,6 +246,11 @@ fn place_of(id: u64) -> usize {
     id as usize % PLACES
 }
 
+#[inline]
+fn last_of(id: u64) -> usize {
+    id as usize % 2
+}
+
 /// A slot that this thread has claimed.
 struct Claim {
     index: usize,
@@ -278,8 +283,9 @@ impl Hasher for IdHasher {
 }
 
 thread_local! {
-    // The map that the thread used last. By this a program with one map is quickest.
-    static LAST: Cell<Recent> = const { Cell::new(Recent::NONE) };
+    // Those that the thread used last, of even ids and of odd ones. By this a program with one map is quickest. If that has two tables, their ids
+    // follow each other.
+    static LAST: [Cell<Recent>; 2] = const { [const { Cell::new(Recent::NONE) }; 2] };
     // Maps that the thread used lately, each at the place of its id.
     static RECENT: [Cell<Recent>; PLACES] = const { [const { Cell::new(Recent::NONE) }; PLACES] };
     static CLAIMS: Claims = Claims::default();
@@ -304,7 +310,7 @@ impl Claims {
 
 impl Drop for Claims {
     fn drop(&mut self) {
-        LAST.set(Recent::NONE);
+        LAST.with(|last| last.iter().for_each(|place| place.set(Recent::NONE)));
         RECENT.with(|recent| recent.iter().for_each(|place| place.set(Recent::NONE)));
         for claim in self.0.take().into_values() {
             if let Some(slots) = claim.slots.upgrade() {

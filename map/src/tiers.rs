@@ -2,6 +2,7 @@
 //! evict no keys that are used often.
 //!
 //! All writes of a key have its lock. Lookups have none: they look into the main table first. SAFETY.md says why that suffices.
+use crate::filter::Filter;
 use crate::handle::AnyHandle;
 use crate::key_locks::KeyLocks;
 use crate::moves::{Moves, Rest};
@@ -21,8 +22,9 @@ pub(crate) struct Tiers {
     main: Arc<Slots<AnyHandle>>,
     small: Arc<Slots<SmallHandle>>,
     locks: KeyLocks,
-    // Keys that left the small table.
+    // Keys that left the small table, and those that it may have.
     left: Sketch,
+    young: Filter,
     // The last put of a new key into the main table evicted another one, and none was removed there since. Relaxed: it is a guess.
     is_full: AtomicBool,
     // Whether a key was ever put into the small table, and whether a move ever left one in both. Each is set before that, while the key's lock is
@@ -61,8 +63,8 @@ impl SmallHandle {
         self.handle.keys()
     }
 
-    fn miss(&mut self, key: u64, moves: &Moves) -> Miss {
-        if self.handle.has(key) != Some(false) {
+    fn miss(&mut self, key: u64, young: &Filter, moves: &Moves) -> Miss {
+        if young.may_have(key) && self.handle.has(key) != Some(false) {
             return Miss::No;
         }
         if self.rest.has_lasted(moves) {
@@ -74,14 +76,15 @@ impl SmallHandle {
 }
 
 impl Tiers {
-    /// Of these handles, and for so many entries in both tables.
-    pub fn new(main: Arc<Slots<AnyHandle>>, small: Vec<AnyHandle>, entries: usize) -> Tiers {
+    /// Of these handles, and for so many entries in both tables, and so many in the small one.
+    pub fn new(main: Arc<Slots<AnyHandle>>, small: Vec<AnyHandle>, entries: usize, young: usize) -> Tiers {
         let small = small.into_iter().map(|handle| SmallHandle { handle, rest: Rest::default() }).collect();
         Tiers {
             main,
             small: Arc::new(Slots::new(small)),
             locks: KeyLocks::new(),
             left: Sketch::new(entries),
+            young: Filter::new(young),
             is_full: AtomicBool::new(false),
             is_small_used: AtomicBool::new(false),
             has_copies: AtomicBool::new(false),
@@ -92,6 +95,11 @@ impl Tiers {
     /// The handles of the small table.
     pub fn small(&self) -> &Arc<Slots<SmallHandle>> {
         &self.small
+    }
+
+    #[cfg(test)]
+    pub(crate) fn young(&self) -> &Filter {
+        &self.young
     }
 
     /// Whether the small table may have keys that the main one lacks.
@@ -108,7 +116,7 @@ impl Tiers {
             return Miss::Yes;
         }
         match self.small.own() {
-            Some((mut small, _)) => small.miss(key, &self.moves),
+            Some((mut small, _)) => small.miss(key, &self.young, &self.moves),
             None => self.miss_shared(key),
         }
     }
@@ -163,7 +171,9 @@ impl Tiers {
             Err(_) => return,
         };
         let taken = in_turn(tries, || self.small.call(|small| small.handle.take_if(key, since)));
-        if taken.is_err() {
+        if taken.is_ok() {
+            self.young.subtract(key);
+        } else {
             set(&self.has_copies, true);
         }
         match (is_new, taken.is_ok()) {
@@ -218,6 +228,8 @@ impl Tiers {
         )?;
         if since & OF_SMALL == 0 {
             set(&self.is_full, false);
+        } else {
+            self.young.subtract(key);
         }
         Ok(taken)
     }
@@ -257,7 +269,7 @@ impl Tiers {
     pub fn remove(&self, key: u64) -> Result<Removal, TurnError<Spent>> {
         let _locked = self.locks.lock(key).ok_or(TurnError::Held)?;
         match self.place(key).ok_or(TurnError::Held)? {
-            Place::Small => self.small.call(|small| small.handle.remove(key)),
+            Place::Small => self.remove_young(key),
             Place::Main | Place::Nowhere => {
                 set(&self.is_full, false);
                 self.main.call(|handle| handle.remove(key))
@@ -291,14 +303,22 @@ impl Tiers {
         if !self.is_in_small(key)? {
             return Some(());
         }
-        if let Removal::Removed { .. } = self.small.call(|small| small.handle.remove(key)).ok()? {
+        if let Removal::Removed { .. } = self.remove_young(key).ok()? {
             self.main.count(Kind::Removed);
         }
         Some(())
     }
 
+    fn remove_young(&self, key: u64) -> Result<Removal, TurnError<Spent>> {
+        let removal = self.small.call(|small| small.handle.remove(key))?;
+        if let Removal::Removed { .. } = removal {
+            self.young.subtract(key);
+        }
+        Ok(removal)
+    }
+
     fn is_in_small(&self, key: u64) -> Option<bool> {
-        if self.is_small_used() {
+        if self.young.may_have(key) {
             self.small.call(|small| small.handle.has(key))
         } else {
             Some(false)
@@ -334,11 +354,18 @@ impl Tiers {
 
     fn put_small(&self, key: u64, words: &Words) -> Result<Put, TurnError<PutError>> {
         set(&self.is_small_used, true);
-        let put = self.small.call(|small| small.handle.put(key, words))?;
-        if let Put::Stored { evicted: Some(evicted), .. } = put {
-            self.left.note(evicted);
+        self.young.add(key);
+        let put = self.small.call(|small| small.handle.put(key, words));
+        match put {
+            Ok(Put::Stored { evicted: None, .. }) => {}
+            Ok(Put::Stored { evicted: Some(evicted), .. }) => {
+                self.young.subtract(evicted);
+                self.left.note(evicted);
+            }
+            // It counts already, or is not there.
+            _ => self.young.subtract(key),
         }
-        Ok(put)
+        put
     }
 }
 

@@ -65,6 +65,14 @@ impl Clock {
         }
         deadline.saturating_sub(self.now()).div_ceil(SECOND) as i64
     }
+
+    /// The deadline in seconds since 1970, or 0 if it never comes.
+    pub fn unix_end(&self, deadline: u64) -> u64 {
+        if deadline == NEVER {
+            return 0;
+        }
+        unix_time() + deadline.saturating_sub(self.now()).div_ceil(SECOND)
+    }
 }
 
 impl Default for Clock {

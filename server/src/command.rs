@@ -1,5 +1,6 @@
 //! Carries commands out, and writes their answers.
 use crate::counts::Count;
+use crate::dump;
 use crate::item::Item;
 use crate::meta_command;
 use crate::request::{Change, Order, Request};
@@ -57,8 +58,17 @@ pub fn value(out: &mut Vec<u8>, key: &[u8], item: &Item, token: Option<u64>) {
     block(out, item.value());
 }
 
+/// A block from this size on gets the room that it needs. A vector that grows by itself takes up to twice as much, which counts as the client's.
+const LARGE: usize = 1 << 14;
+
+/// What follows a block at most: the end of the answer.
+const BEHIND: usize = 1 << 6;
+
 /// Ends a line, and writes a block behind it.
 pub fn block(out: &mut Vec<u8>, data: &[u8]) {
+    if data.len() >= LARGE {
+        out.reserve_exact(data.len() + BEHIND);
+    }
     out.extend_from_slice(b"\r\n");
     out.extend_from_slice(data);
     out.extend_from_slice(b"\r\n");
@@ -77,6 +87,7 @@ pub fn run(store: &Store, request: &Request, data: &[u8], is_quiet: bool, out: &
             "OK"
         }
         Request::Stats(what) => return stats::answer(store, what, out),
+        Request::Dump(class, most) => return dump::answer(store, *class, *most, out),
         Request::Version => concat!("VERSION ", version!()),
         Request::Verbosity => "OK",
         Request::NoOperation => "MN",

@@ -2,10 +2,10 @@
 use crate::complain::{complain_at_times, Last};
 use crate::counts::Count;
 use crate::dialogue::{Dialogue, Turn, MOST_WAITING};
+use crate::listen::Stream;
 use crate::seat::Seat;
 use crate::store::Store;
 use mio::event::Event;
-use mio::net::TcpStream;
 use std::cell::Cell;
 use std::io::{self, ErrorKind, Read, Write};
 use std::mem;
@@ -13,7 +13,7 @@ use std::mem;
 /// How many bytes are read at a time, at least.
 const CHUNK: usize = 1 << 14;
 
-/// A buffer that is larger than this is given up when it is empty.
+/// The bytes of a worker's buffer. The allocator maps such a block by itself, so one that grows and shrinks again leaves no holes among the items.
 const LARGE: usize = 1 << 17;
 
 /// Less than this waits in a buffer of its own size.
@@ -42,7 +42,7 @@ pub enum Next {
 /// A client's connection.
 #[derive(Debug)]
 pub struct Connection {
-    stream: TcpStream,
+    stream: Stream,
     dialogue: Dialogue,
     input: Input,
     /// So many bytes of input must be there before there is anything to do.
@@ -66,14 +66,14 @@ struct Input {
 
 impl Connection {
     /// A client that has just connected.
-    pub fn new(stream: TcpStream, seat: Seat) -> Connection {
+    pub fn new(stream: Stream, seat: Seat) -> Connection {
         let (dialogue, input, output) = (Dialogue::default(), Input::default(), Vec::new());
         let (is_ending, is_dry, is_half_closed) = (false, false, false);
         Connection { stream, dialogue, input, needs: 1, output, is_ending, is_dry, is_half_closed, seat }
     }
 
     /// The connection, for registering it.
-    pub fn stream(&mut self) -> &mut TcpStream {
+    pub fn stream(&mut self) -> &mut Stream {
         &mut self.stream
     }
 
@@ -99,7 +99,7 @@ impl Connection {
         self.borrow_buffers();
         let next = self.rounds(store);
         self.return_buffers();
-        self.seat.hold(self.capacity());
+        self.seat.hold(self.held());
         if self.seat.bytes() <= before || !self.seat.is_over() {
             return next;
         }
@@ -113,24 +113,24 @@ impl Connection {
         Ok(Next::Nothing)
     }
 
-    fn capacity(&self) -> usize {
-        self.input.bytes.capacity() + self.output.capacity()
+    /// What the buffers take: of that for input, what was ever read into.
+    fn held(&self) -> usize {
+        self.input.bytes.len() + self.output.capacity()
     }
 
     /// Counts large buffers also within a turn, and that they are gone. Small ones are the worker's.
     fn count_large(&mut self) {
-        let capacity = self.capacity();
-        if capacity > LARGE || self.seat.bytes() > LARGE as u64 {
-            self.seat.hold(capacity);
+        if self.input.bytes.len().max(self.output.capacity()) > LARGE || self.seat.bytes() > LARGE as u64 {
+            self.seat.hold(self.held());
         }
     }
 
     fn borrow_buffers(&mut self) {
         if self.input.bytes.len() < CHUNK {
-            self.input.move_to(READ.take());
+            self.input.move_to(buffer_of(READ.take()));
         }
         if self.output.capacity() == 0 {
-            self.output = ANSWERS.take();
+            self.output = buffer_of(ANSWERS.take());
         }
     }
 
@@ -143,6 +143,9 @@ impl Connection {
         }
         if self.output.is_empty() {
             ANSWERS.set(mem::take(&mut self.output));
+        } else if self.output.len() < SMALL && self.output.capacity() >= LARGE {
+            let small = self.output.as_slice().to_vec();
+            ANSWERS.set(mem::replace(&mut self.output, small));
         }
     }
 
@@ -209,11 +212,17 @@ impl Connection {
             store.counts.add_many(Count::BytesWritten, sent as u64);
             self.output.drain(..sent);
         }
-        if self.output.is_empty() && self.output.capacity() > LARGE {
-            self.output = Vec::new();
+        if self.output.is_empty() {
+            self.output.shrink_to(LARGE);
         }
         Ok(())
     }
+}
+
+/// The buffer that a worker has kept, or a new one.
+fn buffer_of(mut kept: Vec<u8>) -> Vec<u8> {
+    kept.reserve_exact(LARGE.saturating_sub(kept.len()));
+    kept
 }
 
 /// Calls again if a signal interrupted the call. `None`: it would block.
@@ -233,13 +242,12 @@ impl Input {
         self.end - self.start
     }
 
-    /// Moves what waits into this buffer, if there is room.
+    /// Moves what waits into this buffer.
     fn move_to(&mut self, mut bytes: Vec<u8>) {
         let length = self.len();
-        if bytes.len() > length {
-            bytes[..length].copy_from_slice(self.waiting());
-            *self = Input { bytes, start: 0, end: length };
-        }
+        bytes.resize(bytes.len().max(length), 0);
+        bytes[..length].copy_from_slice(self.waiting());
+        *self = Input { bytes, start: 0, end: length };
     }
 
     fn waiting(&self) -> &[u8] {
@@ -250,9 +258,8 @@ impl Input {
         self.start += count;
         if self.start == self.end {
             (self.start, self.end) = (0, 0);
-            if self.bytes.len() > LARGE {
-                self.bytes = Vec::new();
-            }
+            self.bytes.truncate(LARGE);
+            self.bytes.shrink_to(LARGE);
         }
     }
 
@@ -264,6 +271,8 @@ impl Input {
         }
         let wanted = (self.end + CHUNK).max(needs.min(2 * self.end));
         if self.bytes.len() < wanted {
+            // What the buffer takes is counted, so it has no more than that.
+            self.bytes.reserve_exact(wanted - self.bytes.len());
             self.bytes.resize(wanted, 0);
         }
     }

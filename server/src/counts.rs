@@ -21,6 +21,8 @@ counts! {
     MetaCommands "cmd_meta",
     GetHits "get_hits",
     GetMisses "get_misses",
+    GetExpired "get_expired",
+    GetFlushed "get_flushed",
     DeleteMisses "delete_misses",
     DeleteHits "delete_hits",
     IncrMisses "incr_misses",

@@ -1,7 +1,9 @@
 //! Items that give way: those in their queue for longest that were not read lately.
 use crate::ceiling::Expected;
 use crate::index::{Outcome, Refused, Stamp};
+use crate::item::Item;
 use crate::queue::{Line, Queued};
+use crate::room::Leaving;
 use crate::slabs;
 use crate::store::{Fault, Store};
 use std::thread::{sleep, yield_now};
@@ -13,9 +15,9 @@ const LOOKS: u32 = 1000;
 /// How often no item could be removed before there is no room. Other threads may be about to add to the queue.
 const FAILURES: u32 = 100;
 
-/// How often a command waits, and how long, until items are freed that have left: a tenth of a second at least. It sleeps, so that a thread that
-/// was stopped while it reads them gets the processor.
-const WAITS: u32 = 500;
+/// How often a command waits, and how long, until items are freed that have left: a second at least, as for the turn at a shard. It sleeps, so that
+/// a thread that was stopped while it reads them gets the processor. If many threads wait for processors, a sleep takes longer, and so does the wait.
+const WAITS: u32 = 5000;
 const WAIT: Duration = Duration::from_micros(200);
 
 /// How often a command looks at the memory and evicts, at most, if the process exceeds its ceiling.
@@ -43,7 +45,7 @@ enum Entry {
     Old,
     /// It goes to the end of this queue.
     Spared(Line),
-    Victim,
+    Victim(Leaving),
 }
 
 impl Store {
@@ -128,7 +130,7 @@ impl Store {
             match self.judge(queued, kept, looked < LOOKS) {
                 Entry::Old => {}
                 Entry::Spared(line) => self.queue.push(Queued { line, ..queued }),
-                Entry::Victim => match self.remove_in(way, queued, kept) {
+                Entry::Victim(leaving) => match self.remove_in(way, queued, leaving, kept) {
                     Ok(true) => return true,
                     Ok(false) => {}
                     Err(_) => {
@@ -142,26 +144,26 @@ impl Store {
     }
 
     /// Removes an item in this way. One that is kept stays. Returns whether the item was still there.
-    fn remove_in(&self, way: Way, queued: Queued<Stamp>, kept: Option<Stamp>) -> Result<bool, Refused> {
+    fn remove_in(&self, way: Way, queued: Queued<Stamp>, leaving: Leaving, kept: Option<Stamp>) -> Result<bool, Refused> {
         let neighbours = if way == Way::WithNeighbours { self.neighbours(queued.entry) } else { Vec::new() };
-        let was_there = self.remove(queued.entry)?;
+        let was_there = self.remove(queued.entry, leaving)?;
         if was_there {
             self.queue.gave_way(queued, queued.entry.hash);
         }
         let stamps = neighbours.into_iter().filter_map(|(hash, at)| self.stamp_at(hash, at));
-        for neighbour in stamps.filter(|stamp| Some(*stamp) != kept) {
+        for (neighbour, leaving) in stamps.filter(|(stamp, _)| Some(*stamp) != kept) {
             // If it can't be removed, it stays. Otherwise it leaves for its place in memory, so its key comes back to the main queue.
-            if let Ok(true) = self.remove(neighbour) {
+            if let Ok(true) = self.remove(neighbour, leaving) {
                 self.queue.gave_way(Queued { entry: neighbour, line: Line::Small, weight: 0 }, neighbour.hash);
             }
         }
         Ok(was_there)
     }
 
-    fn remove(&self, stamp: Stamp) -> Result<bool, Refused> {
+    fn remove(&self, stamp: Stamp, leaving: Leaving) -> Result<bool, Refused> {
         let was_there = matches!(self.index.remove_stamped(stamp)?, Outcome::Done(_));
         if was_there {
-            self.room.count_eviction();
+            self.room.count_gone(leaving);
         }
         Ok(was_there)
     }
@@ -177,12 +179,12 @@ impl Store {
         found
     }
 
-    /// The stamp of the item with this hash, if it lies at this address.
-    fn stamp_at(&self, hash: u64, at: usize) -> Option<Stamp> {
+    /// The stamp of the item with this hash, and what is counted of it, if it lies at this address.
+    fn stamp_at(&self, hash: u64, at: usize) -> Option<(Stamp, Leaving)> {
         let mut stamp = None;
         self.index.peek(hash, &mut |seen| {
             if let Ok(Some((item, token))) = seen {
-                stamp = (slabs::address_of(item) == at).then_some(Stamp { hash, token });
+                stamp = (slabs::address_of(item) == at).then(|| (Stamp { hash, token }, self.leaving(item)));
             }
         });
         stamp
@@ -198,7 +200,7 @@ impl Store {
                         item.set_line(Line::Main);
                         Entry::Spared(Line::Main)
                     } else {
-                        Entry::Victim
+                        Entry::Victim(self.leaving(item))
                     }
                 }
                 Ok(None) => Entry::Old,
@@ -206,6 +208,11 @@ impl Store {
             }
         });
         entry
+    }
+
+    /// What is counted of an item if it gives way now.
+    pub(crate) fn leaving(&self, item: &Item) -> Leaving {
+        Leaving { is_live: self.is_live(item), was_fetched: item.was_fetched() }
     }
 
     /// While the queues are too long, looks at some of their first entries. Those that are not old go to the end of the same queue.

@@ -1,6 +1,7 @@
 //! Items that have expired, or that a flush has hit, go after a while though nobody asks for them.
 use crate::counts::Count;
 use crate::index::{Outcome, Token};
+use crate::room::Leaving;
 use crate::store::{Found, Store};
 use std::time::Duration;
 
@@ -15,24 +16,26 @@ impl Store {
             let mut dead = None;
             self.index.peek_stamped(stamp, &mut |seen| {
                 if let Ok(Some((item, _))) = seen {
-                    dead = (!self.is_live(item)).then(|| item.key().to_vec());
+                    let leaving = self.leaving(item);
+                    dead = (!leaving.is_live).then(|| (item.key().to_vec(), leaving));
                 }
             });
-            if let Some(key) = dead {
-                self.remove_dead(&key, stamp.token);
+            if let Some((key, leaving)) = dead {
+                self.remove_dead(&key, stamp.token, leaving);
             }
         }
         self.tidy();
     }
 
     /// Removes the key's item if it has this token and is not live. The turn keeps a new time to live from coming between.
-    fn remove_dead(&self, key: &[u8], token: Token) {
+    fn remove_dead(&self, key: &[u8], token: Token, leaving: Leaving) {
         let _turn = self.turns.wait(key);
         if !matches!(self.find(key, |_, _| ()), Ok(Found::Dead(found, _)) if found == token) {
             return;
         }
         if matches!(self.index.remove_if(key, token), Ok(Outcome::Done(_))) {
             self.counts.add(Count::Expired);
+            self.room.count_unfetched(leaving);
         }
     }
 

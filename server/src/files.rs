@@ -1,4 +1,4 @@
-//! How many files the process may have open at a time.
+//! Limits of the process: how many files it may have open at a time, and how large its core files may be.
 use std::io;
 use std::mem::MaybeUninit;
 
@@ -11,7 +11,7 @@ const OF_A_WORKER: usize = 4;
 /// Raises the limit of open files if it is too low for so many connections. If the system doesn't allow that, the error says what to do.
 pub fn make_room(connections: usize, workers: usize) -> Result<(), String> {
     let needed = (connections + workers * OF_A_WORKER + OWN) as libc::rlim_t;
-    let mut limit = limit().map_err(|why| format!("the limit of open files can't be read: {why}"))?;
+    let mut limit = limit(libc::RLIMIT_NOFILE).map_err(|why| format!("the limit of open files can't be read: {why}"))?;
     if limit.rlim_cur >= needed {
         return Ok(());
     }
@@ -20,18 +20,28 @@ pub fn make_room(connections: usize, workers: usize) -> Result<(), String> {
         return Err(format!("{connections} connections need {needed} open files, and {most} are allowed: choose a smaller -c, or raise `ulimit -Hn`"));
     }
     limit.rlim_cur = needed;
+    set_limit(libc::RLIMIT_NOFILE, limit).map_err(|why| format!("the limit of open files can't be raised to {needed}: {why}"))
+}
+
+/// Lets core files be as large as the system allows.
+pub fn allow_core() -> Result<(), String> {
+    let all = limit(libc::RLIMIT_CORE).map(|limit| libc::rlimit { rlim_cur: limit.rlim_max, ..limit });
+    all.and_then(|all| set_limit(libc::RLIMIT_CORE, all)).map_err(|why| format!("the limit of core files can't be raised: {why}"))
+}
+
+fn set_limit(what: libc::__rlimit_resource_t, limit: libc::rlimit) -> io::Result<()> {
     // SAFETY: the pointer is to a limit that lives.
-    match unsafe { libc::setrlimit(libc::RLIMIT_NOFILE, &limit) } {
+    match unsafe { libc::setrlimit(what, &limit) } {
         0 => Ok(()),
-        _ => Err(format!("the limit of open files can't be raised to {needed}: {}", io::Error::last_os_error())),
+        _ => Err(io::Error::last_os_error()),
     }
 }
 
-fn limit() -> io::Result<libc::rlimit> {
+fn limit(what: libc::__rlimit_resource_t) -> io::Result<libc::rlimit> {
     let mut limit = MaybeUninit::uninit();
     // SAFETY: the pointer is to room for a limit, which the call fills in if it returns 0.
     unsafe {
-        match libc::getrlimit(libc::RLIMIT_NOFILE, limit.as_mut_ptr()) {
+        match libc::getrlimit(what, limit.as_mut_ptr()) {
             0 => Ok(limit.assume_init()),
             _ => Err(io::Error::last_os_error()),
         }

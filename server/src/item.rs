@@ -23,7 +23,7 @@ pub struct About {
     pub flags: u32,
     value: u32,
     key: u8,
-    /// `USED` and `IN_MAIN`. They are hints: if one thread sees another's change late, another item gives way.
+    /// `USED`, `IN_MAIN` and `FETCHED`. They are hints: if one thread sees another's change late, another item gives way.
     marks: AtomicU8,
 }
 
@@ -32,6 +32,9 @@ const USED: u8 = 1;
 
 /// Its entry is in the main queue.
 const IN_MAIN: u8 = 2;
+
+/// It was ever read.
+const FETCHED: u8 = 4;
 
 // SAFETY: `marks` is the last field, and has one byte. Nobody changes the lengths. The memory is that of an allocator.
 unsafe impl Head for About {
@@ -92,19 +95,29 @@ impl About {
 
     /// Whether it has neither expired nor been flushed.
     pub fn is_live(&self, now: u64, flushes: &Flushes) -> bool {
-        now < self.deadline() && !flushes.have_hit(self.born, now)
+        !self.has_expired(now) && !flushes.have_hit(self.born, now)
+    }
+
+    /// Whether its deadline has come.
+    pub fn has_expired(&self, now: u64) -> bool {
+        now >= self.deadline()
     }
 
     /// Notes that it was read.
     pub fn mark_used(&self) {
         if self.marks.load(Relaxed) & USED == 0 {
-            self.marks.fetch_or(USED, Relaxed);
+            self.marks.fetch_or(USED | FETCHED, Relaxed);
         }
     }
 
     /// Whether it was read since the last call of this.
     pub fn take_used(&self) -> bool {
         self.marks.fetch_and(!USED, Relaxed) & USED != 0
+    }
+
+    /// Whether it was ever read.
+    pub fn was_fetched(&self) -> bool {
+        self.marks.load(Relaxed) & FETCHED != 0
     }
 
     /// The queue that has its entry.

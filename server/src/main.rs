@@ -3,13 +3,16 @@ use cefrodild::allocator;
 use cefrodild::audit::Audit;
 use cefrodild::ceiling::Ceiling;
 use cefrodild::complain::complain;
+use cefrodild::daemon;
 use cefrodild::files;
+use cefrodild::listen::{Listener, Place};
 use cefrodild::objects::Objects;
 use cefrodild::options::{parse, Asked, Options, HELP};
 use cefrodild::room::Room;
-use cefrodild::server::Server;
+use cefrodild::server::{named, Server};
 use cefrodild::slabs;
 use cefrodild::store::Store;
+use cefrodild::user::become_user;
 use std::env;
 use std::error::Error;
 use std::ffi::OsString;
@@ -54,8 +57,11 @@ fn tell(text: &str) -> ExitCode {
 }
 
 fn serve(options: Options) -> Result<(), Box<dyn Error>> {
-    let Options { listen, threads, memory, items, connections, .. } = options;
-    files::make_room(connections, threads)?;
+    let Options { threads, memory, items, is_verbose, .. } = options;
+    let starter = options.detaches.then(daemon::detach).transpose()?;
+    let listeners = prepare(&options)?;
+    let file = options.process_file.as_deref();
+    let _own_file = file.map(|file| daemon::write_number(file).map_err(|why| named(&file.display(), &why))).transpose()?;
     allocator::set_up();
     if let Err(why) = slabs::set_up(ADDRESSES * memory) {
         complain(format_args!(
@@ -71,7 +77,23 @@ fn serve(options: Options) -> Result<(), Box<dyn Error>> {
     }
     room.set_limit(ceiling.room());
     let store = Arc::new(Store::new(Box::new(index), room, options).below(ceiling));
-    // If nobody reads that, the server goes on.
-    Server::run(store, listen, |address| drop(writeln!(io::stdout(), "cefrodild: listening on {address}")))?;
+    let told: String = listeners.iter().map(|listener| format!("cefrodild: listening on {listener}\n")).collect();
+    Server::run(store, listeners, || {
+        // If nobody reads that, the server goes on.
+        drop(io::stdout().write_all(told.as_bytes()).and_then(|()| io::stdout().flush()));
+        starter.map_or(Ok(()), |starter| starter.tell_ready(is_verbose))
+    })?;
     log.map_or(Ok(()), |log| log.end()).map_err(Into::into)
+}
+
+/// Sets the limits of the process, listens, and then becomes the user's.
+fn prepare(options: &Options) -> Result<Vec<Listener>, Box<dyn Error>> {
+    files::make_room(options.connections, options.threads)?;
+    if options.dumps_core {
+        files::allow_core()?;
+    }
+    let listen = |place: &Place| place.listen().map_err(|why| named(place, &why));
+    let listeners = options.listen.iter().map(listen).collect::<io::Result<Vec<_>>>()?;
+    options.user.as_deref().map_or(Ok(()), become_user).map_err(|why| format!("-u: {why}"))?;
+    Ok(listeners.into_iter().flatten().collect())
 }

@@ -3,7 +3,7 @@ use crate::answers;
 use crate::audit::{digest, Audit};
 use crate::index::{Index, Outcome, Refused, Seen, Stamp, Token};
 use crate::item::{About, Item, NewItem};
-use crate::room::{cost, Room};
+use crate::room::{cost, Leaving, Room};
 use cefrodil_map::{BytesMap, IfError, Inserted, Look, OpenError, Put, Reason};
 use std::cell::Cell;
 use std::hash::{BuildHasher, RandomState};
@@ -62,7 +62,7 @@ impl Objects {
         let listener = move |item: &Item, reason| {
             room.leave(cost_of(item));
             if reason == Reason::Evicted {
-                room.count_eviction();
+                room.count_gone(Leaving { is_live: true, was_fetched: item.was_fetched() });
                 EVICTED.set(is_logged.then(|| hash_of.hash_one(item.key())));
             }
         };

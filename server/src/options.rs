@@ -1,24 +1,37 @@
 //! The command line, with memcached's names.
+use crate::listen::Place;
 use crate::objects::BYTES_OF_AN_ENTRY;
-use std::net::{IpAddr, Ipv4Addr, SocketAddr};
+use std::net::{IpAddr, SocketAddr};
+use std::path::PathBuf;
 
 /// What `--help` prints.
 pub const HELP: &str = "\
 cefrodild: a cache server that speaks memcached's text protocol
 
--p, --port=N           TCP port (11211; 0: any that is free)
--l, --listen=ADDRESS   address to listen on (127.0.0.1)
--U, --udp-port=0       there is no UDP, so only 0 is allowed
--t, --threads=N        worker threads, 1 to 64 (4)
--m, --memory-limit=N   megabytes for keys, values and index, at least 16 (64)
--n, --items=N          most items, up to 768000000 (about one for each 162 bytes of the memory limit)
--c, --conn-limit=N     most connections at a time (1024)
--I, --max-item-size=N  longest value in bytes, or with k or m behind it, 1k to 128m (1m)
-    --one-queue        no small queue for new keys: items give way by age and use alone
-    --audit=FILE       log changes and answers for mccheck; one shard
--h, --help             print this
--V, --version          print the version
+-p, --port=N             TCP port (11211; 0: any that is free)
+-l, --listen=HOST        address or name to listen on, also with a port as in 127.0.0.1:11212
+                         (127.0.0.1); may come again, or have several with commas between them
+-s, --unix-socket=FILE   listen on a Unix socket, and not on TCP
+-a, --unix-mask=MODE     its mode, in octal digits (700)
+-U, --udp-port=0         there is no UDP, so only 0 is allowed
+-u, --user=NAME          if root starts the server: the user that it is to become
+-d, --daemon             detach from the terminal, once the server listens
+-P, --pidfile=FILE       write the number of the process to a file, which is removed at the end
+-v, --verbose            with -d: keep the output open. More of them, as in -vv, change nothing
+-r, --enable-coredumps   let core files be as large as the system allows
+-t, --threads=N          worker threads, 1 to 64 (4)
+-m, --memory-limit=N     megabytes for keys, values and index, at least 16 (64)
+-n, --items=N            most items, up to 768000000 (about one for each 162 bytes of the memory limit)
+-c, --conn-limit=N       most connections at a time (1024)
+-I, --max-item-size=N    longest value in bytes, or with k or m behind it, 1k to 128m (1m)
+    --one-queue          no small queue for new keys: items give way by age and use alone
+    --audit=FILE         log changes and answers for mccheck; one shard
+-h, --help               print this
+-V, --version            print the version
 ";
+
+/// Where the server listens if nothing is said.
+const HOST: &str = "127.0.0.1";
 
 const MEGABYTE: usize = 1 << 20;
 
@@ -35,10 +48,21 @@ const MOST_LOGGED: usize = 3_774_873;
 /// The index takes at most this part of the limit.
 const PART_OF_INDEX: usize = 2;
 
-/// What the server is to do.
-#[derive(Clone, Debug, PartialEq, Eq)]
+/// What the server is to do. [`parse`] makes one.
+#[derive(Clone, Debug, Default, PartialEq, Eq)]
 pub struct Options {
-    pub listen: SocketAddr,
+    /// One place at least.
+    pub listen: Vec<Place>,
+    /// Whose process it becomes, if it is root's.
+    pub user: Option<String>,
+    /// Whether it leaves the process that started it.
+    pub detaches: bool,
+    /// Whether its output stays open then.
+    pub is_verbose: bool,
+    /// Whether core files may be as large as the system allows.
+    pub dumps_core: bool,
+    /// A file for the number of the process.
+    pub process_file: Option<PathBuf>,
     pub threads: usize,
     /// The most bytes for items and the index.
     pub memory: usize,
@@ -63,9 +87,16 @@ pub enum Asked {
 }
 
 /// The names of an option: its letter, its long name, and whether a value follows.
-const NAMES: [(char, &str, bool); 12] = [
+const NAMES: [(char, &str, bool); 19] = [
     ('p', "port", true),
     ('l', "listen", true),
+    ('s', "unix-socket", true),
+    ('a', "unix-mask", true),
+    ('u', "user", true),
+    ('d', "daemon", false),
+    ('P', "pidfile", true),
+    ('v', "verbose", false),
+    ('r', "enable-coredumps", false),
     ('U', "udp-port", true),
     ('t', "threads", true),
     ('m', "memory-limit", true),
@@ -81,40 +112,104 @@ const NAMES: [(char, &str, bool); 12] = [
 /// The letters of options that have a long name alone.
 const UNUSED: [char; 2] = ['A', 'Q'];
 
+/// What the words have said so far.
+struct Given {
+    port: u16,
+    hosts: Vec<String>,
+    file: Option<PathBuf>,
+    mode: u32,
+    megabytes: usize,
+    items: Option<usize>,
+    /// All else. What follows from the fields above is missing there.
+    options: Options,
+}
+
 /// Reads the words of the command line, without the program's name.
 pub fn parse(words: impl IntoIterator<Item = String>) -> Result<Asked, String> {
-    let mut words = words.into_iter();
-    let (mut port, mut address) = (11211, IpAddr::V4(Ipv4Addr::LOCALHOST));
-    let (mut threads, mut megabytes, mut items, mut connections, mut longest) = (4, 64, None, 1024, MEGABYTE);
-    let (mut one_queue, mut audit) = (false, None);
+    let (mut words, mut given) = (words.into_iter(), Given::default());
     while let Some(word) = words.next() {
         let (letter, value) = option(&word, &mut words)?;
         match letter {
-            'p' => port = within(&word, &value, 0..=65535)?,
-            'l' => address = value.parse().map_err(|_| format!("{word}: '{value}' is no address"))?,
-            'U' => drop(within(&word, &value, 0..=0)?),
-            't' => threads = within(&word, &value, 1..=64)?,
-            'm' => megabytes = within(&word, &value, 16..=1 << 20)?,
-            'n' => items = Some(within(&word, &value, 1..=MOST_ITEMS)?),
-            'c' => connections = within(&word, &value, 1..=1 << 20)?,
-            'I' => longest = size(&word, &value)?,
-            'Q' => one_queue = true,
-            'A' => audit = Some(value),
             'h' => return Ok(Asked::Help),
-            _ => return Ok(Asked::Version),
+            'V' => return Ok(Asked::Version),
+            _ => given.take(letter, &word, value)?,
         }
     }
-    let memory = megabytes * MEGABYTE;
-    let listen = SocketAddr::new(address, port as u16);
-    let most = if audit.is_some() { MOST_LOGGED } else { MOST_ITEMS };
-    let items = items.unwrap_or_else(|| items_for(memory).min(most));
-    if items > most {
-        return Err(format!("-n: with --audit there are at most {most} items"));
+    given.options().map(Asked::Serve)
+}
+
+impl Default for Given {
+    fn default() -> Given {
+        let options = Options { threads: 4, connections: 1024, longest: MEGABYTE, ..Options::default() };
+        Given { port: 11211, hosts: Vec::new(), file: None, mode: 0o700, megabytes: 64, items: None, options }
     }
-    if items > memory / PART_OF_INDEX / BYTES_OF_AN_ENTRY {
-        return Err(format!("-n: the index of {items} items would take half of the memory limit, or more"));
+}
+
+impl Given {
+    fn take(&mut self, letter: char, word: &str, value: String) -> Result<(), String> {
+        let options = &mut self.options;
+        match letter {
+            'p' => self.port = within(word, &value, 0..=65535)? as u16,
+            'l' => self.hosts.extend(value.split(',').map(str::to_owned)),
+            's' => self.file = Some(path(word, value)?),
+            'a' => self.mode = octal(word, &value)?,
+            'u' => options.user = Some(value),
+            'd' => options.detaches = true,
+            'P' => options.process_file = Some(path(word, value)?),
+            'v' => options.is_verbose = true,
+            'r' => options.dumps_core = true,
+            'U' => drop(within(word, &value, 0..=0)?),
+            't' => options.threads = within(word, &value, 1..=64)?,
+            'm' => self.megabytes = within(word, &value, 16..=1 << 20)?,
+            'n' => self.items = Some(within(word, &value, 1..=MOST_ITEMS)?),
+            'c' => options.connections = within(word, &value, 1..=1 << 20)?,
+            'I' => options.longest = size(word, &value)?,
+            'Q' => options.one_queue = true,
+            _ => options.audit = Some(value),
+        }
+        Ok(())
     }
-    Ok(Asked::Serve(Options { listen, threads, memory, items, connections, longest, one_queue, audit }))
+
+    fn options(self) -> Result<Options, String> {
+        let memory = self.megabytes * MEGABYTE;
+        let most = if self.options.audit.is_some() { MOST_LOGGED } else { MOST_ITEMS };
+        let items = self.items.unwrap_or_else(|| items_for(memory).min(most));
+        if items > most {
+            return Err(format!("-n: with --audit there are at most {most} items"));
+        }
+        if items > memory / PART_OF_INDEX / BYTES_OF_AN_ENTRY {
+            return Err(format!("-n: the index of {items} items would take half of the memory limit, or more"));
+        }
+        let file = self.file.map(|file| Place::File(file, self.mode));
+        Ok(Options { listen: places(self.hosts, self.port, file)?, memory, items, ..self.options })
+    }
+}
+
+/// The places to listen at. With a Unix socket there is no other one.
+fn places(hosts: Vec<String>, port: u16, file: Option<Place>) -> Result<Vec<Place>, String> {
+    if let Some(file) = file {
+        return Ok(vec![file]);
+    }
+    let hosts = if hosts.is_empty() { vec![HOST.to_owned()] } else { hosts };
+    hosts.iter().map(|host| place(host, port)).collect()
+}
+
+/// An address or a name, and its own port behind a colon if it has one.
+fn place(host: &str, port: u16) -> Result<Place, String> {
+    if host.parse::<IpAddr>().is_ok() {
+        return Ok(Place::Host(host.to_owned(), port));
+    }
+    if let Ok(address) = host.parse::<SocketAddr>() {
+        return Ok(Place::Host(address.ip().to_string(), address.port()));
+    }
+    let (name, port) = match host.rsplit_once(':') {
+        Some((name, port)) => (name, port.parse().map_err(|_| format!("-l: '{host}' has no port from 0 to 65535"))?),
+        None => (host, port),
+    };
+    if name.is_empty() || name.contains([':', '[', ']', ' ']) {
+        return Err(format!("-l: '{host}' is no address and no name"));
+    }
+    Ok(Place::Host(name.to_owned(), port))
 }
 
 /// How many items the index has if nothing says how many. If that is less than a fourth above what fills tables well, it is that.
@@ -146,6 +241,10 @@ fn option(word: &str, words: &mut impl Iterator<Item = String>) -> Result<(char,
         (true, Some(value)) => Ok((letter, value.to_owned())),
         (true, None) => words.next().map(|value| (letter, value)).ok_or_else(|| format!("{word} needs a value")),
         (false, None) => Ok((letter, String::new())),
+        // As in -vv.
+        (false, Some(value)) if !word.starts_with("--") && value.chars().all(|again| again == letter) => {
+            Ok((letter, String::new()))
+        }
         (false, Some(_)) => Err(format!("{word} takes no value")),
     }
 }
@@ -156,6 +255,18 @@ fn within(word: &str, value: &str, range: std::ops::RangeInclusive<usize>) -> Re
         (least, most) if least == most => format!("{word}: only {least} is allowed, and not '{value}'"),
         (least, most) => format!("{word}: '{value}' is no number from {least} to {most}"),
     })
+}
+
+fn octal(word: &str, value: &str) -> Result<u32, String> {
+    let mode = u32::from_str_radix(value, 8).ok().filter(|mode| *mode <= 0o777);
+    mode.ok_or_else(|| format!("{word}: '{value}' is no octal number from 0 to 777"))
+}
+
+fn path(word: &str, value: String) -> Result<PathBuf, String> {
+    if value.is_empty() {
+        return Err(format!("{word} needs a file"));
+    }
+    Ok(value.into())
 }
 
 fn size(word: &str, value: &str) -> Result<usize, String> {

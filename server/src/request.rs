@@ -8,6 +8,9 @@ pub const LONGEST_KEY: usize = 250;
 /// The most words of a command line that are kept apart. No command but those of keys and flags has as many.
 const WORDS: usize = 9;
 
+/// The last class of items that clients may ask for, as to memcached.
+const LAST_CLASS: u64 = 63;
+
 /// What a command line asks for.
 #[derive(Debug, PartialEq, Eq)]
 pub enum Request<'a> {
@@ -24,6 +27,8 @@ pub enum Request<'a> {
     Flush(i64),
     /// `stats`, with what it is asked for.
     Stats(&'a [u8]),
+    /// `stats cachedump`, with a class of items, and the most items that are to be listed. 0: any number.
+    Dump(u64, u64),
     Version,
     /// It changes nothing.
     Verbosity,
@@ -152,6 +157,7 @@ fn classic<'a>(name: &[u8], words: &[&'a [u8]], line: &'a [u8], is_quiet: bool) 
         (b"flush_all", 1..=3) if count == 1 + usize::from(is_quiet) => Ok(Request::Flush(0)),
         (b"flush_all", 2 | 3) => Ok(Request::Flush(number::integer(words[1]).ok_or(EXPTIME)?)),
         (b"verbosity", 2 | 3) => number::unsigned(words[1]).map(|_| Request::Verbosity).ok_or(FORMAT),
+        (b"stats", _) if words.get(1) == Some(&b"cachedump".as_slice()) => dump(words),
         (b"stats", _) => Ok(Request::Stats(words.get(1).copied().unwrap_or_default())),
         (b"version", _) => Ok(Request::Version),
         (b"quit", _) => Ok(Request::Quit),
@@ -191,6 +197,15 @@ fn compare<'a>(words: &[&'a [u8]]) -> Result<Request<'a>, Refusal> {
 fn change<'a>(words: &[&'a [u8]], change: fn(u64) -> Change) -> Result<Request<'a>, Refusal> {
     let key = key(words[1])?;
     Ok(Request::Change(key, change(number::unsigned(words[2]).ok_or(DELTA)?)))
+}
+
+fn dump<'a>(words: &[&'a [u8]]) -> Result<Request<'a>, Refusal> {
+    let &[_, _, class, most, ..] = words else { return Err(refusal("CLIENT_ERROR bad command line")) };
+    match (number::unsigned(class), number::unsigned(most)) {
+        (Some(class), Some(most)) if class <= LAST_CLASS => Ok(Request::Dump(class, most)),
+        (Some(_), Some(_)) => Err(refusal("CLIENT_ERROR Illegal slab id")),
+        _ => Err(FORMAT),
+    }
 }
 
 /// Old clients send a time, which must be 0.

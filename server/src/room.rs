@@ -21,6 +21,16 @@ pub struct Room {
     taken: AtomicU64,
     items: AtomicU64,
     evicted: AtomicU64,
+    evicted_unfetched: AtomicU64,
+    reclaimed: AtomicU64,
+    expired_unfetched: AtomicU64,
+}
+
+/// What is counted of an item that goes though no client removes it.
+#[derive(Clone, Copy, Debug)]
+pub struct Leaving {
+    pub is_live: bool,
+    pub was_fetched: bool,
 }
 
 /// The bytes of an item.
@@ -90,11 +100,39 @@ impl Room {
     }
 
     /// Counts an item that gave way, to the limit or to a new key in a full index.
-    pub fn count_eviction(&self) {
-        self.evicted.fetch_add(1, Relaxed);
+    pub fn count_gone(&self, leaving: Leaving) {
+        let gone = if leaving.is_live { &self.evicted } else { &self.reclaimed };
+        gone.fetch_add(1, Relaxed);
+        self.count_unfetched(leaving);
     }
 
-    /// How many gave way.
+    /// Counts an item that went, if it was never read.
+    pub fn count_unfetched(&self, leaving: Leaving) {
+        if !leaving.was_fetched {
+            let unfetched = if leaving.is_live { &self.evicted_unfetched } else { &self.expired_unfetched };
+            unfetched.fetch_add(1, Relaxed);
+        }
+    }
+
+    /// Each name of these counts with its number.
+    pub fn gone(&self) -> [(&'static str, u64); 4] {
+        let counts = [
+            ("evictions", &self.evicted),
+            ("evicted_unfetched", &self.evicted_unfetched),
+            ("reclaimed", &self.reclaimed),
+            ("expired_unfetched", &self.expired_unfetched),
+        ];
+        counts.map(|(name, count)| (name, count.load(Relaxed)))
+    }
+
+    /// Begins these counts anew at 0.
+    pub fn reset_gone(&self) {
+        for count in [&self.evicted, &self.evicted_unfetched, &self.reclaimed, &self.expired_unfetched] {
+            count.store(0, Relaxed);
+        }
+    }
+
+    /// How many live items gave way.
     pub fn evicted(&self) -> u64 {
         self.evicted.load(Relaxed)
     }

@@ -3,26 +3,25 @@ use crate::accept::accept_some;
 use crate::complain::{complain, complain_at_times, Last};
 use crate::connection::Connection;
 use crate::counts::{self, Count};
+use crate::listen::{Listener, Stream};
 use crate::signal;
 use crate::store::Store;
 use crate::worker::{Inbox, Worker};
-use mio::net::{TcpListener, TcpStream};
 use mio::unix::SourceFd;
 use mio::{Events, Interest, Poll, Token};
 use std::fmt::Display;
 use std::io::{self, ErrorKind, Write};
-use std::net::SocketAddr;
 use std::os::fd::AsRawFd;
 use std::sync::Arc;
 use std::thread;
 
-const LISTENER: Token = Token(0);
-const SIGNAL: Token = Token(1);
+/// The token of the file of signals. Those of listeners are smaller.
+const SIGNAL: Token = Token(usize::MAX);
 
-/// Listens at an address.
+/// Accepts at some places.
 #[derive(Debug)]
 pub struct Server {
-    listener: TcpListener,
+    listeners: Vec<Listener>,
     workers: Workers,
 }
 
@@ -40,13 +39,14 @@ pub fn named(what: &impl Display, why: &io::Error) -> io::Error {
 }
 
 impl Server {
-    /// Listens, and ends at SIGTERM or SIGINT, when what clients have sent is answered. `is_ready` gets the address.
-    pub fn run(store: Arc<Store>, address: SocketAddr, is_ready: impl FnOnce(SocketAddr)) -> io::Result<()> {
+    /// Serves clients, and ends at SIGTERM, SIGINT or SIGUSR1, when what clients have sent is answered. Calls `ready` when it can serve.
+    pub fn run(store: Arc<Store>, mut listeners: Vec<Listener>, ready: impl FnOnce() -> io::Result<()>) -> io::Result<()> {
         let signal = signal::file()?;
         counts::take_place(store.options.threads);
         let mut poll = Poll::new()?;
-        let mut listener = TcpListener::bind(address).map_err(|why| named(&address, &why))?;
-        poll.registry().register(&mut listener, LISTENER, Interest::READABLE)?;
+        for (index, listener) in listeners.iter_mut().enumerate() {
+            poll.registry().register(listener, Token(index), Interest::READABLE)?;
+        }
         poll.registry().register(&mut SourceFd(&signal.as_raw_fd()), SIGNAL, Interest::READABLE)?;
         let (mut inboxes, mut threads) = (Vec::new(), Vec::new());
         for index in 0..store.options.threads {
@@ -54,8 +54,8 @@ impl Server {
             inboxes.push(inbox);
             threads.push(thread::Builder::new().name(format!("worker {index}")).spawn(move || worker.run(index))?);
         }
-        is_ready(listener.local_addr()?);
-        let mut server = Server { listener, workers: Workers { store, inboxes, handed: 0 } };
+        ready()?;
+        let mut server = Server { listeners, workers: Workers { store, inboxes, handed: 0 } };
         server.accept_all(&mut poll)?;
         drop(server);
         threads.into_iter().try_for_each(|thread| thread.join().unwrap_or_else(|_| Err(ErrorKind::Other.into())))
@@ -71,13 +71,15 @@ impl Server {
             if events.iter().any(|event| event.token() == SIGNAL) {
                 return Ok(());
             }
-            timeout = accept_some(|| self.listener.accept(), |(stream, _)| self.workers.hand(stream));
+            let accepted =
+                self.listeners.iter().map(|listener| accept_some(|| listener.accept(), |stream| self.workers.hand(stream)));
+            timeout = accepted.flatten().min();
         }
     }
 }
 
 impl Workers {
-    fn hand(&mut self, mut stream: TcpStream) {
+    fn hand(&mut self, mut stream: Stream) {
         let Some(seat) = self.store.seats.take() else {
             static LAST: Last = Last::new(None);
             self.store.counts.add(Count::Rejected);
@@ -92,8 +94,7 @@ impl Workers {
         self.store.counts.add(Count::Connections);
         self.handed += 1;
         let inbox = &self.inboxes[self.handed % self.inboxes.len()];
-        let handed = stream.set_nodelay(true).and_then(|()| inbox.hand(Connection::new(stream, seat)));
-        if let Err(why) = handed {
+        if let Err(why) = inbox.hand(Connection::new(stream, seat)) {
             complain(format_args!("a client is lost: {why}"));
         }
     }

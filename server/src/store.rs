@@ -2,7 +2,7 @@
 use crate::ceiling::Ceiling;
 use crate::clock::Clock;
 use crate::counts::{Count, Counts};
-use crate::index::{Index, Refused, Token};
+use crate::index::{Index, Refused, Seen, Token};
 use crate::item::{Flushes, Item};
 use crate::options::Options;
 use crate::queue::{Line, Queue};
@@ -109,7 +109,7 @@ impl Store {
                     self.counts.add(Count::GetHits);
                     goes_on = each(position, item, token);
                 }
-                seen => self.count_miss(seen.is_err()),
+                seen => self.count_miss(seen, now),
             }
         });
         self.counts.add_many(Count::Gets, looked as u64);
@@ -136,10 +136,13 @@ impl Store {
         keys.len()
     }
 
-    fn count_miss(&self, is_busy: bool) {
+    fn count_miss(&self, seen: Seen<'_>, now: u64) {
         self.counts.add(Count::GetMisses);
-        if is_busy {
-            self.counts.add(Count::Busy);
+        match seen {
+            Ok(Some((item, _))) if item.has_expired(now) => self.counts.add(Count::GetExpired),
+            Ok(Some(_)) => self.counts.add(Count::GetFlushed),
+            Ok(None) => {}
+            Err(_) => self.counts.add(Count::Busy),
         }
     }
 

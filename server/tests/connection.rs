@@ -1,6 +1,7 @@
 //! Connections of clients, turn by turn.
 mod plain;
 use cefrodild::connection::{Connection, Next};
+use cefrodild::listen::Stream;
 use plain::client::{Client, MEGABYTE};
 use std::io::{ErrorKind, Read, Write};
 use std::net::{Shutdown, TcpListener, TcpStream};
@@ -31,7 +32,7 @@ impl Both {
         let arrived = accepted.try_clone().expect("there is a descriptor");
         let client = Client::new(4 * MEGABYTE);
         let seat = client.store.seats.take().expect("a seat is free");
-        Both { client, connection: Connection::new(mio::net::TcpStream::from_std(accepted), seat), arrived, stream }
+        Both { client, connection: Connection::new(Stream::Tcp(mio::net::TcpStream::from_std(accepted)), seat), arrived, stream }
     }
 
     fn turn(&mut self) -> Next {
@@ -217,6 +218,17 @@ fn bytes_that_wait_are_counted_once() {
     }
     let of = |sought| both.client.store.counts.sums().find(|(name, _)| *name == sought).map(|(_, sum)| sum);
     assert_eq!(of("bytes_written"), Some(waiting as u64));
+}
+
+#[test]
+fn a_client_holds_no_more_than_it_needs() {
+    let mut both = Both::new();
+    assert_eq!(both.send(b"set k 0 0 700000\r\n"), Next::Event);
+    for _ in 0..12 {
+        assert_eq!(both.send(&[b'x'; 50_000]), Next::Event);
+    }
+    let held = both.client.store.seats.bytes();
+    assert!((600_000..701_000).contains(&held), "{held}");
 }
 
 #[test]

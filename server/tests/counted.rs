@@ -37,10 +37,10 @@ fn lookups_and_new_times_to_live() {
     assert_counts(&[
         ("get n\n", "cmd_get get_hits"),
         ("get none\n", "cmd_get get_misses"),
-        ("get gone\n", "cmd_get get_misses"),
+        ("get gone\n", "cmd_get get_misses get_expired"),
         ("gets n t none\n", "3*cmd_get 2*get_hits get_misses"),
         ("gat 0 n t none\n", "3*cmd_get 3*cmd_touch 2*get_hits get_misses 2*touch_hits touch_misses"),
-        ("gats 0 gone\n", "cmd_get cmd_touch get_misses touch_misses"),
+        ("gats 0 gone\n", "cmd_get cmd_touch get_misses get_expired touch_misses"),
         ("touch n 0\n", "cmd_touch touch_hits"),
         ("touch n 0 noreply\n", "cmd_touch touch_hits"),
         ("touch none 0\n", "cmd_touch touch_misses"),

@@ -32,6 +32,18 @@ fn a_value_may_have_any_bytes() {
 }
 
 #[test]
+fn an_answer_takes_no_more_than_its_value() {
+    let mut client = Client::new(4 * MEGABYTE);
+    client.ask(&format!("set k 0 0 {MEGABYTE}\n{}\n", "x".repeat(MEGABYTE)));
+    for line in ["get k\r\n", "mg k v\r\n"] {
+        let mut answer = Vec::new();
+        let mut dialogue = Dialogue::default();
+        while dialogue.turn(&client.store, line.as_bytes(), &mut answer).1 == Turn::HasMore && answer.is_empty() {}
+        assert!(answer.len() > MEGABYTE && answer.capacity() < MEGABYTE + 200, "{}", answer.capacity());
+    }
+}
+
+#[test]
 fn no_false_answer() {
     let mut client = Client::new(MEGABYTE);
     assert_eq!(client.ask("set a 0 0 1\n1\n"), "STORED\n");

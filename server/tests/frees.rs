@@ -4,8 +4,11 @@ use cefrodild::options::{parse, Asked};
 use cefrodild::request::{How, Order};
 use cefrodild::room::Room;
 use cefrodild::store::{Answer, Fault, Store};
+use std::sync::atomic::{AtomicBool, Ordering::SeqCst};
+use std::sync::mpsc::channel;
 use std::sync::Arc;
-use std::thread;
+use std::thread::{self, sleep};
+use std::time::Duration;
 
 const LIMIT: u64 = 1 << 20;
 
@@ -70,6 +73,28 @@ fn what_waits_for_a_reader_is_bounded() {
         assert!(store.room.waiting() < LIMIT / 2);
     }
     assert_eq!(store.room.evicted(), 0, "no other item makes room for what waits");
+}
+
+#[test]
+fn a_put_waits_for_a_reader_that_was_stopped() {
+    let store = store(LIMIT);
+    assert!(matches!(set(&store, b"key", 1_000), Ok(Answer::Done(_))));
+    let ((tell, told), has_read) = (channel(), AtomicBool::new(false));
+    thread::scope(|threads| {
+        threads.spawn(|| {
+            store.look(&[b"key"], |_, _, _| {
+                tell.send(()).expect("the other thread waits");
+                sleep(Duration::from_millis(700));
+                has_read.store(true, SeqCst);
+                true
+            })
+        });
+        told.recv().expect("the key is found");
+        for _ in 0..2 * LIMIT / 50_000 {
+            assert!(matches!(set(&store, b"other", 50_000), Ok(Answer::Done(_))));
+        }
+        assert!(has_read.load(SeqCst), "the puts need more room than there is while it reads");
+    });
 }
 
 #[test]

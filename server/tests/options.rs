@@ -1,8 +1,15 @@
 //! The command line.
+use cefrodild::listen::Place;
 use cefrodild::options::{parse, Asked, Options, HELP};
+use std::path::Path;
 
 fn read(words: &str) -> Result<Asked, String> {
     parse(words.split_whitespace().map(str::to_owned))
+}
+
+/// The places to listen at, with spaces between them.
+fn places(words: &str) -> String {
+    options(words).listen.iter().map(Place::to_string).collect::<Vec<_>>().join(" ")
 }
 
 fn options(words: &str) -> Options {
@@ -16,7 +23,7 @@ fn options(words: &str) -> Options {
 fn memcached_s_names() {
     let plain = options("");
     assert_eq!(
-        (plain.listen.to_string(), plain.threads, plain.memory, plain.connections, plain.longest),
+        (places(""), plain.threads, plain.memory, plain.connections, plain.longest),
         ("127.0.0.1:11211".into(), 4, 64 << 20, 1024, 1 << 20)
     );
     assert_eq!(plain.items, 414_187, "less than one item for each 162 bytes of the memory limit, so that a table is well filled");
@@ -28,8 +35,8 @@ fn memcached_s_names() {
         options("--port=1234 --listen ::1 --threads=2 --memory-limit 100 --conn-limit=10 --udp-port=0 --max-item-size=2048k");
     assert_eq!(short, long);
     assert_eq!(
-        (short.listen.to_string(), short.threads, short.memory, short.longest),
-        ("[::1]:1234".into(), 2, 100 << 20, 2 << 20)
+        (&short.listen, short.threads, short.memory, short.longest),
+        (&vec![Place::Host("::1".into(), 1234)], 2, 100 << 20, 2 << 20)
     );
     assert_eq!(options("--audit=file -n 1000").items, 1000);
     assert_eq!((options("-m 1048576").items, options("-m 1048576 --audit=file").items), (768_000_000, 3_774_873));
@@ -48,7 +55,18 @@ fn faults() {
         ("-U 1", "-U"),
         ("-t 0", "-t"),
         ("-m 15", "-m"),
-        ("-l nowhere", "'nowhere' is no address"),
+        ("-l a:b", "-l: 'a:b' has no port from 0 to 65535"),
+        ("-l a:65536", "-l: 'a:65536' has no port"),
+        ("-l a,,b", "-l: '' is no address and no name"),
+        ("-l :1", "-l: ':1' is no address"),
+        ("-l [::1]", "-l: '[::1]'"),
+        ("-s", "-s needs a value"),
+        ("--unix-socket=", "--unix-socket= needs a file"),
+        ("-a 1000", "-a: '1000' is no octal number from 0 to 777"),
+        ("-a 8", "-a: '8'"),
+        ("--pidfile=", "--pidfile= needs a file"),
+        ("-vd", "-vd takes no value"),
+        ("--daemon=1", "--daemon=1 takes no value"),
         ("-c 0", "-c"),
         ("-n 0", "-n"),
         ("-t 65", "-t"),
@@ -73,7 +91,10 @@ fn faults() {
 
 #[test]
 fn the_least_and_the_most_of_each_number() {
-    let port = |options: Options| options.listen.port() as usize;
+    let port = |options: Options| match &options.listen[..] {
+        [Place::Host(_, port)] => usize::from(*port),
+        places => panic!("{places:?}"),
+    };
     type Read = fn(Options) -> usize;
     let table: [(&str, &str, Read, usize, usize); 6] = [
         ("-p", "--port", port, 0, 65_535),
@@ -130,12 +151,48 @@ fn addresses() {
         for words in
             [format!("-l {address}"), format!("-l{address}"), format!("--listen={address}"), format!("--listen {address}")]
         {
-            assert_eq!(options(&words).listen.to_string(), shown);
+            assert_eq!(places(&words), shown);
         }
     }
-    for address in ["", "localhost", "1.2.3", "1.2.3.4:5"] {
-        assert!(parse(["-l".to_owned(), address.to_owned()]).is_err(), "{address}");
+    for (words, shown) in [
+        ("-p 5 -l localhost", "localhost:5"),
+        ("-l 1.2.3.4:5 -p 6", "1.2.3.4:5"),
+        ("-l [::1]:5,cache-1.internal:7,::2", "[::1]:5 cache-1.internal:7 [::2]:11211"),
+        ("-l 127.0.0.1 -l 127.0.0.2 -p 1", "127.0.0.1:1 127.0.0.2:1"),
+        ("-s /run/a -l 127.0.0.1 -p 1", "/run/a"),
+    ] {
+        assert_eq!(places(words), shown, "{words}");
     }
+    assert!(parse(["-l".to_owned(), String::new()]).is_err());
+    assert!(parse(["-l".to_owned(), "a b".to_owned()]).is_err());
+}
+
+#[test]
+fn unix_sockets_have_a_mode() {
+    for (words, mode) in
+        [("-s file", 0o700), ("-s file -a 0", 0), ("--unix-mask=777 --unix-socket=file", 0o777), ("-a 0660 -s file", 0o660)]
+    {
+        assert_eq!(options(words).listen, [Place::File("file".into(), mode)], "{words}");
+    }
+}
+
+/// The lines of Debian's file but for `logfile`, which is for another program.
+#[test]
+fn the_options_of_a_service() {
+    let plain = options("");
+    assert_eq!(
+        (plain.user, plain.process_file, plain.detaches, plain.is_verbose, plain.dumps_core),
+        (None, None, false, false, false)
+    );
+    let short = options("-d -v -vv -m 64 -p 11211 -u memcache -l 127.0.0.1 -c 1024 -r -P /run/memcached.pid");
+    assert_eq!((short.user.as_deref(), short.process_file.as_deref()), (Some("memcache"), Some(Path::new("/run/memcached.pid"))));
+    assert!(short.detaches && short.is_verbose && short.dumps_core);
+    assert_eq!(short, options("--daemon --verbose --user=memcache --pidfile=/run/memcached.pid --enable-coredumps"));
+    let each = [options("-d"), options("-v"), options("-vvv"), options("-r")];
+    assert_eq!(
+        each.map(|one| (one.detaches, one.is_verbose, one.dumps_core)),
+        [(true, false, false), (false, true, false), (false, true, false), (false, false, true)]
+    );
 }
 
 #[test]
@@ -153,8 +210,9 @@ fn the_help_names_what_is_accepted() {
         let names = line.split("  ").next().unwrap_or_default();
         let (names, value) = names.split_once('=').unwrap_or((names, ""));
         let value = match value {
-            "ADDRESS" => "::1",
+            "HOST" => "::1",
             "N" => "1024",
+            "MODE" => "660",
             value => value,
         };
         for name in names.split(", -") {
@@ -184,10 +242,11 @@ fn a_value_may_have_any_sign_in_it() {
 
 #[test]
 fn the_help_tells_the_values_of_options_that_are_not_there() {
-    let Options { listen, threads, memory, items, connections, longest, one_queue, audit } = options("");
+    let Options { listen, threads, memory, items, connections, longest, one_queue, audit, .. } = options("");
+    let [Place::Host(host, port)] = &listen[..] else { panic!("{listen:?}") };
     let told = [
-        ("--port=", format!("({}; 0", listen.port())),
-        ("--listen=", format!("({})", listen.ip())),
+        ("--port=", format!("({port}; 0")),
+        ("(127", format!("({host})")),
         ("--threads=", format!("1 to 64 ({threads})")),
         ("--memory-limit=", format!("at least 16 ({})", memory >> 20)),
         ("--items=", format!("one for each {} bytes", memory / items)),

@@ -81,6 +81,28 @@ def unfinished_values(program):
         assert wait_for(other, lambda found: found[b'curr_connections'] == 1)[b'buffer_bytes'] == 0
 
 
+def heap_of(server):
+    """How many bytes the C library's allocator has for blocks that it does not map by themselves: items are among them."""
+    with open(f'/proc/{server.pid}/maps', encoding='ascii') as file:
+        start, end = next(line for line in file if line.endswith('[heap]\n')).split()[0].split('-')
+        return int(end, 16) - int(start, 16)
+
+
+def buffers_lie_apart(program):
+    """What clients send and are answered takes no memory among the items, where it would leave holes."""
+    size = 100_000
+    with running(program, '-t', '1') as (server, port), connect(port) as client:
+        assert ask(client, b'mn\r\n') == b'MN\r\n'
+        before = heap_of(server)
+        line = b'set k 0 0 %d\r\n' % size
+        assert ask(client, line + b'v' * (size + 2) + b'\r\n', b'\nERROR\r\n') == b'CLIENT_ERROR bad data chunk\r\nERROR\r\n'
+        assert heap_of(server) - before < size / 2, heap_of(server) - before
+        assert ask(client, line + b'v' * size + b'\r\n') == b'STORED\r\n'
+        before = heap_of(server)
+        assert len(ask(client, b'get k\r\n', b'END\r\n')) > size
+        assert heap_of(server) - before < size / 2, heap_of(server) - before
+
+
 def expired_items_go(program):
     with running(program, '-t', '2') as (_, port), connect(port) as client:
         commands = b''.join(b'set %d 0 %d 1 noreply\r\nv\r\n' % (key, key % 2) for key in range(2_000))
@@ -100,6 +122,6 @@ def wait_for(client, is_met):
     raise AssertionError(found)
 
 
-for test in [expired_items_go, unfinished_values, sizes_change, large_values_follow_small_ones]:
+for test in [expired_items_go, buffers_lie_apart, unfinished_values, sizes_change, large_values_follow_small_ones]:
     test(sys.argv[1])
-print('resident: 4 tests: ok')
+print('resident: 5 tests: ok')

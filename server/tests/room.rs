@@ -1,5 +1,5 @@
 //! The bytes of items and the seats of clients, each by itself.
-use cefrodild::room::Room;
+use cefrodild::room::{Leaving, Room};
 use cefrodild::seat::Seats;
 
 #[test]
@@ -48,8 +48,16 @@ fn what_has_left_should_not_take_much() {
 fn what_gave_way_is_counted() {
     let room = Room::new(0);
     assert_eq!(room.evicted(), 0);
-    (0..3).for_each(|_| room.count_eviction());
+    for (is_live, was_fetched, times) in [(true, true, 1), (true, false, 2), (false, true, 4), (false, false, 8)] {
+        (0..times).for_each(|_| room.count_gone(Leaving { is_live, was_fetched }));
+    }
+    room.count_unfetched(Leaving { is_live: false, was_fetched: false });
+    room.count_unfetched(Leaving { is_live: false, was_fetched: true });
     assert_eq!(room.evicted(), 3);
+    let counts = [("evictions", 3), ("evicted_unfetched", 2), ("reclaimed", 12), ("expired_unfetched", 9)];
+    assert_eq!(room.gone(), counts);
+    room.reset_gone();
+    assert!(room.gone().iter().all(|(_, count)| *count == 0));
 }
 
 #[test]

@@ -7,6 +7,7 @@ use plain::client::{Client, MEGABYTE};
 use std::process;
 use std::sync::atomic::Ordering::SeqCst;
 use std::thread;
+use std::time::{Duration, Instant};
 
 /// The values of these names in what `stats` answers, with this word behind it.
 fn stats(client: &mut Client, what: &str, names: &str) -> String {
@@ -100,10 +101,11 @@ fn names(client: &mut Client, what: &str) -> Vec<String> {
 fn each_name_is_told_once() {
     let mut client = Client::new(MEGABYTE);
     let mut expected: Vec<_> = "pid uptime time version cefrodild pointer_size max_connections curr_connections threads evictions bytes curr_items \
-        limit_maxbytes cmd_get cmd_set cmd_flush cmd_touch cmd_meta get_hits get_misses delete_misses delete_hits incr_misses incr_hits \
+        limit_maxbytes cmd_get cmd_set cmd_flush cmd_touch cmd_meta get_hits get_misses get_expired get_flushed delete_misses delete_hits incr_misses incr_hits \
         decr_misses decr_hits cas_misses cas_hits cas_badval touch_hits touch_misses store_too_large store_no_memory total_items busy held \
         refused crawler_reclaimed connections_out_of_memory buffer_bytes bytes_limit bytes_waiting bytes_read bytes_written total_connections rejected_connections \
-         stalled_seconds"
+        stalled_seconds rusage_user rusage_system accepting_conns listen_disabled_num connection_structures \
+        evicted_unfetched reclaimed expired_unfetched"
         .split_whitespace()
         .collect();
     expected.sort_unstable();
@@ -153,6 +155,62 @@ fn a_word_that_stats_does_not_know() {
 fn what_clients_ask_for_and_there_is_none_of() {
     let mut client = Client::new(MEGABYTE);
     assert_eq!(client.ask("stats items\nstats slabs\n"), "END\nEND\n");
+    assert_eq!(client.ask("set a 0 0 1\n1\nset b 0 0 1\n1\nstats items\n"), "STORED\nSTORED\nSTAT items:1:number 2\nEND\n");
+}
+
+#[test]
+fn lookups_of_items_that_are_not_live() {
+    let mut client = Client::new(MEGABYTE);
+    client.ask("set a 0 -1 1\n1\nset b 0 0 1\n1\nset c 0 -1 1\n1\nget a b x\n");
+    assert_eq!(stats(&mut client, "", "get_misses get_expired get_flushed get_hits"), "2 1 0 1");
+    client.ask("flush_all\nget b x\nmg b\n");
+    assert_eq!(stats(&mut client, "", "get_misses get_expired get_flushed get_hits"), "5 1 2 1");
+}
+
+#[test]
+fn how_long_it_has_run() {
+    let mut client = Client::new(MEGABYTE);
+    let mut times = || {
+        let text = stats(&mut client, "", "rusage_user rusage_system");
+        text.split(' ').map(|time| time.parse::<f64>().expect("a number")).sum::<f64>()
+    };
+    let before = times();
+    let began = Instant::now();
+    while times() < before + 0.05 {
+        assert!(began.elapsed() < Duration::from_secs(20), "it runs all the time");
+    }
+}
+
+#[test]
+fn connections_are_always_accepted() {
+    let mut client = Client::new(MEGABYTE);
+    let _seat = client.store.seats.take().expect("it is free");
+    assert_eq!(stats(&mut client, "", "accepting_conns listen_disabled_num connection_structures"), "1 0 1");
+}
+
+#[test]
+fn items_that_went_by_themselves() {
+    const NAMES: &str = "evictions evicted_unfetched reclaimed expired_unfetched crawler_reclaimed";
+    let mut client = Client::new(2 * cost(1, 10) as usize);
+    client.ask("set a 0 0 10\n1234567890\nset b 0 0 10\n1234567890\nget a\nset c 0 0 10\n1234567890\n");
+    assert_eq!(stats(&mut client, "", NAMES), "1 1 0 0 0", "b was never read");
+    client.ask("get c\nset d 0 0 10\n1234567890\n");
+    let before = stats(&mut client, "", NAMES);
+    assert!(before.starts_with("2 "), "{before}");
+    client.ask("stats reset\n");
+    assert_eq!(stats(&mut client, "", NAMES), "0 0 0 0 0");
+}
+
+#[test]
+fn expired_items_that_gave_way_were_not_evicted() {
+    const NAMES: &str = "evictions evicted_unfetched reclaimed expired_unfetched crawler_reclaimed";
+    let mut client = Client::new(2 * cost(1, 10) as usize);
+    client.ask("set a 0 -1 10\n1234567890\nset b 0 0 10\n1234567890\nset c 0 0 10\n1234567890\n");
+    assert_eq!(stats(&mut client, "", NAMES), "0 0 1 1 0");
+    let mut client = Client::new(MEGABYTE);
+    client.ask("set a 0 -1 1\n1\nset b 0 100 1\n1\nget b\ntouch b -1\nset c 0 0 1\n1\n");
+    client.store.expire();
+    assert_eq!(stats(&mut client, "", NAMES), "0 0 0 1 2", "b was read once");
 }
 
 #[test]

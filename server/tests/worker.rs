@@ -1,6 +1,7 @@
 //! A worker and its clients.
 mod plain;
 use cefrodild::connection::Connection;
+use cefrodild::listen::Stream;
 use cefrodild::store::Store;
 use cefrodild::worker::{Inbox, Worker};
 use plain::client::{Client, MEGABYTE};
@@ -44,7 +45,9 @@ impl Working {
         let (accepted, _) = self.listener.accept().expect("one has connected");
         accepted.set_nonblocking(true).expect("it is a socket");
         let seat = self.store.seats.take().expect("a seat is free");
-        self.inbox.hand(Connection::new(mio::net::TcpStream::from_std(accepted), seat)).expect("the worker takes it");
+        self.inbox
+            .hand(Connection::new(Stream::Tcp(mio::net::TcpStream::from_std(accepted)), seat))
+            .expect("the worker takes it");
         stream
     }
 

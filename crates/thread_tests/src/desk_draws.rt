@@ -1,6 +1,7 @@
 //! Loads in turns whose workers run one after the other: what comes of them is known beforehand.
 //!
 //! The expected numbers are computed separately: the generator's words, and a plain map.
+use crate::waiting::TURNS;
 use mc_load::{DeskReport, Gate, Load, LoadError, load_desk, load_shards};
 use mc_words::{Mix, Shape};
 use std::alloc::Global;
@@ -8,9 +9,6 @@ use std::sync::atomic::{AtomicU64, Ordering};
 use std::test::Fail;
 use std::thread;
 use std::thread::Threads;
-
-/// How often a waiting loop runs at most.
-const TURNS: u32 = 1 << 26;
 
 /// Lets the writers work one after the other, and then the readers. If it is to refuse a call of a worker, it holds nobody.
 #[derive(Drop)]

@@ -1,13 +1,11 @@
 //! A load at a desk whose workers are held back: each waits for what another has answered, so they run at once.
 ghost use Rattle.std.specs.Prelude.{◌<◌};
 
+use crate::waiting::TURNS;
 use mc_load::{Gate, Load, load_desk};
 use mc_words::{Mix, Shape};
 use std::sync::atomic::{AtomicBool, AtomicU64, Ordering};
 use std::test::Fail;
-
-/// How often a waiting loop runs at most.
-const TURNS: u32 = 1 << 26;
 
 /// The readers are workers 1 to 3, and the writers workers 0 and 4.
 const WORKERS: u32 = 5;

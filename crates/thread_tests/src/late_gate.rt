@@ -1,9 +1,7 @@
 //! A gate that holds the readers of a load until its writer has ended.
+use crate::waiting::TURNS;
 use mc_load::Gate;
 use std::sync::atomic::{AtomicU64, Ordering};
-
-/// How often a waiting loop runs at most.
-const TURNS: u32 = 1 << 26;
 
 /// Holds the readers until the writer's last call is answered, and refuses one call of each worker from `first` on. If it
 /// refuses the writer's, it holds nobody.

@@ -1,13 +1,11 @@
 //! A load whose workers are held back: each waits for what another has answered, so they run at once.
 ghost use Rattle.std.specs.Prelude.{◌<◌};
 
+use crate::waiting::TURNS;
 use mc_load::{Gate, Load, load};
 use mc_words::{Mix, Shape};
 use std::sync::atomic::{AtomicBool, AtomicU64, Ordering};
 use std::test::Fail;
-
-/// How often a waiting loop runs at most.
-const TURNS: u32 = 1 << 26;
 
 /// What the workers have answered: worker 0 is the writer, 1 and 2 are the readers.
 #[derive(Drop)]

@@ -200,8 +200,8 @@ fn key_for(object: u64) -> u64 {
     }
 }
 
-// Puts each object under its key, and after every seventh takes a key out. The object of each entry that gives way is found. Whether no
-// call was refused.
+// Puts each object under its key, and takes a key out after every seventh put. Notes the object of each entry that gives way. Returns whether
+// no call was refused.
 fn put_objects(cache: &Cache<1>, writer: &mut Writer<1>, found: &mut Found) -> bool
     requires { writer.old.of ≡ cache.now }
     ensures { writer.new.of ≡ writer.old.of }

@@ -26,7 +26,7 @@ pub use error::{AbsentError, IfError, Refused};
 pub use look::Look;
 pub use map::ObjectMap;
 pub use put::Put;
-pub use queues::{Line, Queued, Queues};
+pub use queues::{Cursor, Line, Queued, Queues};
 
 #[cfg(test)]
 pub(crate) use epochs::{Epochs, BATCH};

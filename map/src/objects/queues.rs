@@ -57,6 +57,26 @@ pub struct Queued<E> {
     pub weight: u64,
 }
 
+/// A place in the queues, for [`Queues::look_from`]. By default it is that of the first entry.
+#[derive(Clone, Copy, Debug)]
+pub struct Cursor {
+    line: Line,
+    // The entry, counted from the first one that the queue ever had.
+    next: u64,
+}
+
+impl Cursor {
+    fn first_of(line: Line) -> Cursor {
+        Cursor { line, next: 0 }
+    }
+}
+
+impl Default for Cursor {
+    fn default() -> Cursor {
+        Cursor::first_of(Line::Main)
+    }
+}
+
 struct Lines<E> {
     small: Blocks<(E, u64)>,
     main: Blocks<E>,
@@ -64,8 +84,8 @@ struct Lines<E> {
     small_weight: u128,
     /// Which queue is tidied next: each in proportion to its entries.
     turn: usize,
-    /// Which queue is looked at.
-    looked_at: Line,
+    /// Where `look` goes on.
+    looked_at: Cursor,
 }
 
 /// Entries in blocks. All but the last are full.
@@ -76,9 +96,8 @@ struct Blocks<T> {
     /// How many entries of the first block have been taken out.
     taken: usize,
     count: usize,
-    /// How many entries were ever taken out, and which one is looked at next, counted from the first one that ever was.
+    /// How many entries were ever taken out.
     gone: u64,
-    next_look: u64,
 }
 
 impl<E: Copy> Queues<E> {
@@ -97,7 +116,7 @@ impl<E: Copy> Queues<E> {
     /// The main queue alone.
     #[must_use]
     pub fn one() -> Queues<E> {
-        let lines = Lines { small: Blocks::new(), main: Blocks::new(), small_weight: 0, turn: 0, looked_at: Line::Main };
+        let lines = Lines { small: Blocks::new(), main: Blocks::new(), small_weight: 0, turn: 0, looked_at: Cursor::default() };
         Queues { lines: Mutex::new(lines), left: None, is_full: AtomicBool::new(false) }
     }
 
@@ -151,6 +170,17 @@ impl<E: Copy> Queues<E> {
     /// The next entries, at most so many, from where the last call ended. They stay. After the last entry of a queue the other one is next.
     pub fn look(&self, most: usize) -> Vec<E> {
         lock(&self.lines).look(most)
+    }
+
+    /// The next entries from this place on, at most so many, and the place behind them. They stay. `None`: there are no more.
+    pub fn look_from(&self, cursor: Cursor, most: usize) -> (Vec<E>, Option<Cursor>) {
+        let mut seen = Vec::new();
+        let next = match (lock(&self.lines).look_in(cursor, most, &mut seen), cursor.line) {
+            (Some(next), _) => Some(next),
+            (None, Line::Main) => Some(Cursor::first_of(Line::Small)),
+            (None, Line::Small) => None,
+        };
+        (seen, next)
     }
 
     /// How many entries there are.
@@ -212,23 +242,29 @@ impl<E: Copy> Lines<E> {
     fn look(&mut self, most: usize) -> Vec<E> {
         let mut seen = Vec::new();
         for _ in 0..2 {
-            let rest = most - seen.len();
-            let (is_at_end, other) = match self.looked_at {
-                Line::Small => (self.small.look(rest, |(entry, _)| seen.push(*entry)), Line::Main),
-                Line::Main => (self.main.look(rest, |entry| seen.push(*entry)), Line::Small),
-            };
-            if !is_at_end {
+            let cursor = self.looked_at;
+            if let Some(next) = self.look_in(cursor, most - seen.len(), &mut seen) {
+                self.looked_at = next;
                 break;
             }
-            self.looked_at = other;
+            self.looked_at = Cursor::first_of(cursor.line.other());
         }
         seen
+    }
+
+    // The next entries of one queue, at most so many, and the place behind them. `None`: the last one was among them.
+    fn look_in(&self, cursor: Cursor, most: usize, seen: &mut Vec<E>) -> Option<Cursor> {
+        let next = match cursor.line {
+            Line::Small => self.small.look(cursor.next, most, |(entry, _)| seen.push(*entry)),
+            Line::Main => self.main.look(cursor.next, most, |entry| seen.push(*entry)),
+        };
+        next.map(|next| Cursor { next, ..cursor })
     }
 }
 
 impl<T: Copy> Blocks<T> {
     fn new() -> Blocks<T> {
-        Blocks { blocks: VecDeque::new(), spare: None, taken: 0, count: 0, gone: 0, next_look: 0 }
+        Blocks { blocks: VecDeque::new(), spare: None, taken: 0, count: 0, gone: 0 }
     }
 
     fn push(&mut self, entry: T) {
@@ -261,16 +297,14 @@ impl<T: Copy> Blocks<T> {
         (self.blocks.len() + usize::from(self.spare.is_some())) * ENTRIES_OF_A_BLOCK
     }
 
-    // Calls `see` with the next entries, at most so many. Returns whether the last one was among them: then it begins anew at the first.
-    fn look(&mut self, most: usize, mut see: impl FnMut(&T)) -> bool {
-        let first = self.count.min(self.next_look.saturating_sub(self.gone) as usize);
+    // Calls `see` with the entries from this one on, at most so many. Returns which one is next. `None`: the last one was among them.
+    fn look(&self, from: u64, most: usize, mut see: impl FnMut(&T)) -> Option<u64> {
+        let first = self.count.min(from.saturating_sub(self.gone) as usize);
         let end = self.count.min(first + most);
         for place in self.taken + first..self.taken + end {
             see(&self.blocks[place / ENTRIES_OF_A_BLOCK][place % ENTRIES_OF_A_BLOCK]);
         }
-        let is_at_end = end == self.count;
-        self.next_look = if is_at_end { 0 } else { self.gone + end as u64 };
-        is_at_end
+        (end < self.count).then(|| self.gone + end as u64)
     }
 }
 

@@ -8,6 +8,7 @@ mod epochs;
 mod errors;
 mod expiry;
 mod fills;
+mod filters;
 mod flights;
 mod held;
 mod idle;

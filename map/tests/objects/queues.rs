@@ -1,5 +1,5 @@
 //! The order in which entries give way, by itself.
-use cefrodil_map::{Line, Queued, Queues};
+use cefrodil_map::{Cursor, Line, Queued, Queues};
 use std::ops::Range;
 
 type Numbers = Queues<u64>;
@@ -144,4 +144,22 @@ fn both_queues_are_looked_at_in_turn() {
     assert_eq!(queues.look(4), [8, 9, 20, 21]);
     assert_eq!(queues.look(4), [22, 23, 24, 0]);
     assert_eq!(queues.look(100), [1, 2, 3, 4, 5, 6, 7, 8, 9, 20, 21, 22, 23, 24], "each at most once");
+}
+
+#[test]
+fn a_look_from_a_place_moves_no_other_one() {
+    let queues = Numbers::new(100);
+    (0..10).for_each(|entry| queues.push(main(entry)));
+    (20..23).for_each(|entry| queues.push(small(entry, 1)));
+    assert_eq!(queues.look(4), [0, 1, 2, 3]);
+    let (seen, next) = queues.look_from(Cursor::default(), 6);
+    assert_eq!(seen, [0, 1, 2, 3, 4, 5]);
+    assert_eq!(queues.look(2), [4, 5]);
+    (0..8).for_each(|_| assert!(queues.pop_from(Line::Main).is_some()));
+    let (seen, next) = queues.look_from(next.expect("there are more"), 100);
+    assert_eq!(seen, [8, 9], "of one queue, and none that is gone");
+    let (seen, next) = queues.look_from(next.expect("there is the other queue"), 2);
+    assert_eq!(seen, [20, 21]);
+    let (seen, next) = queues.look_from(next.expect("there are more"), 1);
+    assert_eq!((seen, next.is_none()), (vec![22], true));
 }
