@@ -2,7 +2,7 @@
 """How many lookups find their key with a small table or queue for new keys, beside models of other policies.
 
 `Map` and `ObjectMap` of the crate `cefrodil-map`, `map` and `object_map` of C++ and the server make the same lookups, each without and with the small
-table or queue. An `ObjectMap` is bounded by weights, and an `object_map` by its entries or by weights. The server gets its commands without a
+table or queue. An `ObjectMap` and an `object_map` are bounded by the number of their entries or by weights. The server gets its commands without a
 connection. The models are of CLOCK, LRU, S3-FIFO, W-TinyLFU with exact counts, and of the two tables. Of 100,000 keys, number n is drawn in proportion
 to 1 / n ** skew (Zipf). A key that is absent is put.
 
@@ -36,7 +36,8 @@ SKEWS, SIZES = (0.7, 0.99), (KEYS // 100, KEYS // 10)
 
 # What each program calls its caches, and the table's heads.
 CACHES = {
-    'Rust': {'map': '`Map`', 'map+': '`Map`, small table', 'objects': '`ObjectMap`, one queue', 'objects+': '`ObjectMap`',
+    'Rust': {'map': '`Map`', 'map+': '`Map`, small table', 'number': '`ObjectMap`, `one_queue`', 'number+': '`ObjectMap`',
+             'objects': 'by weights, `one_queue`', 'objects+': 'by weights',
              'server': 'server, one queue', 'server+': 'server'},
     'C++': {'map': '`cefrodil::map`', 'map+': '`cefrodil::map`, small table', 'objects': '`object_map`, the index alone', 'objects+': '`object_map`',
             'weights': '`object_map` by weight, one ring', 'weights+': '`object_map` by weight'},

@@ -9,9 +9,11 @@
 #include "cxx_tiers.hpp"
 #include "cxx_weights.hpp"
 #include "rust_epochs.hpp"
+#include "rust_generations.hpp"
 #include "rust_flights.hpp"
 #include "rust_slots.hpp"
 #include "rust_tiers.hpp"
+#include "rust_weights.hpp"
 #include <cstdio>
 #include <cstdlib>
 #include <string>
@@ -59,5 +61,7 @@ int main(int argc, char **argv) {
     explore<RustSlots>("Rust slots", schedules);
     explore<RustEpochs>("Rust epochs", schedules);
     explore<RustTiers>("Rust tiers", schedules);
+    explore<RustGenerations>("Rust generations", schedules);
+    explore<RustWeights>("Rust weights", schedules);
     return faults == 0 ? 0 : 1;
 }

@@ -76,14 +76,14 @@ struct RustFlights : rl::test_suite<RustFlights, 3> {
             const explored::Mutex::Off off("lock of the put");
             const Guard guard(lock);                      //| let mut stripe = self.stripe();
             const bool is_in = std::find(stripe.begin(), stripe.end(), &flight) != stripe.end();
-            other = is_in ? put() : std::nullopt;         //| let other = self.is_in(&stripe).then(put).flatten();
+            other = is_in ? put() : std::nullopt;         //| let published = if self.is_in(&stripe) { put() } else { Published::Outdated(value) };
             leave(flight);                                //| self.leave(&mut stripe);
         }
-        if (!other) {                                     //| if other.is_none() {
+        if (!other) {                                     //| if !matches!(published, Published::Other(_)) {
             const Guard guard(flight.lock);
             flight.outcome = has_value, flight.value = value; //| lock(&self.flight.state).outcome = Outcome::Value(value);
         }
-        return other.value_or(value);                     //| other.unwrap_or(value)
+        return other.value_or(value);                     //| published
     }
     // The leader is dropped.
     void drop(Flight &flight) {
@@ -123,7 +123,7 @@ struct RustFlights : rl::test_suite<RustFlights, 3> {
             return value;
         }
         const int made = store.load(std::memory_order_acquire); //| let value = make()?;
-        return end(own, made, [&]() -> std::optional<int> {     //| Ok(leader.end(value, || self.fill(print, value, tries)))
+        return end(own, made, [&]() -> std::optional<int> {     //| Ok(leader.end(value, || self.fill(print, generation, value, None, tries)).value())
             const bool is_put = entry.compare_exchange(none, made, std::memory_order_acq_rel);
             return is_put ? std::nullopt : std::optional<int>(find());
         });

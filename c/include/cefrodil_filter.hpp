@@ -19,13 +19,9 @@ template <class Parts> class FilterOf {
     explicit FilterOf(uint64_t entries) : count_(entries * cells_of_an_entry), cells_(std::make_unique<Cell[]>(count_)) {}
 
     // Before the key is put.
-    void add(uint64_t key) noexcept {
-        change(key, [](uint8_t keys) { return static_cast<uint8_t>(keys + 1); });
-    }
+    void add(uint64_t key) noexcept { change(key, 1); }
     // After the key has left, or was not put: once for each `add`.
-    void subtract(uint64_t key) noexcept {
-        change(key, [](uint8_t keys) { return static_cast<uint8_t>(keys - 1); });
-    }
+    void subtract(uint64_t key) noexcept { change(key, -1); }
     bool may_have(uint64_t key) const noexcept { return cell(key).load(std::memory_order_seq_cst) != 0; }
 
   private:
@@ -35,10 +31,10 @@ template <class Parts> class FilterOf {
     // A cell that has had so many keys at once stays so: then it may have any key.
     static constexpr uint8_t full = UINT8_MAX;
 
-    template <class Next> void change(uint64_t key, Next next) noexcept {
+    void change(uint64_t key, int more) noexcept {
         Cell &changed = cell(key);
-        uint8_t keys = changed.load(std::memory_order_relaxed);
-        while (keys != full && !changed.compare_exchange_weak(keys, next(keys), std::memory_order_seq_cst)) {
+        uint8_t now = changed.load(std::memory_order_relaxed);
+        while (now != full && !changed.compare_exchange_weak(now, static_cast<uint8_t>(now + more), std::memory_order_seq_cst)) {
         }
     }
     Cell &cell(uint64_t key) const noexcept { return cells_[place_in(count_, mixed(key))]; }

@@ -65,9 +65,9 @@ struct MapOptions {
                             // 1,000 times at most, which takes over a tenth of a second.
     // Whether a full map puts new keys into a small table first, with room for a tenth more entries, and no more shards than these. A key that is found
     // there moves to the main table. So keys that are used once evict none that are used often, and more lookups hit (docs/PERFORMANCE.md). For that
-    // a lookup that misses the main table of a map that was full looks into the small one, too. If it finds the key there, it moves it: that is a
-    // write, for which another entry may be evicted. Each write takes a lock, and a write of a new key looks into both tables. An object_map
-    // has a small queue instead, as its header says.
+    // a lookup that misses the main table of a map that was full looks into the small one, too, if that may have the key. If it finds the key there, it
+    // moves it: that is a write, for which another entry may be evicted. Each write takes a lock, and a write of a new key looks into the main table
+    // first. An object_map has a small queue instead, as its header says.
     bool small_table = true;
 };
 

@@ -21,7 +21,7 @@ inline uint64_t mixed(uint64_t key) noexcept {
 __extension__ typedef unsigned __int128 Wide;
 
 // One of so many places, by the upper bits of a mixed key.
-inline size_t place_in(size_t places, uint64_t mixed) noexcept { return static_cast<size_t>(static_cast<Wide>(mixed) * places >> 64); }
+inline size_t place_in(size_t places, uint64_t spread) noexcept { return static_cast<size_t>(static_cast<Wide>(spread) * places >> 64); }
 
 // Relaxed: it says nothing of other memory. If two threads change a row at once, one change is lost.
 class Sketch {
@@ -72,7 +72,8 @@ class Sketch {
     // No key has the tag 0.
     Noted place_of(uint64_t key) noexcept {
         const uint64_t spread = mixed(key);
-        return {rows_[place_in(used_.load(std::memory_order_relaxed), spread)], static_cast<uint16_t>(1 + (spread >> 4 & 0xfff) % 255)};
+        const size_t row = place_in(used_.load(std::memory_order_relaxed), spread);
+        return {rows_[row], static_cast<uint16_t>(1 + (spread >> 4 & 0xfff) % 255)};
     }
     static uint16_t without(uint16_t tags, uint16_t tag) noexcept {
         const unsigned first = tags & low_tag, second = tags >> bits_of_a_tag;

@@ -1,9 +1,11 @@
 //! A value that a task loads where the map has none, while other tasks wait without blocking a thread.
-use crate::key::Key;
-use crate::flight::{Boarding, Leader, Passenger};
+use crate::error::InsertError;
+use crate::flight::{Leader, Passenger};
 use crate::inner::Inner;
+use crate::key::Key;
 use crate::map::Map;
 use crate::print::Print;
+use crate::published::Published;
 use crate::wait::SLEEPS_FROM;
 use std::borrow::Borrow;
 use std::collections::hash_map::RandomState;
@@ -12,6 +14,7 @@ use std::future::Future;
 use std::hash::BuildHasher;
 use std::pin::Pin;
 use std::task::{Context, Poll};
+use std::time::Duration;
 
 /// What a task finds that wants a key's value: see [`Map::try_board`].
 #[derive(Debug)]
@@ -29,6 +32,8 @@ pub enum Board<V, L, W> {
 pub struct Lead<'a, K: ?Sized, V: Copy, S = RandomState> {
     inner: &'a Inner<K, V, S>,
     print: Print,
+    // In which its load began.
+    generation: u64,
     leader: Leader<'a, V>,
 }
 
@@ -91,18 +96,19 @@ impl<K: Key + ?Sized, V: Copy + Send + Sync + 'static, S: BuildHasher> Map<K, V,
     {
         let inner = &*self.inner;
         let (print, tries) = (inner.print(key), inner.tries.min(TASK_TRIES));
-        if let Some(value) = inner.get(print, tries, |told| told.unwrap_or(None)) {
+        if let Some(value) = inner.get(print.dated(inner.generation.now()), tries, |told| told.unwrap_or(None)) {
             return Board::Found(value);
         }
         let leader = match inner.flights.board_task(print) {
-            Boarding::First(leader) => leader,
-            Boarding::Within => inner.flights.begin_alone(print),
-            Boarding::Other(flight) => return Board::Wait(Wait(Passenger::new(flight))),
+            Ok(leader) => leader,
+            Err(passenger) => return Board::Wait(Wait(passenger)),
         };
+        // After the begin of the flight: an invalidation has detached it, or ended this generation.
+        let generation = inner.generation.now();
         // An earlier flight may have ended since the lookup.
         match inner.find(print, tries) {
             Some(value) => Board::Found(value),
-            None => Board::Lead(Lead { inner, print, leader }),
+            None => Board::Lead(Lead { inner, print, generation, leader }),
         }
     }
 }
@@ -115,8 +121,38 @@ impl<K: Key + ?Sized, V: Copy + Send + Sync + 'static, S: BuildHasher> Lead<'_, 
     /// put either if it finds no place, or if other threads have the turn of its shard at each of some tries: `refused` of [`stats`](Map::stats)
     /// counts that. Its time to live begins now.
     pub fn publish(self, value: V) -> V {
-        let Lead { inner, print, leader } = self;
-        leader.end(value, || inner.fill(print, value, inner.tries.min(TASK_TRIES)))
+        self.try_publish(value).value()
+    }
+
+    /// Like [`publish`](Lead::publish), and says whether the value was put.
+    ///
+    /// ```
+    /// use cefrodil_map::{Board, Map, Published};
+    ///
+    /// let ages = Map::<str, u64>::new(100)?;
+    /// let Board::Lead(lead) = ages.try_board("ann") else { panic!("nobody else loads it") };
+    /// ages.remove("ann")?;
+    /// assert_eq!(lead.try_publish(41), Published::Outdated(41));
+    /// # Ok::<(), Box<dyn std::error::Error>>(())
+    /// ```
+    pub fn try_publish(self, value: V) -> Published<V> {
+        self.end(value, None)
+    }
+
+    /// Like [`try_publish`](Lead::try_publish), with a time to live of its own, as [`insert_for`](Map::insert_for) says. The value is refused with
+    /// [`InsertError::NoTimeToLive`] if the map was opened without one.
+    pub fn publish_for(self, value: V, life: Duration) -> Published<V> {
+        self.end(value, Some(life))
+    }
+
+    fn end(self, value: V, life: Option<Duration>) -> Published<V> {
+        let Lead { inner, print, generation, leader } = self;
+        leader.end(value, || {
+            if life.is_some() && inner.life.is_none() {
+                return Published::Refused { value, why: inner.refused(InsertError::NoTimeToLive.into()) };
+            }
+            inner.fill(print, generation, value, life, inner.tries.min(TASK_TRIES))
+        })
     }
 }
 

@@ -2,6 +2,7 @@
 use crate::clock::Clock;
 use crate::error::OpenError;
 use crate::flight::Flights;
+use crate::generation::Generation;
 use crate::handle::AnyHandle;
 use crate::inner::Inner;
 use crate::map::Map;
@@ -119,8 +120,9 @@ impl<K: ?Sized, V, S> Builder<K, V, S> {
     /// there moves to the main table. So keys that are used once evict none that are used often, and more lookups hit, most of all where many
     /// keys are used once or in scans.
     ///
-    /// For that a lookup that misses the main table of a map that was full looks into the small one, too. If it finds the key there, it moves it: that
-    /// is a write, for which another entry may be evicted. Each write takes a lock, and a write of a new key looks into both tables.
+    /// For that a lookup that misses the main table of a map that was full looks into the small one, too, if that may have the key. If it finds the key
+    /// there, it moves it: that is a write, for which another entry may be evicted. Each write takes a lock, and a write of a new key looks into the main
+    /// table first.
     ///
     /// ```
     /// use cefrodil_map::Map;
@@ -167,6 +169,7 @@ impl<K: ?Sized, V: Copy + Send + Sync + 'static, S: BuildHasher> Builder<K, V, S
             slots,
             tiers,
             flights: Flights::new(),
+            generation: Generation::new(),
             clock: Clock::new(),
             printer: if once { Printer::once(hasher) } else { Printer::twice(hasher) },
             layout,

@@ -1,12 +1,34 @@
-//! The removal of all entries.
-use crate::key::Key;
+//! The end of all entries: by one step, or by a removal of each.
 use crate::error::ClearError;
 use crate::handle::AnyHandle;
+use crate::key::Key;
 use crate::map::Map;
 use crate::stats::Kind;
 use crate::tiers::SmallHandle;
 use crate::wait::LISTS;
 use cefrodil::Removal;
+
+impl<K: ?Sized, V: Copy, S> Map<K, V, S> {
+    /// Invalidates all entries, by one step however many there are. Once this has returned, no lookup finds a value that was put before this call, nor one
+    /// that [`get_or_insert_with`](Map::get_or_insert_with) or a task began to load before it. What a call puts that begins later is found. What a call
+    /// puts meanwhile may be found or not.
+    ///
+    /// The entries stay until they are overwritten or evicted, and [`len`](Map::len) counts them. [`clear`](Map::clear) removes them.
+    ///
+    /// ```
+    /// let rates = cefrodil_map::Map::<str, u64>::new(100)?;
+    /// rates.insert("EUR", 100)?;
+    /// rates.invalidate_all();
+    /// assert_eq!((rates.get("EUR"), rates.len()), (None, 1));
+    /// rates.insert("EUR", 101)?;
+    /// assert_eq!((rates.get("EUR"), rates.len()), (Some(101), 1));
+    /// # Ok::<(), Box<dyn std::error::Error>>(())
+    /// ```
+    pub fn invalidate_all(&self) {
+        self.inner.generation.end();
+        self.inner.flights.detach_all();
+    }
+}
 
 impl<K: Key + ?Sized, V: Copy, S> Map<K, V, S> {
     /// Removes all entries. Once this has returned, no later lookup finds a value that was put before this call, nor one that

@@ -1,15 +1,16 @@
 //! A value that is computed where the map has none.
-use crate::key::Key;
 use crate::error::GetError;
 use crate::flight::{Boarding, Leader};
 use crate::inner::{Found, Inner};
+use crate::key::Key;
 use crate::map::Map;
 use crate::print::Print;
-use crate::stats::Kind;
+use crate::published::Published;
 use crate::wait::LOOKS;
 use std::borrow::Borrow;
 use std::convert::Infallible;
 use std::hash::BuildHasher;
+use std::time::Duration;
 
 impl<K: Key + ?Sized, V: Copy + Send + Sync + 'static, S: BuildHasher> Map<K, V, S> {
     /// The key's value, or else the value that `make` makes, which is put. Threads that want the same key meanwhile wait, and get the same
@@ -41,7 +42,7 @@ impl<K: Key + ?Sized, V: Copy + Send + Sync + 'static, S: BuildHasher> Map<K, V,
     {
         let inner = &self.inner;
         let print = inner.print(key);
-        let mut found = inner.get(print, inner.looks(), |told| told.unwrap_or(None));
+        let mut found = inner.get(print.dated(inner.generation.now()), inner.looks(), |told| told.unwrap_or(None));
         loop {
             if let Some(value) = found {
                 return Ok(value);
@@ -66,7 +67,7 @@ impl<K: Key + ?Sized, V: Copy + Send + Sync + 'static, S: BuildHasher> Map<K, V,
     {
         let inner = &self.inner;
         let print = inner.print(key);
-        if let Some(value) = inner.get(print, 1, |told| told)? {
+        if let Some(value) = inner.get(print.dated(inner.generation.now()), 1, |told| told)? {
             return Ok(value);
         }
         match inner.flights.board(print) {
@@ -81,9 +82,9 @@ impl<K: Key + ?Sized, V: Copy + Send + Sync + 'static, S: BuildHasher> Map<K, V,
 }
 
 impl<K: Key + ?Sized, V: Copy, S: BuildHasher> Inner<K, V, S> {
-    /// A lookup that isn't counted.
+    /// A lookup that isn't counted, in the generation of now.
     pub fn find(&self, print: Print, tries: u32) -> Option<V> {
-        match self.look(print, tries)? {
+        match self.look(print.dated(self.generation.now()), tries)? {
             Found::Live(entry, _) => Some(entry.value),
             Found::Expired(_) | Found::Other(_) | Found::Absent => None,
         }
@@ -91,25 +92,28 @@ impl<K: Key + ?Sized, V: Copy, S: BuildHasher> Inner<K, V, S> {
 
     /// Makes the value as the leader of a flight.
     pub fn compute<E>(&self, print: Print, leader: &Leader<V>, tries: u32, make: impl FnOnce() -> Result<V, E>) -> Result<V, E> {
+        // After the begin of the flight: an invalidation has detached it, or ended this generation.
+        let generation = self.generation.now();
         // An earlier flight may have ended since this thread looked the key up. What is found is not for those that wait: it may have been
         // removed before their calls began.
         if let Some(value) = self.find(print, tries.min(LOOKS)) {
             return Ok(value);
         }
         let value = make()?;
-        Ok(leader.end(value, || self.fill(print, value, tries)))
+        Ok(leader.end(value, || self.fill(print, generation, value, None, tries)).value())
     }
 
-    /// Puts the value where the key has none. Returns the value that another thread has put meanwhile.
-    pub fn fill(&self, print: Print, value: V, tries: u32) -> Option<V> {
+    /// Puts the value where the key has none, unless the generation that it was computed in has ended. `life`: a time to live of its own.
+    pub fn fill(&self, print: Print, generation: u64, value: V, life: Option<Duration>, tries: u32) -> Published<V> {
         let mut other = None;
-        let put = self.change(print, tries, None, |present| {
+        let put = self.change(print, tries, life, |present| {
             other = present;
-            present.is_none().then_some(value)
+            (present.is_none() && self.generation.now() == generation).then_some(value)
         });
-        if put.is_err() {
-            self.slots.count(Kind::Refused);
+        match put {
+            Ok(Some(_)) => Published::Put(value),
+            Ok(None) => other.map_or(Published::Outdated(value), Published::Other),
+            Err(why) => Published::Refused { value, why: self.refused(why) },
         }
-        other
     }
 }

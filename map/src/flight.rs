@@ -3,6 +3,7 @@
 //! A computed value may be older than a write that came meanwhile. So each write first detaches the flight of its key, and a value whose
 //! flight was detached is not put. The value is put under the lock by which flights are detached. SAFETY.md says why that suffices.
 use crate::print::Print;
+use crate::published::Published;
 use crate::slots::lock;
 use crate::wakers::Wakers;
 use std::mem;
@@ -95,9 +96,14 @@ impl<V: Copy> Flights<V> {
         self.board_as(this_thread(), print)
     }
 
-    /// The same for a task, which may go on in another thread.
-    pub fn board_task(&self, print: Print) -> Boarding<'_, V> {
-        self.board_as(A_TASK, print)
+    /// The same for a task, which may go on in another thread. If this thread is computing the value already, the task leads a flight that is detached,
+    /// so what it loads is not put.
+    pub fn board_task(&self, print: Print) -> Result<Leader<'_, V>, Passenger<V>> {
+        match self.board_as(A_TASK, print) {
+            Boarding::First(leader) => Ok(leader),
+            Boarding::Within => Ok(self.begin(A_TASK, print)),
+            Boarding::Other(flight) => Err(Passenger { flight, place: None }),
+        }
     }
 
     fn board_as(&self, thread: usize, print: Print) -> Boarding<'_, V> {
@@ -111,11 +117,6 @@ impl<V: Copy> Flights<V> {
         // sees all that the caller did before the write.
         fence(SeqCst);
         Boarding::First(leader)
-    }
-
-    /// Begins a flight that is detached, so what it computes is not put.
-    pub fn begin_alone(&self, print: Print) -> Leader<'_, V> {
-        self.begin(A_TASK, print)
     }
 
     // The flight is in no stripe yet.
@@ -191,10 +192,6 @@ pub(crate) struct Passenger<V> {
 }
 
 impl<V: Copy> Passenger<V> {
-    pub fn new(flight: Arc<Flight<V>>) -> Passenger<V> {
-        Passenger { flight, place: None }
-    }
-
     /// Whether the flight has ended, and its value, if it has one.
     pub fn poll(&mut self, context: &Context) -> Poll<Option<V>> {
         // No code of the executor runs under the lock. So a waker is cloned before, and dropped after it.
@@ -220,17 +217,17 @@ impl<V> Drop for Passenger<V> {
 
 impl<V: Copy> Leader<'_, V> {
     /// Ends the flight with this value, which is put first, unless a write has detached the flight. No thread joins the flight after the
-    /// put: the value may be removed before the thread's call begins. If the key has another value, `put` returns that, and so does this.
-    /// Then the flight ends without a value: the other one may be older than a removal.
-    pub fn end(&self, value: V, put: impl FnOnce() -> Option<V>) -> V {
+    /// put: the value may be removed before the thread's call begins. If the key has another value, the flight ends without a value: the other one may
+    /// be older than a removal.
+    pub fn end(&self, value: V, put: impl FnOnce() -> Published<V>) -> Published<V> {
         let mut stripe = self.stripe();
-        let other = self.is_in(&stripe).then(put).flatten();
+        let published = if self.is_in(&stripe) { put() } else { Published::Outdated(value) };
         self.leave(&mut stripe);
         drop(stripe);
-        if other.is_none() {
+        if !matches!(published, Published::Other(_)) {
             lock(&self.flight.state).outcome = Outcome::Value(value);
         }
-        other.unwrap_or(value)
+        published
     }
 
     /// Makes this put, unless a write has detached the flight. No write can detach it meanwhile.

@@ -1,9 +1,10 @@
 //! What all clones of a map share: how a key is looked up, put and removed.
-use crate::key::Key;
 use crate::clock::{Clock, NEVER};
 use crate::error::{GetError, InsertError, RemoveError};
 use crate::flight::Flights;
+use crate::generation::Generation;
 use crate::handle::{AnyHandle, MANY};
+use crate::key::Key;
 use crate::map::Inserted;
 use crate::print::{Print, Printer};
 use crate::slots::Slots;
@@ -22,6 +23,7 @@ pub(crate) struct Inner<K: ?Sized, V, S> {
     /// With a small table: both of them.
     pub tiers: Option<Tiers>,
     pub flights: Flights<V>,
+    pub generation: Generation,
     pub clock: Clock,
     pub printer: Printer<K, S>,
     /// Which deadlines entries have.
@@ -55,9 +57,16 @@ impl<K: ?Sized, V, S> Drop for Inner<K, V, S> {
 }
 
 impl<K: Key + ?Sized, V: Copy, S: BuildHasher> Inner<K, V, S> {
+    /// By which a key is known whatever the generation: to flights.
     #[inline]
     pub fn print<Q: Key + ?Sized>(&self, key: &Q) -> Print {
         self.printer.print(key)
+    }
+
+    /// By which entries of this key are known that are put now: to lookups and puts.
+    #[inline]
+    pub fn print_now<Q: Key + ?Sized>(&self, key: &Q) -> Print {
+        self.print(key).dated(self.generation.now())
     }
 
     /// How often a lookup tries that is a miss if it stays busy.
@@ -179,7 +188,9 @@ impl<K: Key + ?Sized, V: Copy, S: BuildHasher> Inner<K, V, S> {
         };
         // Each asks for the layout itself: a captured one is known to the compiler only where the closure is inlined.
         AnyHandle::get::<V, _>(handle, print.key, Layout::laid::<TIMED>(), |seen| match seen {
-            Seen::Entry(words, _) if check(words) == print.check && !self.clock.has_passed(deadline(words, Layout::laid::<TIMED>())) => {
+            Seen::Entry(words, _)
+                if check(words) == print.check && !self.clock.has_passed(deadline(words, Layout::laid::<TIMED>())) =>
+            {
                 counts.add_alone(Kind::Hit);
                 told(Ok(Some(Entry::of(words, Layout::laid::<TIMED>()).value)))
             }
@@ -310,7 +321,7 @@ impl<K: Key + ?Sized, V: Copy, S: BuildHasher> Inner<K, V, S> {
         tries: u32,
     ) -> Result<Inserted, InsertError> {
         let print = self.print(key);
-        let words = self.words(print, value, self.deadline(life));
+        let words = self.words(print.dated(self.generation.now()), value, self.deadline(life));
         self.flights.detach(print);
         let put = match &self.tiers {
             None => self.slots.in_turn(tries, || self.slots.call(|handle| handle.put(print.key, &words))),
@@ -326,7 +337,7 @@ impl<K: Key + ?Sized, V: Copy, S: BuildHasher> Inner<K, V, S> {
         let print = self.print(key);
         self.flights.detach(print);
         for _ in 0..tries {
-            let (value, since) = match self.look(print, tries) {
+            let (value, since) = match self.look(print.dated(self.generation.now()), tries) {
                 Some(Found::Live(entry, since)) => (Some(entry.value), since),
                 Some(Found::Expired(since)) => (None, since),
                 Some(Found::Other(_)) => return Ok(None),

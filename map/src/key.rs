@@ -5,8 +5,8 @@ use std::ffi::{CStr, CString, OsStr, OsString};
 use std::hash::{Hash, Hasher};
 use std::net::{IpAddr, Ipv4Addr, Ipv6Addr, SocketAddr, SocketAddrV4, SocketAddrV6};
 use std::num::{
-    NonZeroI128, NonZeroI16, NonZeroI32, NonZeroI64, NonZeroI8, NonZeroIsize, NonZeroU128, NonZeroU16, NonZeroU32, NonZeroU64, NonZeroU8,
-    NonZeroUsize, Wrapping,
+    NonZeroI128, NonZeroI16, NonZeroI32, NonZeroI64, NonZeroI8, NonZeroIsize, NonZeroU128, NonZeroU16, NonZeroU32, NonZeroU64,
+    NonZeroU8, NonZeroUsize, Wrapping,
 };
 use std::rc::Rc;
 use std::sync::Arc;
@@ -15,39 +15,30 @@ use std::time::{Duration, Instant, SystemTime};
 
 /// A key of a [`Map`](crate::Map), which keeps no keys: two keys of a type that write the same are one key to it.
 ///
-/// std's types have it, but for those whose `Hash` writes less than their `Eq` compares, as `Path` and `TypeId`. For a struct, [`key!`](crate::key)
-/// writes it. For a type of another crate, see [`Hashed`]. By hand, for an enum:
+/// std's types have it, but for those whose `Hash` writes less than their `Eq` compares, as `Path` and `TypeId`. For a struct or an enum,
+/// [`key!`](crate::key) writes it. For a type of another crate, see [`Hashed`]. By hand, for a name whose letters count without their case:
 ///
 /// ```
 /// use cefrodil_map::{Key, Map};
 /// use std::hash::Hasher;
 ///
-/// enum Owner {
-///     Nobody,
-///     User(u64),
-/// }
+/// struct Name(String);
 ///
-/// impl Key for Owner {
+/// impl Key for Name {
 ///     fn write<H: Hasher>(&self, to: &mut H) {
-///         match self {
-///             Owner::Nobody => to.write_u8(0),
-///             Owner::User(number) => {
-///                 to.write_u8(1);
-///                 number.write(to);
-///             }
-///         }
+///         self.0.to_lowercase().write(to);
 ///     }
 /// }
 ///
-/// let quotas = Map::<Owner, u64>::new(1000)?;
-/// quotas.insert(&Owner::User(7), 70)?;
-/// assert_eq!((quotas.get(&Owner::User(7)), quotas.get(&Owner::Nobody)), (Some(70), None));
+/// let ages = Map::<Name, u64>::new(1000)?;
+/// ages.insert(&Name("Ann".into()), 41)?;
+/// assert_eq!(ages.get(&Name("ann".into())), Some(41));
 /// # Ok::<(), Box<dyn std::error::Error>>(())
 /// ```
 ///
 /// A `Hash` is not enough, since it may write less than tells keys apart:
 ///
-/// ```compile_fail,E0599
+/// ```compile_fail,E0277
 /// #[derive(PartialEq, Eq)]
 /// struct Name(String);
 /// impl std::hash::Hash for Name {
@@ -58,6 +49,13 @@ use std::time::{Duration, Instant, SystemTime};
 /// let _ = cefrodil_map::Map::<Name, u64>::new(1000)?.get(&Name("ann".into()));
 /// # Ok::<(), Box<dyn std::error::Error>>(())
 /// ```
+#[diagnostic::on_unimplemented(
+    message = "`{Self}` is no key of a `Map`",
+    label = "a `Map` keeps no keys, so it must know that all of a key is hashed",
+    note = "for a struct or an enum of your own, write `cefrodil_map::key!`, with all its fields",
+    note = "for a type of another crate, take `cefrodil_map::Hashed<{Self}>`, if its `Hash` tells all keys apart",
+    note = "or take an `ObjectMap`, of the feature `objects`: it keeps its keys and compares them"
+)]
 pub trait Key {
     /// Writes all that tells this key from the others of its type. Of two keys that differ neither writes what the other one begins with. A key
     /// writes the same as what it is borrowed as.
@@ -76,8 +74,8 @@ pub trait Key {
     const IS_NUMBER: bool = false;
 }
 
-/// Makes a struct the key of a [`Map`](crate::Map): all its fields together tell one key from another. Each field is named, and is a [`Key`]
-/// itself; a field that is left out doesn't compile.
+/// Makes a struct or an enum the key of a [`Map`](crate::Map): all its fields together tell one key from another, and so do an enum's variants. Each is
+/// named, and each field is a [`Key`] itself. One that is left out doesn't compile.
 ///
 /// ```
 /// use cefrodil_map::{key, Map};
@@ -91,11 +89,33 @@ pub trait Key {
 /// struct Point(i32, i32);
 /// key!(Point(x, y));
 ///
+/// enum Owner {
+///     Nobody,
+///     User(u64),
+///     Group { name: String, number: u32 },
+/// }
+/// key!(enum Owner { Nobody, User(number), Group { name, number } });
+///
 /// let visits = Map::<Page, u64>::new(1000)?;
 /// visits.insert(&Page { user: 7, path: "/".into() }, 1)?;
 /// assert_eq!(visits.get(&Page { user: 7, path: "/".into() }), Some(1));
 /// assert_eq!(Map::<Point, u64>::new(1000)?.get(&Point(1, 2)), None);
+/// let quotas = Map::<Owner, u64>::new(1000)?;
+/// quotas.insert(&Owner::User(7), 70)?;
+/// assert_eq!((quotas.get(&Owner::User(7)), quotas.get(&Owner::Nobody)), (Some(70), None));
 /// # Ok::<(), Box<dyn std::error::Error>>(())
+/// ```
+///
+/// Parameters come after the name. Each type among them must be a key itself:
+///
+/// ```
+/// use cefrodil_map::key;
+///
+/// struct Edge<'a, N> {
+///     from: &'a N,
+///     to: &'a N,
+/// }
+/// key!(Edge<'a, N> { from, to });
 /// ```
 ///
 /// ```compile_fail,E0027
@@ -105,19 +125,37 @@ pub trait Key {
 /// }
 /// cefrodil_map::key!(Page { user });
 /// ```
+///
+/// ```compile_fail,E0004
+/// enum Owner {
+///     Nobody,
+///     User(u64),
+/// }
+/// cefrodil_map::key!(enum Owner { User(number) });
+/// ```
 #[macro_export]
 macro_rules! key {
-    ($name:ident { $($field:ident),* $(,)? }) => {
-        $crate::key!(@ $name, { $name { $($field),* } }, $($field)*);
-    };
-    ($name:ident ( $($field:ident),* $(,)? )) => {
-        $crate::key!(@ $name, { $name($($field),*) }, $($field)*);
-    };
-    (@ $name:ident, { $fields:pat }, $($field:ident)*) => {
-        impl $crate::Key for $name {
+    (enum $name:ident $(<$($life:lifetime),* $(,)? $($kind:ident),* $(,)?>)? {
+        $($variant:ident $({ $($field:ident),* $(,)? })? $(( $($place:ident),* $(,)? ))?),* $(,)?
+    }) => {
+        impl $(<$($life,)* $($kind: $crate::Key),*>)? $crate::Key for $name $(<$($life,)* $($kind),*>)? {
             fn write<H: ::std::hash::Hasher>(&self, to: &mut H) {
-                let $fields = self;
-                $($crate::Key::write($field, to);)*
+                ::std::hash::Hash::hash(&::std::mem::discriminant(self), to);
+                match self {
+                    $(Self::$variant $({ $($field),* })? $(( $($place),* ))? => {
+                        $($($crate::Key::write($field, to);)*)?
+                        $($($crate::Key::write($place, to);)*)?
+                    })*
+                }
+            }
+        }
+    };
+    ($name:ident $(<$($life:lifetime),* $(,)? $($kind:ident),* $(,)?>)? $({ $($field:ident),* $(,)? })? $(( $($place:ident),* $(,)? ))?) => {
+        impl $(<$($life,)* $($kind: $crate::Key),*>)? $crate::Key for $name $(<$($life,)* $($kind),*>)? {
+            fn write<H: ::std::hash::Hasher>(&self, to: &mut H) {
+                let $name $({ $($field),* })? $(( $($place),* ))? = self;
+                $($($crate::Key::write($field, to);)*)?
+                $($($crate::Key::write($place, to);)*)?
             }
         }
     };

@@ -9,6 +9,7 @@ mod compute;
 mod error;
 mod filter;
 mod flight;
+mod generation;
 mod handle;
 mod inner;
 mod key;
@@ -18,6 +19,7 @@ mod moves;
 #[cfg(feature = "objects")]
 mod objects;
 mod print;
+mod published;
 mod settings;
 mod sip;
 mod sketch;
@@ -44,4 +46,5 @@ pub use objects::{
     AbsentError, Block, Bytes, BytesBuilder, BytesMap, Cursor, Head, IfError, Line, Look, ObjectBuilder, ObjectLead, ObjectMap,
     ObjectWait, Put, Queued, Queues, Reason, Refused,
 };
+pub use published::Published;
 pub use stats::Stats;

@@ -1,8 +1,8 @@
 //! The map and its plain calls.
-use crate::key::Key;
 use crate::error::{GetError, InsertError, OpenError, RemoveError};
 use crate::handle::MANY;
 use crate::inner::Inner;
+use crate::key::Key;
 use crate::print::Print;
 use crate::stats::Stats;
 use crate::Builder;
@@ -60,18 +60,27 @@ pub enum Inserted {
     Evicted,
 }
 
-impl<K: Key + ?Sized, V: Copy + Send + Sync + 'static> Map<K, V> {
+// The bounds are those of the calls: so the compiler says of a type that is no key what to do.
+impl<K: ?Sized, V> Map<K, V> {
     /// Opens a map for at least this many entries, with the defaults of [`Builder`].
     ///
     /// # Errors
     ///
     /// [`OpenError`].
-    pub fn new(capacity: usize) -> Result<Map<K, V>, OpenError> {
+    pub fn new(capacity: usize) -> Result<Map<K, V>, OpenError>
+    where
+        K: Key,
+        V: Copy + Send + Sync + 'static,
+    {
         Builder::new(capacity).open()
     }
 
     /// Chooses how to open a map for at least this many entries.
-    pub fn builder(capacity: usize) -> Builder<K, V> {
+    pub fn builder(capacity: usize) -> Builder<K, V>
+    where
+        K: Key,
+        V: Copy + Send + Sync + 'static,
+    {
         Builder::new(capacity)
     }
 }
@@ -87,7 +96,7 @@ impl<K: Key + ?Sized, V: Copy + Send + Sync + 'static, S: BuildHasher> Map<K, V,
     where
         K: Borrow<Q>,
     {
-        self.inner.get(self.inner.printer.print(key), self.inner.looks(), |told| told.unwrap_or(None))
+        self.inner.get(self.inner.print_now(key), self.inner.looks(), |told| told.unwrap_or(None))
     }
 
     /// The key's value, by one lookup. `None`: the key is absent, expired or evicted.
@@ -99,7 +108,7 @@ impl<K: Key + ?Sized, V: Copy + Send + Sync + 'static, S: BuildHasher> Map<K, V,
     where
         K: Borrow<Q>,
     {
-        self.inner.get(self.inner.print(key), 1, |told| told)
+        self.inner.get(self.inner.print_now(key), 1, |told| told)
     }
 
     /// The values of these keys, in their order: each as by [`get`](Map::get), with fewer calls of the index.
@@ -115,7 +124,7 @@ impl<K: Key + ?Sized, V: Copy + Send + Sync + 'static, S: BuildHasher> Map<K, V,
     where
         K: Borrow<Q>,
     {
-        let prints: Vec<Print> = keys.into_iter().map(|key| self.inner.print(key)).collect();
+        let prints: Vec<Print> = keys.into_iter().map(|key| self.inner.print_now(key)).collect();
         let mut values = Vec::with_capacity(prints.len());
         prints.chunks(MANY).for_each(|prints| self.inner.get_many(prints, &mut values));
         values
@@ -131,7 +140,7 @@ impl<K: Key + ?Sized, V: Copy + Send + Sync + 'static, S: BuildHasher> Map<K, V,
     where
         K: Borrow<Q>,
     {
-        self.inner.peek(self.inner.print(key), self.inner.tries)
+        self.inner.peek(self.inner.print_now(key), self.inner.tries)
     }
 
     /// Whether the key has a value, which then counts as used lately.

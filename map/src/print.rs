@@ -1,4 +1,5 @@
 //! The two words by which the map knows a key.
+use crate::generation::check_in;
 use crate::key::Key;
 use crate::sip::{Secret, Sip};
 use std::hash::{BuildHasher, Hash, Hasher};
@@ -11,6 +12,14 @@ pub(crate) struct Print {
     pub key: u64,
     /// The check word: kept in the entry, and compared by each lookup.
     pub check: u64,
+}
+
+impl Print {
+    /// What an entry has that is put in this generation, and what a lookup in it compares.
+    #[inline]
+    pub fn dated(self, generation: u64) -> Print {
+        Print { key: self.key, check: check_in(generation, self.check) }
+    }
 }
 
 #[cfg(feature = "objects")]

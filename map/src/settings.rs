@@ -59,6 +59,13 @@ impl<S> Settings<S> {
         self.shape_for(self.capacity, self.shards.unwrap_or_else(|| shards_for(self.capacity)))
     }
 
+    /// The same, with room for one entry more by each handle, if it can have that: a put comes before the eviction that makes room for it.
+    #[cfg(feature = "objects")]
+    pub fn shape_with_room(&self) -> Result<(Shape, u32), OpenError> {
+        let (shape, shards) = self.shape()?;
+        Ok(self.shape_for(self.capacity.saturating_add(self.handles()), shards).unwrap_or((shape, shards)))
+    }
+
     /// Those of the small table. It has no more shards than were asked for.
     pub fn small_shape(&self) -> Result<(Shape, u32), OpenError> {
         let capacity = (self.capacity / ENTRIES_OF_A_SMALL_ONE).max(1);

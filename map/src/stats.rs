@@ -15,9 +15,9 @@ pub struct Stats {
     pub misses: u64,
     /// Lookups that writes disturbed at each try. They say nothing of the map.
     pub busy: u64,
-    /// Misses whose value had expired.
+    /// Misses whose value had expired, or in an `ObjectMap` one that `invalidate_all` has ended.
     pub expired: u64,
-    /// Misses that found the entry of another key with the same first hash.
+    /// Misses that found the entry of another key with the same first hash, or in a `Map` one that `invalidate_all` has ended.
     pub collided: u64,
     /// Keys that were put and are new.
     pub added: u64,

@@ -325,9 +325,20 @@ impl Tiers {
         }
     }
 
-    // Puts a key that the main table doesn't have. A young one is put into the small table, whether that has it or not.
+    // Puts a key that the main table doesn't have.
     fn put_beside_main(&self, key: u64, words: &Words) -> Result<Put, TurnError<PutError>> {
-        let is_young = self.is_full.load(Relaxed) && !self.left.take(key);
+        let is_full = self.is_full.load(Relaxed);
+        let has_left = is_full && self.left.take(key);
+        let put = self.put_by_age(key, words, is_full && !has_left);
+        if has_left && put.is_err() {
+            // For the next try.
+            self.left.note(key);
+        }
+        put
+    }
+
+    // A young key is put into the small table, whether that has it or not.
+    fn put_by_age(&self, key: u64, words: &Words, is_young: bool) -> Result<Put, TurnError<PutError>> {
         if !is_young && !self.is_in_small(key).ok_or(TurnError::Held)? {
             return self.put_main(key, words);
         }

@@ -1,7 +1,7 @@
 //! Puts that depend on the value that is there.
-use crate::key::Key;
 use crate::error::{InsertError, UpdateError};
 use crate::inner::{Found, Inner};
+use crate::key::Key;
 use crate::map::Map;
 use crate::print::Print;
 use crate::stats::Kind;
@@ -118,7 +118,8 @@ impl<K: Key + ?Sized, V: Copy, S: BuildHasher> Inner<K, V, S> {
     }
 
     /// Puts what `change` makes of the key's value, unless another thread puts the key meanwhile; then it begins again. Returns what was
-    /// put. If `change` gives nothing, nothing is put. A value that is there keeps its deadline, or lives `anew` for so long.
+    /// put. If `change` gives nothing, nothing is put. A value that is there keeps its deadline, or lives `anew` for so long. The print is of no generation: each
+    /// try is in that of its begin, also what it puts.
     pub fn change(
         &self,
         print: Print,
@@ -127,12 +128,16 @@ impl<K: Key + ?Sized, V: Copy, S: BuildHasher> Inner<K, V, S> {
         mut change: impl FnMut(Option<V>) -> Option<V>,
     ) -> Result<Option<V>, UpdateError> {
         for _ in 0..tries {
+            let generation = self.generation.now();
+            let print = print.dated(generation);
             let mut found = self.look(print, tries);
             if self.promote(print, found.as_ref(), tries.min(LOOKS)) {
                 found = self.look(print, tries);
             }
             let (old, since) = match found.ok_or(UpdateError::Busy)? {
                 Found::Live(entry, since) => (Some(entry), Some(since)),
+                // It may be the key's, of a later generation.
+                Found::Other(_) if self.generation.now() != generation => continue,
                 Found::Expired(since) | Found::Other(since) => (None, Some(since)),
                 Found::Absent => match self.lacks(print, tries) {
                     Some(true) => (None, None),

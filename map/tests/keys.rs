@@ -41,6 +41,24 @@ struct Page {
 }
 key!(Page { user, path });
 
+#[derive(Clone, PartialEq, Eq)]
+enum Owner<'a, N> {
+    Nobody,
+    Everybody,
+    User(N),
+    Group { name: &'a str, number: N },
+}
+key!(enum Owner<'a, N> { Nobody, Everybody, User(number), Group { name, number } });
+
+struct Edge<A, B> {
+    from: A,
+    to: B,
+}
+key!(Edge<A, B> { from, to });
+
+struct Unit;
+key!(Unit);
+
 impl Borrow<u64> for Id {
     fn borrow(&self) -> &u64 {
         &self.0
@@ -91,6 +109,15 @@ fn all_have_their_own_values<K: Key>(key_of: impl Fn(u64) -> K) {
     assert!(found.len() > KEYS as usize / 4);
 }
 
+fn owner(number: u64) -> Owner<'static, u64> {
+    match number {
+        0 => Owner::Nobody,
+        1 => Owner::Everybody,
+        _ if number % 3 == 0 => Owner::User(number),
+        _ => Owner::Group { name: if number % 3 == 1 { "a" } else { "" }, number: number / 3 },
+    }
+}
+
 #[test]
 fn keys_that_write_all_have_their_own_values() {
     all_have_their_own_values(|number| number);
@@ -103,6 +130,8 @@ fn keys_that_write_all_have_their_own_values() {
     all_have_their_own_values(|number| [number % 300, number / 300]);
     all_have_their_own_values(|number| if number % 2 == 0 { Place::Near(number) } else { Place::Far(number - 1, 0) });
     all_have_their_own_values(Short);
+    all_have_their_own_values(owner);
+    all_have_their_own_values(|number| Edge { from: number % 300, to: (number / 300).to_string() });
     all_have_their_own_values(|number| number.to_string());
     all_have_their_own_values(|number| Some(number).filter(|number| *number > 0));
 }
@@ -185,7 +214,8 @@ fn print<K: Key + ?Sized>(key: &K) -> Vec<u8> {
 fn keys_write_what_they_are_borrowed_as() {
     assert_eq!(print(&String::from("one")), print("one"));
     assert_eq!((print(&vec![1, 2]), print(&[1, 2])), (print(&[1, 2][..]), print(&[1, 2][..])));
-    let pointers = [print(&Box::new(7)), print(&Rc::new(7)), print(&Arc::new(7)), print(&Cow::Borrowed(&7)), print(&&7), print(&&mut 7)];
+    let pointers =
+        [print(&Box::new(7)), print(&Rc::new(7)), print(&Arc::new(7)), print(&Cow::Borrowed(&7)), print(&&7), print(&&mut 7)];
     assert!(pointers.iter().all(|written| *written == print(&7)));
     assert_eq!(print::<Box<[u8]>>(&Box::from([1, 2])), print(&[1_u8, 2][..]));
 }
@@ -198,6 +228,9 @@ fn no_key_writes_what_another_begins_with() {
         [None, Some(0), Some(1)].map(|key: Option<u8>| print(&key)).to_vec(),
         [Ok(1), Err(1), Err(2)].map(|key: Result<u8, u8>| print(&key)).to_vec(),
         [("a", "bc"), ("ab", "c"), ("", "abc")].map(|key| print(&key)).to_vec(),
+        (0..20).map(|number| print(&owner(number))).collect(),
+        [("a", "bc"), ("ab", "c")].map(|(from, to)| print(&Edge { from, to })).to_vec(),
+        vec![print(&Unit)],
         [[1, 2], [2, 1]].map(|[one, other]| print(&(Wrapping(one), Reverse(other)))).to_vec(),
     ];
     for written in all {

@@ -3,8 +3,9 @@ use super::inner::ObjectInner;
 use super::map::ObjectMap;
 use super::object::Object;
 use crate::board::{Board, TASK_TRIES};
-use crate::flight::{Boarding, Leader, Passenger};
+use crate::flight::{Leader, Passenger};
 use crate::print::Print;
+use crate::published::Published;
 use std::borrow::Borrow;
 use std::collections::hash_map::RandomState;
 use std::fmt::{self, Debug, Formatter};
@@ -12,12 +13,15 @@ use std::future::Future;
 use std::hash::{BuildHasher, Hash};
 use std::pin::Pin;
 use std::task::{Context, Poll};
+use std::time::Duration;
 
 /// The right to load a key's value: see [`ObjectMap::try_board`]. If it is dropped, those that wait begin anew, and one of them gets it.
 pub struct ObjectLead<'a, K, V, S = RandomState> {
     inner: &'a ObjectInner<Object<K, V>, S>,
     hash: u64,
     key: K,
+    // In which its load began.
+    generation: u64,
     leader: Leader<'a, ()>,
 }
 
@@ -80,14 +84,15 @@ where
         }
         let print = Print::of_hash(hash);
         let leader = match inner.flights.board_task(print) {
-            Boarding::First(leader) => leader,
-            Boarding::Within => inner.flights.begin_alone(print),
-            Boarding::Other(flight) => return Board::Wait(ObjectWait(Passenger::new(flight))),
+            Ok(leader) => leader,
+            Err(passenger) => return Board::Wait(ObjectWait(passenger)),
         };
+        // After the begin of the flight: an invalidation has detached it, or ended this generation.
+        let generation = inner.generation.now();
         // An earlier flight may have ended since the lookup.
         match inner.find(hash, key, tries) {
             Some(value) => Board::Found(value),
-            None => Board::Lead(ObjectLead { inner, hash, key: key.to_owned(), leader }),
+            None => Board::Lead(ObjectLead { inner, hash, key: key.to_owned(), generation, leader }),
         }
     }
 }
@@ -103,9 +108,23 @@ where
     /// If the key was written or removed since `try_board`, the map keeps that, and this value isn't put: it may be older. Nor is it if it
     /// finds no place, which `refused` of [`stats`](ObjectMap::stats) counts.
     pub fn publish(self, value: V) -> V {
-        let ObjectLead { inner, hash, key, leader } = self;
-        let object = inner.object(key, value.clone(), None);
-        inner.fill(hash, object, &leader, inner.tries.min(TASK_TRIES)).unwrap_or(value)
+        self.end(value, None).value()
+    }
+
+    /// Like [`publish`](Self::publish), and says whether the value was put.
+    pub fn try_publish(self, value: V) -> Published<V> {
+        self.end(value, None)
+    }
+
+    /// Like [`try_publish`](Self::try_publish), with a time to live of its own, as [`insert_for`](ObjectMap::insert_for) says.
+    pub fn publish_for(self, value: V, life: Duration) -> Published<V> {
+        self.end(value, Some(life))
+    }
+
+    fn end(self, value: V, life: Option<Duration>) -> Published<V> {
+        let ObjectLead { inner, hash, key, generation, leader } = self;
+        let object = inner.object(key, value.clone(), life, generation);
+        inner.fill(hash, object, value, &leader, inner.tries.min(TASK_TRIES))
     }
 }
 

@@ -8,6 +8,7 @@ use super::weights::{Weigher, Weights};
 use crate::clock::Clock;
 use crate::error::OpenError;
 use crate::flight::Flights;
+use crate::generation::Generation;
 use crate::settings::Settings;
 use crate::slots::Slots;
 use crate::wait::TRIES;
@@ -31,7 +32,7 @@ pub enum Reason {
     Replaced,
     /// A call removed it.
     Removed,
-    /// It had expired before one of these happened.
+    /// It had expired before one of these happened, or [`invalidate_all`](ObjectMap::invalidate_all) had ended it.
     Expired,
 }
 
@@ -43,7 +44,7 @@ type Call<O> = dyn Fn(&O, Reason) + Send + Sync;
 /// Who hears of each object that is freed.
 pub(crate) type Freed<O> = Box<dyn Fn(&O) + Send + Sync>;
 
-/// Who hears of objects, and what they weigh.
+/// Who hears of objects, and which of them give way.
 pub(crate) struct Hears<O> {
     pub listener: Option<Listener<O>>,
     pub freed: Option<Freed<O>>,
@@ -54,15 +55,21 @@ pub(crate) struct Hears<O> {
 }
 
 impl<O> Hears<O> {
+    /// Nobody hears of them, and the index alone evicts some.
     pub fn nothing() -> Hears<O> {
-        Hears { listener: None, freed: None, weigher: None, one_queue: false }
+        Hears { listener: None, freed: None, weigher: None, one_queue: true }
     }
+}
 
-    // The weights of a map for so many objects.
-    fn weights(weigher: Option<(u64, Weigher<O>)>, one_queue: bool, capacity: usize) -> Option<Weights<O>> {
-        let (most, weigher) = weigher?;
-        let queues = if one_queue { Queues::one() } else { Queues::new(capacity) };
-        Some(Weights::new(most, weigher, queues))
+impl<O> Weights<O> {
+    // The bound of a map for so many objects, with so many shards. `None`: the index alone evicts some.
+    fn of(weigher: Option<(u64, Weigher<O>)>, one_queue: bool, objects: usize, shards: u32) -> Option<Weights<O>> {
+        match (weigher, one_queue) {
+            (Some((most, weigher)), true) => Some(Weights::weighed(most, weigher, Queues::one())),
+            (Some((most, weigher)), false) => Some(Weights::weighed(most, weigher, Queues::new(objects))),
+            (None, true) => None,
+            (None, false) => Some(Weights::counted(objects, shards)),
+        }
     }
 }
 
@@ -87,12 +94,13 @@ pub struct ObjectBuilder<K, V, S = RandomState> {
 impl<K, V> ObjectBuilder<K, V> {
     /// For a map of at least this many entries.
     pub fn new(capacity: usize) -> ObjectBuilder<K, V> {
-        ObjectBuilder { settings: Settings::new(capacity), hears: Hears::nothing() }
+        ObjectBuilder { settings: Settings::new(capacity), hears: Hears { one_queue: false, ..Hears::nothing() } }
     }
 }
 
 impl<K, V, S> ObjectBuilder<K, V, S> {
-    /// As [`Builder::shards`](crate::Builder::shards).
+    /// As [`Builder::shards`](crate::Builder::shards). Without [`max_weight`](Self::max_weight) and [`one_queue`](Self::one_queue) the map holds as many
+    /// entries as were asked for, or a few more so that each part has as many as the others: there is one for each shard.
     pub fn shards(mut self, shards: u32) -> Self {
         self.settings.shards = Some(shards);
         self
@@ -172,12 +180,16 @@ impl<K, V, S> ObjectBuilder<K, V, S> {
         self
     }
 
-    /// Leaves out the small queue for new keys that a map with [`max_weight`](Self::max_weight) has. Then those entries are evicted that were put first
-    /// and not used since, new or not. In a map without a bound on weights this has no effect.
+    /// Leaves out the small queue for new keys. With [`max_weight`](Self::max_weight) those entries are evicted then that were put first and not used
+    /// since, new or not. Without it there is no queue at all: a full shard of the index evicts an entry that was not used lately, as a
+    /// [`Map`](crate::Map) with one table does. Then a put is quicker, and an entry takes less memory.
     ///
-    /// By default new keys go to a small queue first, with a tenth of the weight. An entry that is used there moves to the main queue, and another one
-    /// is evicted. If its key is put again soon, it goes to the main queue. So keys that are used once evict none that are used often. More lookups
-    /// hit, most of all where many keys are used once or in scans. An entry that weighs more than a tenth of `most` leaves early, unless it is used.
+    /// By default new keys go to a small queue first, with a tenth of the weight or of the entries. An entry that is used there moves to the main queue,
+    /// and another one is evicted. If its key is put again soon, it goes to the main queue. So keys that are used once evict none that are used often.
+    /// More lookups hit, most of all where many keys are used once or in scans. An entry that weighs more than a tenth of `most` leaves early, unless it
+    /// is used.
+    ///
+    /// Without `max_weight` there are queues for each of as many parts as the map has shards, and each part holds as many entries as the others.
     pub fn one_queue(mut self) -> Self {
         self.hears.one_queue = true;
         self
@@ -196,19 +208,25 @@ where
     ///
     /// The first [`OpenError`] that applies.
     pub fn open(self) -> Result<ObjectMap<K, V, S>, OpenError> {
-        let (shape, shards) = self.settings.shape()?;
-        self.open_shaped(&shape, shards, TRIES)
+        let is_counted = self.hears.weigher.is_none() && !self.hears.one_queue;
+        let (shape, shards) = if is_counted { self.settings.shape_with_room()? } else { self.settings.shape()? };
+        self.open_with((&shape, shards), TRIES)
     }
 
-    /// Opens the map with shards of this shape, and calls that try so often.
-    pub(crate) fn open_shaped(self, shape: &Shape, shards: u32, tries: u32) -> Result<ObjectMap<K, V, S>, OpenError> {
-        let inner = ObjectInner::open(self.settings, (shape, shards), tries, self.hears)?;
-        Ok(ObjectMap { inner: Arc::new(inner) })
+    /// Opens the map with shards of this shape, for as many objects as have room there, and calls that try so often.
+    #[cfg(test)]
+    pub(crate) fn open_shaped(mut self, shape: &Shape, shards: u32, tries: u32) -> Result<ObjectMap<K, V, S>, OpenError> {
+        self.settings.capacity = (shape.items * shards) as usize;
+        self.open_with((shape, shards), tries)
+    }
+
+    fn open_with(self, shape: (&Shape, u32), tries: u32) -> Result<ObjectMap<K, V, S>, OpenError> {
+        Ok(ObjectMap { inner: Arc::new(ObjectInner::open(self.settings, shape, tries, self.hears)?) })
     }
 }
 
 impl<O: Held, S> ObjectInner<O, S> {
-    /// Opens so many shards of this shape.
+    /// Opens so many shards of this shape. They have room for as many objects as the settings ask for.
     pub fn open(
         settings: Settings<S>,
         (shape, shards): (&Shape, u32),
@@ -217,14 +235,17 @@ impl<O: Held, S> ObjectInner<O, S> {
     ) -> Result<ObjectInner<O, S>, OpenError> {
         let count = settings.handles();
         let mut handles = Cache::open(shape, shards, count).map_err(OpenError::of)?;
-        let Settings { hasher, life, idle, threads, .. } = settings;
+        let Settings { capacity, hasher, life, idle, threads, .. } = settings;
         let Hears { listener, freed, weigher, one_queue } = hears;
-        let capacity = handles[0].capacity();
+        let room = handles[0].capacity();
+        let objects = if weigher.is_some() { room } else { capacity };
+        let weights = Weights::of(weigher, one_queue, objects, shards);
         Ok(ObjectInner {
-            capacity,
+            capacity: weights.as_ref().and_then(Weights::most_objects).map_or(room, |most| most.min(room)),
             slots: Arc::new(Slots::new(handles)),
             epochs: Epochs::new(threads),
             flights: Flights::new(),
+            generation: Generation::new(),
             stripes: (0..STRIPES).map(|_| Stripe::default()).collect(),
             clock: Clock::new(),
             hasher,
@@ -233,7 +254,7 @@ impl<O: Held, S> ObjectInner<O, S> {
             tries,
             listener,
             freed,
-            weights: Hears::weights(weigher, one_queue, capacity),
+            weights,
             objects: PhantomData,
         })
     }

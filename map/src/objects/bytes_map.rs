@@ -21,7 +21,7 @@ use std::sync::Arc;
 /// What an `ObjectMap` says of its writes, of keys with the same hash and of when objects are freed is true of this map, too. A block that
 /// is refused is dropped. Nothing expires.
 pub struct BytesMap<H: Head, S = RandomState> {
-    inner: Arc<ObjectInner<Bytes<H>, S>>,
+    pub(crate) inner: Arc<ObjectInner<Bytes<H>, S>>,
 }
 
 /// Chooses how a map of bytes is opened. Each choice is as in [`ObjectBuilder`](crate::ObjectBuilder).

@@ -1,7 +1,7 @@
 //! Puts that depend on the value that is there.
 use super::inner::ObjectInner;
 use super::map::ObjectMap;
-use super::object::Object;
+use super::object::{Held, Object};
 use super::put::{Fail, Put};
 use crate::error::UpdateError;
 use std::borrow::Borrow;
@@ -58,14 +58,15 @@ where
     }
 }
 
+// What is made of a value has its generation, so it ends with that.
 impl<K: Hash + Eq, V, S: BuildHasher> ObjectInner<Object<K, V>, S> {
     fn update(&self, mut key: K, mut change: impl FnMut(Option<&V>) -> V) -> Result<Put, UpdateError> {
         let hash = self.hash(&key);
         for _ in 0..self.tries {
-            let pinned = self.pin();
+            let (pinned, generation) = (self.pin(), self.generation.now());
             let (seen, over) = pinned.place(hash, &key, self.tries).ok_or(UpdateError::Busy)?;
             let value = change(seen.map(|seen| &seen.object.value));
-            let object = self.object(key, value, None);
+            let object = self.object(key, value, None, seen.map_or(generation, |seen| seen.object.generation()));
             self.detach(hash);
             let put = match seen {
                 Some(seen) => self.put_over_seen(&pinned, hash, object, seen),
@@ -95,7 +96,7 @@ impl<K: Hash + Eq, V, S: BuildHasher> ObjectInner<Object<K, V>, S> {
             let pinned = self.pin();
             let (Some(seen), over) = pinned.place(hash, key, self.tries).ok_or(UpdateError::Busy)? else { return Ok(None) };
             let value = change(&seen.object.value);
-            let object = self.object(seen.object.key.clone(), value, anew);
+            let object = self.object(seen.object.key.clone(), value, anew, seen.object.generation());
             self.detach(hash);
             let put = match anew {
                 Some(_) => self.put_over(hash, object, over, self.tries),

@@ -3,10 +3,10 @@ use super::inner::ObjectInner;
 use super::map::ObjectMap;
 use super::object::Object;
 use super::put::Fail;
-use crate::error::GetError;
+use crate::error::{GetError, UpdateError};
 use crate::flight::{Boarding, Leader};
 use crate::print::Print;
-use crate::stats::Kind;
+use crate::published::Published;
 use crate::wait::LOOKS;
 use std::borrow::Borrow;
 use std::convert::Infallible;
@@ -125,38 +125,50 @@ impl<K: Eq, V: Clone, S> ObjectInner<Object<K, V>, S> {
         K: Borrow<Q>,
         Q: Eq + ToOwned<Owned = K> + ?Sized,
     {
+        // After the begin of the flight: an invalidation has detached it, or ended this generation.
+        let generation = self.generation.now();
         // An earlier flight may have ended since this thread looked the key up.
         if let Some(value) = self.find(hash, key, tries.min(LOOKS)) {
             return Ok(value);
         }
         let value = make()?;
-        let object = self.object(key.to_owned(), value.clone(), None);
-        Ok(self.fill(hash, object, leader, tries).unwrap_or(value))
+        let object = self.object(key.to_owned(), value.clone(), None, generation);
+        Ok(self.fill(hash, object, value, leader, tries).value())
     }
 
-    /// Puts the object where its key has none, unless a write has detached the flight. If the key has another by now, returns its value.
+    /// Puts the object where its key has none, unless a write has detached the flight. The value is that of the object.
     /// The lock under which flights are detached is held for the put alone, while no code of the caller runs.
-    pub fn fill(&self, hash: u64, mut object: Box<Object<K, V>>, leader: &Leader<()>, tries: u32) -> Option<V> {
+    pub fn fill(&self, hash: u64, mut object: Box<Object<K, V>>, value: V, leader: &Leader<()>, tries: u32) -> Published<V> {
+        let mut why = UpdateError::Contended;
         for _ in 0..tries {
             let pinned = self.pin();
             let over = match pinned.place(hash, &object.key, tries) {
-                Some((Some(seen), _)) => return Some(seen.object.value.clone()),
+                Some((Some(seen), _)) => return Published::Other(seen.object.value.clone()),
                 Some((None, over)) => over,
-                None => break,
+                None => {
+                    why = UpdateError::Busy;
+                    break;
+                }
             };
             drop(pinned);
+            if !self.is_of_this_generation(&object) {
+                return Published::Outdated(value);
+            }
             let mut offered = Some(object);
-            let put = leader.put(|| self.put_over(hash, offered.take().expect("it is put once"), over, tries))?;
+            let put = leader.put(|| self.put_over(hash, offered.take().expect("it is put once"), over, tries));
             match put {
-                Ok(done) => {
+                None => return Published::Outdated(value),
+                Some(Ok(done)) => {
                     self.end(done);
-                    return None;
+                    return Published::Put(value);
                 }
-                Err((_, Fail::Insert(_))) => break,
-                Err((back, _)) => object = back,
+                Some(Err((_, Fail::Insert(fail)))) => {
+                    why = fail.into();
+                    break;
+                }
+                Some(Err((back, _))) => object = back,
             }
         }
-        self.slots.count(Kind::Refused);
-        None
+        Published::Refused { value, why: self.refused(why) }
     }
 }

@@ -5,6 +5,7 @@ use super::object::{pointer, Held, Object};
 use super::weights::Weights;
 use crate::clock::{Clock, FAR, NEVER};
 use crate::flight::Flights;
+use crate::generation::Generation;
 use crate::print::Print;
 use crate::slots::Slots;
 use crate::stats::Kind;
@@ -21,6 +22,7 @@ pub(crate) struct ObjectInner<O: Held, S> {
     pub slots: Arc<Slots<Handle<1>>>,
     pub epochs: Epochs,
     pub flights: Flights<()>,
+    pub generation: Generation,
     /// A call that moves or keeps a deadline locks its key's stripe.
     pub stripes: Box<[Stripe]>,
     pub clock: Clock,
@@ -64,15 +66,29 @@ impl<O: Held, S> ObjectInner<O, S> {
         self.weights.is_some() || self.idle.is_some()
     }
 
-    /// Whether the object has not expired.
+    /// Whether the object has not expired, and its generation goes on.
     pub fn is_live(&self, object: &O) -> bool {
-        !self.clock.has_passed(object.deadline().min(object.idle()))
+        self.is_of_this_generation(object) && !self.clock.has_passed(object.deadline().min(object.idle()))
+    }
+
+    /// Whether no call has invalidated the objects that were made when it was.
+    #[inline]
+    pub fn is_of_this_generation(&self, object: &O) -> bool {
+        object.generation() >= self.generation.now()
     }
 
     /// The same for a lookup that is a use of it.
     #[inline]
     pub fn is_live_and_used(&self, object: &O) -> bool {
-        object.deadline() == NEVER || self.note_use(object)
+        match object.deadline() {
+            NEVER => self.is_of_this_generation(object),
+            // Its uses are noted, and if not for this time, for a bound on weights.
+            FAR if self.idle.is_none() && self.is_of_this_generation(object) => {
+                object.set_used();
+                true
+            }
+            _ => self.note_use(object),
+        }
     }
 
     #[cold]
@@ -99,11 +115,14 @@ impl<O: Held, S> ObjectInner<O, S> {
         self.flights.detach(Print::of_hash(hash));
     }
 
-    /// An object has left the index, by a call that returned its word. The listener hears of it, and it is retired.
-    pub fn left(&self, word: u64, reason: Reason) {
+    /// An object has left the index, by a call that returned its word and its key's hash. The listener hears of it, and it is retired.
+    pub fn left(&self, hash: u64, word: u64, reason: Reason) {
         let left = Left { inner: self, word };
-        if let Some(weights) = &self.weights {
-            weights.give_back(left.object().weight());
+        if let Some(part) = self.part(hash) {
+            part.give_back(left.object().weight());
+            if reason != Reason::Replaced {
+                part.uncount();
+            }
         }
         if let Some(listener) = &self.listener {
             let object = left.object();
@@ -129,12 +148,11 @@ impl<O: Held, S> ObjectInner<O, S> {
 }
 
 impl<K, V, S> ObjectInner<Object<K, V>, S> {
-    /// An object that is to be put.
-    pub fn object(&self, key: K, value: V, life: Option<Duration>) -> Box<Object<K, V>> {
+    /// An object that is to be put, made in this generation.
+    pub fn object(&self, key: K, value: V, life: Option<Duration>, generation: u64) -> Box<Object<K, V>> {
         let idle = self.idle.map_or(NEVER, |idle| self.clock.deadline(idle));
-        let mut object = Object::new(key, value, self.deadline(life), idle);
-        if let Some(weights) = &self.weights {
-            let weight = (weights.weigher)(&object);
+        let mut object = Object::new(key, value, generation, self.deadline(life), idle);
+        if let Some(weight) = self.weights.as_ref().and_then(|weights| weights.weigh(&object)) {
             object.set_weight(weight);
         }
         object

@@ -2,6 +2,7 @@
 use super::builder::ObjectBuilder;
 use super::inner::ObjectInner;
 use super::object::Object;
+use super::weights::Weights;
 use crate::error::OpenError;
 use crate::stats::Stats;
 use std::borrow::Borrow;
@@ -17,8 +18,8 @@ use std::sync::Arc;
 /// The map owns its keys and values. Each pair is an object on the heap, so a lookup follows a pointer, and a put allocates. A
 /// [`Map`](crate::Map) keeps small values that are `Copy` in its table instead.
 ///
-/// A full map evicts an entry for each new key, roughly one that was not used lately. If other threads disturb a call, it tries again, a
-/// bounded number of times. If all tries failed, a write returns an error and has changed nothing, and a put gives its key and value back.
+/// A full map evicts an entry for each new key: one that is new and was not used, or else roughly one that was not used lately
+/// ([`one_queue`](ObjectBuilder::one_queue) says how). If other threads disturb a call, it tries again, a bounded number of times. If all tries failed, a write returns an error and has changed nothing, and a put gives its key and value back.
 ///
 /// Keys are compared. Of two keys with the same 64-bit hash the map holds the one that was put last. A lookup of the other is a miss, and a
 /// removal of the other removes nothing.
@@ -81,7 +82,7 @@ impl<K, V, S> ObjectMap<K, V, S> {
     /// The sum of what the entries weigh, by the weigher of [`ObjectBuilder::max_weight`]; 0 without one. It counts what is about to be put.
     #[must_use]
     pub fn weight(&self) -> u64 {
-        self.inner.weights.as_ref().map_or(0, |weights| weights.sum())
+        self.inner.weights.as_ref().map_or(0, Weights::sum)
     }
 
     /// Frees the objects that have left the map and that no call uses. Returns how many still wait. A program whose objects are large calls

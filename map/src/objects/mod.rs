@@ -31,6 +31,6 @@ pub use queues::{Cursor, Line, Queued, Queues};
 #[cfg(test)]
 pub(crate) use epochs::{Epochs, BATCH};
 #[cfg(test)]
-pub(crate) use object::Held;
+pub(crate) use object::{Held, Object};
 #[cfg(test)]
 pub(crate) use pinned::State;

@@ -31,6 +31,11 @@ pub(crate) unsafe trait Held: Sized {
     /// Moves its deadline.
     fn set_deadline(&self, deadline: u64);
 
+    /// The generation that it was made in. By default it outlives all generations.
+    fn generation(&self) -> u64 {
+        u64::MAX
+    }
+
     /// When it expires if it is not used.
     fn idle(&self) -> u64 {
         NEVER
@@ -59,6 +64,14 @@ pub(crate) unsafe trait Held: Sized {
 
     /// Notes the queue that gets its entry. None moves from the main queue to the small one.
     fn set_line(&self, _: Line) {}
+
+    /// In a map with a bound on the number of objects, the moment of the put whose entry in a queue stands for it. `None`: not noted so far.
+    fn entry(&self) -> Option<u64> {
+        None
+    }
+
+    /// Notes that, once, and the queue of the entry, and whether it is used. A use that another thread notes meanwhile may be lost.
+    fn set_entry(&self, _: u64, _: Line, _is_used: bool) {}
 }
 
 /// What may have a key of this kind.
@@ -80,20 +93,22 @@ pub(crate) struct Object<K, V> {
     deadline: AtomicU64,
     // When it expires if it is not used. Relaxed: as above.
     idle: AtomicU64,
-    // Its weight, which stays, `USED` and `IN_MAIN`. Relaxed: they say nothing of other memory.
+    // Its weight, which stays, `USED` and `IN_MAIN`. Relaxed: they say nothing of other memory. If objects are counted, it has the moment of its entry in
+    // place of the weight, or 0 before that is noted.
     weight: AtomicU64,
+    generation: u64,
     pub value: V,
 }
 
 const USED: u64 = 1 << 63;
 
-// Its entry is in the main queue. The weights of all objects are below it.
+// Its entry is in the main queue. The weights of all objects are below it, and so are all moments.
 const IN_MAIN: u64 = 1 << 62;
 
 impl<K, V> Object<K, V> {
-    pub fn new(key: K, value: V, deadline: u64, idle: u64) -> Box<Object<K, V>> {
+    pub fn new(key: K, value: V, generation: u64, deadline: u64, idle: u64) -> Box<Object<K, V>> {
         let [deadline, idle, weight] = [deadline, idle, 0].map(AtomicU64::new);
-        Box::new(Object { key, deadline, idle, weight, value })
+        Box::new(Object { key, deadline, idle, weight, generation, value })
     }
 
     /// Before it is put.
@@ -122,6 +137,11 @@ unsafe impl<K, V> Held for Object<K, V> {
 
     fn set_deadline(&self, deadline: u64) {
         self.deadline.store(deadline, Relaxed);
+    }
+
+    #[inline]
+    fn generation(&self) -> u64 {
+        self.generation
     }
 
     fn idle(&self) -> u64 {
@@ -159,6 +179,16 @@ unsafe impl<K, V> Held for Object<K, V> {
         if line == Line::Main {
             self.weight.fetch_or(IN_MAIN, Relaxed);
         }
+    }
+
+    fn entry(&self) -> Option<u64> {
+        Some(self.weight()).filter(|entry| *entry != 0)
+    }
+
+    fn set_entry(&self, moment: u64, line: Line, is_used: bool) {
+        let line = if line == Line::Main { IN_MAIN } else { 0 };
+        let used = if is_used { USED } else { 0 };
+        self.weight.store(moment | line | used, Relaxed);
     }
 }
 

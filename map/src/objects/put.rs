@@ -9,7 +9,7 @@ use super::queues::Queued;
 use super::weights::Place;
 use crate::error::InsertError;
 use crate::map::Inserted;
-use cefrodil::{Handle, PutIfAbsentError, PutIfError, Replaced, Swapped, TurnError};
+use cefrodil::{Entry, Handle, PutIfAbsentError, PutIfError, Replaced, Swapped, TurnError};
 use std::hash::{BuildHasher, Hash};
 use std::sync::TryLockError;
 use std::time::Duration;
@@ -67,7 +67,7 @@ where
     pub fn put(&self, key: K, value: V, life: Option<Duration>) -> Result<Put, Refused<K, V>> {
         let inner = &self.inner;
         let hash = inner.hash(&key);
-        let object = inner.object(key, value, life);
+        let object = inner.object(key, value, life, inner.generation.now());
         inner.put(hash, object).map_err(|(object, why)| inner.refuse(*object, why))
     }
 
@@ -79,7 +79,7 @@ where
     pub fn put_if_absent(&self, key: K, value: V, life: Option<Duration>) -> Result<Put, Refused<K, V, AbsentError>> {
         let inner = &self.inner;
         let hash = inner.hash(&key);
-        let object = inner.object(key, value, life);
+        let object = inner.object(key, value, life, inner.generation.now());
         inner.put_new(hash, object, |object| &object.key).map_err(|(object, why)| inner.refuse(*object, why))
     }
 
@@ -92,7 +92,7 @@ where
     pub fn replace_if(&self, key: K, since: u64, value: V, life: Option<Duration>) -> Result<Put, Refused<K, V, IfError>> {
         let inner = &self.inner;
         let hash = inner.hash(&key);
-        let object = inner.object(key, value, life);
+        let object = inner.object(key, value, life, inner.generation.now());
         inner.replace(hash, since, object).map_err(|(object, why)| inner.refuse(*object, why))
     }
 }
@@ -101,15 +101,29 @@ where
 #[must_use]
 pub(crate) struct Done {
     pub put: Put,
-    old: Option<(u64, Reason)>,
+    old: Option<Gone>,
     /// Its place in a queue, in a map with a bound on weights.
     pub queued: Option<Queued<Place>>,
+}
+
+/// What gave way to a put: the hash of its key, and its word.
+#[derive(Clone, Copy)]
+struct Gone {
+    hash: u64,
+    word: u64,
+    reason: Reason,
+}
+
+impl Gone {
+    fn of(old: Entry<1>, reason: Reason) -> Gone {
+        Gone { hash: old.key, word: old.value[0], reason }
+    }
 }
 
 impl Done {
     /// What the put has replaced: by the call that is pinned, so that it alone can retire it.
     pub fn replaced<'a, O: Held, S>(&self, pinned: &'a Pinned<'_, O, S>) -> Option<&'a O> {
-        self.old.filter(|(_, reason)| *reason == Reason::Replaced).map(|(word, _)| pinned.object(word))
+        self.old.filter(|old| old.reason == Reason::Replaced).map(|old| pinned.object(old.word))
     }
 }
 
@@ -173,7 +187,7 @@ impl<O: Held, S> ObjectInner<O, S> {
     ) -> Result<(Put, R), (O::Owner, InsertError)> {
         self.detach(hash);
         let mut seen = None;
-        let offered = self.offer(object, |word| {
+        let offered = self.offer(hash, object, |word| {
             let put = self.in_pinned_turn(self.tries, || self.slots.call(|handle| handle.try_swap(hash, &[word])));
             let (swapped, pinned) = put.map_err(|why| Fail::Insert(InsertError::of(why)))?;
             let done = self.swapped(swapped);
@@ -223,7 +237,7 @@ impl<O: Held, S> ObjectInner<O, S> {
 
     /// Puts the object over what is there now.
     pub fn put_over(&self, hash: u64, object: O::Owner, over: Over, tries: u32) -> Offered<O> {
-        self.offer(object, |word| match over {
+        self.offer(hash, object, |word| match over {
             Over::Any => self.put_any(hash, word, tries),
             Over::Absent => self.put_absent(hash, word, tries),
             Over::At(since) => self.put_at(hash, word, since, tries),
@@ -232,7 +246,7 @@ impl<O: Held, S> ObjectInner<O, S> {
 
     /// Like `put_over`, over an object that was seen, whose deadline the new one keeps. The lock keeps renewals from coming between.
     pub fn put_over_seen(&self, pinned: &Pinned<O, S>, hash: u64, object: O::Owner, seen: Seen<O>) -> Offered<O> {
-        self.offer(object, |word| {
+        self.offer(hash, object, |word| {
             let put = self.in_turn(self.tries, || {
                 self.in_stripe(hash, |handle| {
                     pinned.object(word).set_deadline(seen.object.deadline());
@@ -245,15 +259,15 @@ impl<O: Held, S> ObjectInner<O, S> {
     }
 
     // `put` puts the word, as the last that it does with it, unless it fails.
-    fn offer(&self, object: O::Owner, put: impl FnOnce(u64) -> Result<Done, Fail>) -> Offered<O> {
-        let weight = object.weight();
-        if self.weights.as_ref().is_some_and(|weights| !weights.take(weight)) {
+    fn offer(&self, hash: u64, object: O::Owner, put: impl FnOnce(u64) -> Result<Done, Fail>) -> Offered<O> {
+        let (weight, part) = (object.weight(), self.part(hash));
+        if part.is_some_and(|part| !part.take(weight)) {
             return Err((object, Fail::Insert(InsertError::TooHeavy)));
         }
         let word = O::into_word(object);
         put(word).map_err(|why| {
-            if let Some(weights) = &self.weights {
-                weights.give_back(weight);
+            if let Some(part) = part {
+                part.give_back(weight);
             }
             // SAFETY: `into_word` made the word of this very object. A call of the index that returns an error has put nothing, and each `put`
             // here fails only if its last call did. So no other thread has seen the word.
@@ -310,7 +324,7 @@ impl<O: Held, S> ObjectInner<O, S> {
 
     fn replaced(&self, Replaced { at, old }: Replaced<1>) -> Done {
         let put = Put { did: self.slots.count_put(cefrodil::Put::Renewed { at }), at };
-        Done { put, old: Some((old.value[0], Reason::Replaced)), queued: None }
+        Done { put, old: Some(Gone::of(old, Reason::Replaced)), queued: None }
     }
 
     /// Makes a call while no other thread makes one for a key of the same stripe.
@@ -331,20 +345,21 @@ impl<O: Held, S> ObjectInner<O, S> {
     fn swapped(&self, Swapped { put, old }: Swapped<1>) -> Done {
         let (at, did) = (put.at(), self.slots.count_put(put));
         let reason = if let Inserted::Evicted = did { Reason::Evicted } else { Reason::Replaced };
-        Done { put: Put { did, at }, old: old.map(|old| (old.value[0], reason)), queued: None }
+        Done { put: Put { did, at }, old: old.map(|old| Gone::of(old, reason)), queued: None }
     }
 
-    /// Ends a put: what gave way is retired. Others give way if all weigh too much.
-    pub fn end(&self, Done { put, old, queued }: Done) -> Put {
+    /// Ends a put: what gave way is retired. Others give way if there are too many, or if all weigh too much.
+    pub fn end(&self, Done { mut put, old, queued }: Done) -> Put {
         // First: the listener may panic.
         if let Some(queued) = queued {
             self.enqueue(queued);
         }
-        if let Some((word, reason)) = old {
-            self.left(word, reason);
+        if let Some(Gone { hash, word, reason }) = old {
+            self.left(hash, word, reason);
         }
-        if let Some(queued) = queued {
-            self.evict_to_bound(queued.entry);
+        let has_evicted = queued.is_some_and(|queued| self.evict_to_bound(queued.entry));
+        if has_evicted && put.did == Inserted::New {
+            put.did = Inserted::Evicted;
         }
         put
     }

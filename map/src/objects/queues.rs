@@ -9,8 +9,12 @@ use std::sync::Mutex;
 /// The small queue has so great a part of the weight.
 const SMALL_PART: u64 = 10;
 
-/// How many entries lie in one block of memory.
-const ENTRIES_OF_A_BLOCK: usize = 1024;
+/// How many entries lie in one block of memory: fewer in the queues of a small cache.
+const MOST_OF_A_BLOCK: usize = 1024;
+const LEAST_OF_A_BLOCK: usize = 16;
+
+/// A block, and the spare entries, of a small cache are so great a part of its entries.
+const PART_OF_SPARE: usize = 8;
 
 /// The order in which entries of a cache give way, for a program that evicts by [`remove_stamped`](crate::BytesMap::remove_stamped). `E` names an
 /// entry: by the hash of its key and the moment of its put, say. An entry of the queues whose entry of the cache has left is old.
@@ -22,6 +26,8 @@ pub struct Queues<E> {
     lines: Mutex<Lines<E>>,
     /// Keys that left the small queue. `None`: there is no small queue.
     left: Option<Sketch>,
+    /// At most `SPARE`.
+    spare: usize,
     /// An entry was taken out to give way. Relaxed: it is a guess.
     is_full: AtomicBool,
 }
@@ -91,6 +97,8 @@ struct Lines<E> {
 /// Entries in blocks. All but the last are full.
 struct Blocks<T> {
     blocks: VecDeque<Vec<T>>,
+    /// How many entries a block has.
+    size: usize,
     /// The last block that became empty: a queue whose length stays the same takes no memory.
     spare: Option<Vec<T>>,
     /// How many entries of the first block have been taken out.
@@ -101,7 +109,8 @@ struct Blocks<T> {
 }
 
 impl<E: Copy> Queues<E> {
-    /// The queues have at most this many entries for each entry of the cache, and [`SPARE`](Self::SPARE) more, before old ones should be dropped.
+    /// The queues have at most this many entries for each entry of the cache, and [`SPARE`](Self::SPARE) more, before old ones should be dropped. Those of
+    /// a small cache have fewer.
     pub const MOST_EACH: usize = 2;
 
     /// See [`MOST_EACH`](Self::MOST_EACH).
@@ -110,14 +119,22 @@ impl<E: Copy> Queues<E> {
     /// A small queue and a main one, for a cache of so many entries at most.
     #[must_use]
     pub fn new(entries: usize) -> Queues<E> {
-        Queues { left: Some(Sketch::new(entries.max(1))), ..Queues::one() }
+        let part = entries / PART_OF_SPARE;
+        Queues { left: Some(Sketch::new(entries.max(1))), spare: part.min(Self::SPARE), ..Queues::of_blocks(part) }
     }
 
     /// The main queue alone.
     #[must_use]
     pub fn one() -> Queues<E> {
-        let lines = Lines { small: Blocks::new(), main: Blocks::new(), small_weight: 0, turn: 0, looked_at: Cursor::default() };
-        Queues { lines: Mutex::new(lines), left: None, is_full: AtomicBool::new(false) }
+        Queues::of_blocks(MOST_OF_A_BLOCK)
+    }
+
+    // The main queue alone, in blocks of about so many entries.
+    fn of_blocks(size: usize) -> Queues<E> {
+        let size = size.clamp(LEAST_OF_A_BLOCK, MOST_OF_A_BLOCK);
+        let lines =
+            Lines { small: Blocks::new(size), main: Blocks::new(size), small_weight: 0, turn: 0, looked_at: Cursor::default() };
+        Queues { lines: Mutex::new(lines), left: None, spare: Self::SPARE, is_full: AtomicBool::new(false) }
     }
 
     /// The queue for a key that is new to the cache. It is asked once for each put of such a key.
@@ -156,7 +173,7 @@ impl<E: Copy> Queues<E> {
             left.fit(entries);
         }
         let mut lines = lock(&self.lines);
-        let is_long = lines.count() > Self::MOST_EACH * entries + Self::SPARE;
+        let is_long = lines.count() > Self::MOST_EACH * entries + self.spare;
         is_long.then(|| lines.pop_in_turn())?
     }
 
@@ -263,15 +280,15 @@ impl<E: Copy> Lines<E> {
 }
 
 impl<T: Copy> Blocks<T> {
-    fn new() -> Blocks<T> {
-        Blocks { blocks: VecDeque::new(), spare: None, taken: 0, count: 0, gone: 0 }
+    fn new(size: usize) -> Blocks<T> {
+        Blocks { blocks: VecDeque::new(), size, spare: None, taken: 0, count: 0, gone: 0 }
     }
 
     fn push(&mut self, entry: T) {
         match self.blocks.back_mut() {
-            Some(block) if block.len() < ENTRIES_OF_A_BLOCK => block.push(entry),
+            Some(block) if block.len() < self.size => block.push(entry),
             _ => {
-                let mut block = self.spare.take().unwrap_or_else(|| Vec::with_capacity(ENTRIES_OF_A_BLOCK));
+                let mut block = self.spare.take().unwrap_or_else(|| Vec::with_capacity(self.size));
                 block.push(entry);
                 self.blocks.push_back(block);
             }
@@ -294,7 +311,7 @@ impl<T: Copy> Blocks<T> {
     }
 
     fn capacity(&self) -> usize {
-        (self.blocks.len() + usize::from(self.spare.is_some())) * ENTRIES_OF_A_BLOCK
+        (self.blocks.len() + usize::from(self.spare.is_some())) * self.size
     }
 
     // Calls `see` with the entries from this one on, at most so many. Returns which one is next. `None`: the last one was among them.
@@ -302,7 +319,7 @@ impl<T: Copy> Blocks<T> {
         let first = self.count.min(from.saturating_sub(self.gone) as usize);
         let end = self.count.min(first + most);
         for place in self.taken + first..self.taken + end {
-            see(&self.blocks[place / ENTRIES_OF_A_BLOCK][place % ENTRIES_OF_A_BLOCK]);
+            see(&self.blocks[place / self.size][place % self.size]);
         }
         (end < self.count).then(|| self.gone + end as u64)
     }

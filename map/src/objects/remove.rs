@@ -78,7 +78,7 @@ impl<O: Held, S> ObjectInner<O, S> {
     pub fn take_if(&self, hash: u64, since: u64, reason: Reason) -> Result<u64, TurnError<PutIfError>> {
         let taken = self.slots.in_turn(self.tries, || self.slots.call(|handle| handle.try_take_if(hash, since)))?;
         self.slots.count(if reason == Reason::Evicted { Kind::Evicted } else { Kind::Removed });
-        self.left(taken.old.value[0], reason);
+        self.left(hash, taken.old.value[0], reason);
         Ok(taken.at)
     }
 

@@ -7,6 +7,26 @@ use crate::wait::LISTS;
 use cefrodil::{Handle, PutIfError, Reply, Take, TurnError};
 
 impl<K, V, S> ObjectMap<K, V, S> {
+    /// Invalidates all entries, by one step however many there are. Once this has returned, no lookup finds a value that was put before this call, nor one
+    /// that [`get_or_insert_with`](Self::get_or_insert_with) or a task began to load before it, nor what an update makes of one. What a call puts that
+    /// begins later is found. What a call puts meanwhile may be found or not.
+    ///
+    /// The entries are as ones that have expired. They stay until they are overwritten, removed or evicted, and [`len`](Self::len) and
+    /// [`weight`](Self::weight) count them. [`remove_expired`](Self::remove_expired) removes them.
+    ///
+    /// ```
+    /// let pages = cefrodil_map::ObjectMap::<String, String>::new(100)?;
+    /// pages.insert("/".into(), "old".into())?;
+    /// pages.invalidate_all();
+    /// assert_eq!((pages.get("/"), pages.len()), (None, 1));
+    /// assert_eq!((pages.remove_expired(), pages.len()), (Ok(1), 0));
+    /// # Ok::<(), Box<dyn std::error::Error>>(())
+    /// ```
+    pub fn invalidate_all(&self) {
+        self.inner.generation.end();
+        self.inner.flights.detach_all();
+    }
+
     /// Removes all entries. Once this has returned, no later lookup finds a value that was put before this call, nor one that
     /// [`get_or_insert_with`](Self::get_or_insert_with) began to compute before it. What other threads put meanwhile may stay or go.
     ///
@@ -19,7 +39,7 @@ impl<K, V, S> ObjectMap<K, V, S> {
         self.clear_all().inspect_err(|_| self.inner.slots.count(Kind::Refused))
     }
 
-    /// Removes the entries that have expired, and returns how many. One whose lookup other threads disturb is left. It takes memory as
+    /// Removes the entries that have expired or were invalidated, and returns how many. One whose lookup other threads disturb is left. It takes memory as
     /// [`clear`](Self::clear).
     ///
     /// # Errors
@@ -64,7 +84,7 @@ impl<K, V, S> ObjectMap<K, V, S> {
             let taken = inner.slots.in_turn(inner.tries, || inner.slots.call(|handle| handle.try_take(hash)));
             if let Take::Taken { old, .. } = taken.map_err(ClearError::of_removal)? {
                 inner.slots.count(Kind::Removed);
-                inner.left(old.value[0], Reason::Removed);
+                inner.left(hash, old.value[0], Reason::Removed);
             }
         }
         Ok(())

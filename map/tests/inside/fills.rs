@@ -3,6 +3,7 @@ use super::waiting::LONG;
 use crate::clock::NEVER;
 use crate::flight::{Boarding, Leader};
 use crate::Map;
+use crate::Published;
 use std::sync::mpsc::{channel, Receiver};
 use std::thread;
 use std::time::Instant;
@@ -75,7 +76,7 @@ fn a_value_begun_before_an_update_puts_is_not_put() {
         5
     });
     let value = leader.unwrap().end(4, || unreachable!("a value that is too old is put"));
-    assert_eq!((updated, value, map.get(&KEY)), (Ok(5), 4, Some(5)));
+    assert_eq!((updated, value, map.get(&KEY)), (Ok(5), Published::Outdated(4), Some(5)));
 }
 
 #[test]
@@ -99,7 +100,7 @@ fn nobody_gets_the_value_before_it_is_put() {
     });
     leader.end(1, || {
         assert!(!flight.has_outcome());
-        None
+        Published::Put(1)
     });
     assert!(flight.has_outcome());
     assert_eq!(flight.wait(), Some(1));

@@ -1,6 +1,6 @@
 //! When writes of a map of objects detach the flights of their key, and what its computations look at.
-use super::{done, hold};
 use super::waiting::while_it_waits;
+use super::{done, hold};
 use crate::flight::{Boarding, Leader};
 use crate::objects::Held;
 use crate::print::Print;

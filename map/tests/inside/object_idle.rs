@@ -93,7 +93,7 @@ fn a_use_moves_the_deadline_forward_alone() {
     assert_eq!(map.get(&1), Some(10));
     turn(&map, 151);
     assert_eq!(map.get(&1), None);
-    let object = map.inner.object(1, 10, None);
+    let object = map.inner.object(1, 10, None, 0);
     crate::objects::Held::move_idle(&*object, 7);
     assert!(crate::objects::Held::idle(&*object) > 7);
 }

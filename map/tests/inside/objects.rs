@@ -1,6 +1,6 @@
 //! Objects expire by a clock that the tests turn. What is refused comes back.
 use super::{done, hold, one_shard};
-use crate::clock::NEVER;
+use crate::clock::FAR;
 use crate::objects::{Held, State, BATCH};
 use crate::{
     AbsentError, ClearError, IfError, InsertError, Inserted, Look, ObjectBuilder, ObjectMap, Reason, RemoveError, UpdateError,
@@ -162,7 +162,7 @@ fn no_renewal_is_lost_beside_changes() {
             (0..round % 64).for_each(|_| spin_loop());
             let touched = map.touch(&1, Duration::MAX);
             let pinned = map.inner.pin();
-            let live = matches!(pinned.look(hash, &1, 1_000), Some(State::Live(seen)) if seen.object.deadline() == NEVER);
+            let live = matches!(pinned.look(hash, &1, 1_000), Some(State::Live(seen)) if seen.object.deadline() >= FAR);
             put.is_err() || !touched || !live
         });
         let lost = lost.count();

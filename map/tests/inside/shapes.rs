@@ -16,8 +16,7 @@ fn many_shards_have_few_stripes_each() {
 // One for each 64 entries, a power of two, and 16 at most.
 #[test]
 fn there_are_so_many_shards_by_default() {
-    let expected =
-        [(1, 1), (127, 1), (128, 2), (255, 2), (256, 4), (511, 4), (512, 8), (1_023, 8), (1_024, 16), (3_000_000, 16)];
+    let expected = [(1, 1), (127, 1), (128, 2), (255, 2), (256, 4), (511, 4), (512, 8), (1_023, 8), (1_024, 16), (3_000_000, 16)];
     for (capacity, shards) in expected {
         assert_eq!(Settings::new(capacity).shape().unwrap().1, shards, "of {capacity}");
     }
@@ -50,4 +49,18 @@ fn a_hasher_of_the_users_changes_the_mix_alone() {
     let (plain, shards) = Settings::new(5_000).shape().unwrap();
     let (mixed, same) = Settings::new(5_000).hasher(RandomState::new()).shape().unwrap();
     assert_eq!((plain.mix, mixed, same), (Mix::None, Shape { mix: Mix::Full, ..plain }, shards));
+}
+
+#[cfg(feature = "objects")]
+#[test]
+fn there_is_room_for_puts_that_run_unless_the_map_would_be_too_large() {
+    let items = |capacity, room: bool| {
+        let mut settings = Settings::new(capacity);
+        (settings.shards, settings.threads) = (Some(1), 9);
+        let shape = if room { settings.shape_with_room() } else { settings.shape() };
+        shape.map(|(shape, _)| shape.items)
+    };
+    assert_eq!((items(1_000, true), items(1_000, false)), (Ok(1_010), Ok(1_000)));
+    assert_eq!((items(3_774_873, true), items(3_774_873, false)), (Ok(3_774_873), Ok(3_774_873)));
+    assert!(items(0, true).is_err() && items(3_774_874, true).is_err());
 }

@@ -1,6 +1,7 @@
 //! A small table before the main one: which keys go where, and what both tables have.
 use super::one_shard;
 use super::turns::{before_calls, calls, Turn};
+use crate::handle::AnyHandle;
 use crate::tiers::{SmallHandle, OF_SMALL};
 use crate::{InsertError, Inserted, Map, RemoveError, UpdateError};
 use cefrodil::Reply;
@@ -98,6 +99,17 @@ fn a_key_that_left_the_small_table_comes_back_to_the_main_one() {
     assert_eq!(place(&map, KEY), (false, false));
     assert_eq!(map.insert(&KEY, 11), Ok(Inserted::Evicted));
     assert_eq!((place(&map, KEY), place(&map, 5)), ((true, false), (false, true)));
+}
+
+#[test]
+fn a_key_that_left_comes_back_though_other_threads_have_the_turn_at_first() {
+    let map = with_young();
+    (2..6).for_each(|key| assert!(map.insert(&key, key).is_ok()));
+    assert_eq!(place(&map, KEY), (false, false));
+    let turn = Turn::begin(&map.inner.slots, AnyHandle::keys);
+    assert_eq!(map.insert(&KEY, 11), Err(InsertError::Held));
+    drop(turn);
+    assert_eq!((map.insert(&KEY, 12), place(&map, KEY)), (Ok(Inserted::Evicted), (true, false)));
 }
 
 #[test]

@@ -161,8 +161,11 @@ fn a_value_computed_before_a_write_is_not_put() {
         detaches(
             |map| {
                 write(map);
-                // It is evicted.
-                (0..400).for_each(|number| done(map.insert(number.to_string(), text("other")).unwrap()));
+                // Others are used and it isn't, so it is evicted.
+                (0..600).for_each(|number| {
+                    map.insert(number.to_string(), text("other")).unwrap();
+                    assert!(map.contains_key(&number.to_string()));
+                });
             },
             None,
         );

@@ -61,18 +61,29 @@ fn leave(map: &Values, ledger: &'static Ledger, way: usize) {
         5 => done(map.update(1, |_| ledger.make(1)).unwrap()),
         6 => done(map.modify(&1, |_| ledger.make(1)).unwrap().unwrap()),
         7 => map.clear().unwrap(),
-        // No lookup uses key 1 meanwhile, so it is evicted.
-        _ => (2..400).for_each(|key| done(map.insert(key, ledger.make(key)).unwrap())),
+        // Others are used and key 1 isn't, so it is evicted.
+        _ => (2..600).for_each(|key| {
+            map.insert(key, ledger.make(key)).unwrap();
+            assert!(map.contains_key(&key));
+        }),
     }
 }
 
-const WAYS: usize = 9;
+const WAYS: usize = 10;
+
+// In the last way the index evicts it, and before that the queues.
+fn open_for(threads: usize, way: usize) -> Values {
+    if way + 1 < WAYS {
+        return open(threads);
+    }
+    ObjectMap::builder(100).shards(1).threads(threads).one_queue().open().unwrap()
+}
 
 #[test]
 fn an_object_stays_while_the_same_thread_uses_it() {
     for threads in [0, 1] {
         for way in 0..WAYS {
-            let (map, ledger) = (open(threads), Ledger::new(2_000));
+            let (map, ledger) = (open_for(threads, way), Ledger::new(2_000));
             map.insert(1, ledger.make(1)).unwrap();
             map.get_with(&1, |value| {
                 leave(&map, ledger, way);
@@ -93,7 +104,7 @@ fn an_object_stays_while_the_same_thread_uses_it() {
 fn an_object_stays_while_another_thread_uses_it() {
     for threads in [0, 1, 2] {
         for way in 0..WAYS {
-            let (map, ledger) = (open(threads), Ledger::new(2_000));
+            let (map, ledger) = (open_for(threads, way), Ledger::new(2_000));
             map.insert(1, ledger.make(1)).unwrap();
             let holder = Holder::begin(&map, 1);
             leave(&map, ledger, way);

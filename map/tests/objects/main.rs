@@ -2,6 +2,7 @@
 mod boards;
 mod bytes;
 mod collisions;
+mod counted;
 mod each;
 #[path = "../ends/mod.rs"]
 mod ends;
@@ -9,11 +10,13 @@ mod ends;
 mod executor;
 mod fills;
 mod frees;
+mod generations;
 mod handles;
 mod ledger;
 mod listener;
 mod model;
 mod panics;
+mod published;
 mod queues;
 mod small_queue;
 mod stamps;

@@ -1,5 +1,6 @@
-//! What a call of a `cefrodil_map::Map` costs, for valgrind's callgrind: as ../costs.cpp, with the same words.
-use cefrodil_map::Map;
+//! What a call of a `cefrodil_map::Map` costs, for valgrind's callgrind: as ../costs.cpp, with the same words. In place of the number of tables it may
+//! be `objects`, an `ObjectMap` by `one_queue`, or `objects+`, one with queues.
+use cefrodil_map::{Map, ObjectMap};
 use std::env::args;
 
 type Value = [u64; 4];
@@ -7,45 +8,74 @@ type Value = [u64; 4];
 const KNOWN: u64 = 500;
 const FRESH: u64 = 1_000_000;
 
+trait Numbers {
+    fn look_up(&self, key: u64) -> u64;
+
+    fn put(&self, key: u64) -> u64;
+}
+
 // Each call is a function of its own, as in a program with many of them.
-#[inline(never)]
-fn look_up(map: &Map<u64, Value>, key: u64) -> u64 {
-    map.get(&key).map_or(0, |value| value[0])
+impl Numbers for Map<u64, Value> {
+    #[inline(never)]
+    fn look_up(&self, key: u64) -> u64 {
+        self.get(&key).map_or(0, |value| value[0])
+    }
+
+    #[inline(never)]
+    fn put(&self, key: u64) -> u64 {
+        self.insert(&key, [key; 4]).is_ok().into()
+    }
 }
 
-#[inline(never)]
-fn put(map: &Map<u64, Value>, key: u64) -> u64 {
-    map.insert(&key, [key; 4]).is_ok().into()
+impl Numbers for ObjectMap<u64, Value> {
+    #[inline(never)]
+    fn look_up(&self, key: u64) -> u64 {
+        self.get_with(&key, |value| value[0]).unwrap_or(0)
+    }
+
+    #[inline(never)]
+    fn put(&self, key: u64) -> u64 {
+        self.insert(key, [key; 4]).is_ok().into()
+    }
 }
 
-fn call(map: &Map<u64, Value>, kind: &str, number: u64) -> u64 {
+fn call(map: &impl Numbers, kind: &str, number: u64) -> u64 {
     match kind {
-        "hit" => look_up(map, number % KNOWN),
-        "miss" => look_up(map, FRESH + number),
-        "over" => put(map, number % KNOWN),
-        _ => put(map, FRESH + number),
+        "hit" => map.look_up(number % KNOWN),
+        "miss" => map.look_up(FRESH + number),
+        "over" => map.put(number % KNOWN),
+        _ => map.put(FRESH + number),
     }
 }
 
 // Some keys are known. A full map has had many others, and the known ones are used again and again.
-fn fill(map: &Map<u64, Value>, is_full: bool) {
+fn fill(map: &impl Numbers, is_full: bool) {
     for key in 0..if is_full { 20 * KNOWN } else { KNOWN } {
-        if !map.contains_key(&(key % KNOWN)) {
-            put(map, key % KNOWN);
+        if map.look_up(key % KNOWN) == 0 {
+            map.put(key % KNOWN);
         }
         if is_full {
-            put(map, 2 * FRESH + key);
+            map.put(2 * FRESH + key);
         }
     }
+}
+
+fn make(map: &impl Numbers, kind: &str, calls: u64, is_full: bool) {
+    fill(map, is_full);
+    let sum: u64 = (0..calls).map(|number| call(map, kind, number)).sum();
+    println!("{sum}");
 }
 
 fn main() -> Result<(), Box<dyn std::error::Error>> {
     let words: Vec<String> = args().skip(1).collect();
     let [kind, calls, tables, full @ ..] = &words[..] else { return Err("usage: costs KIND CALLS TABLES [full]".into()) };
-    let builder = Map::<u64, Value>::builder(1_000);
-    let map = if tables == "2" { builder } else { builder.one_table() }.open()?;
-    fill(&map, !full.is_empty());
-    let sum: u64 = (0..calls.parse()?).map(|number| call(&map, kind, number)).sum();
-    println!("{sum}");
+    let (calls, is_full) = (calls.parse()?, !full.is_empty());
+    let (values, objects) = (Map::<u64, Value>::builder(1_000), ObjectMap::<u64, Value>::builder(1_000));
+    match tables.as_str() {
+        "1" => make(&values.one_table().open()?, kind, calls, is_full),
+        "2" => make(&values.open()?, kind, calls, is_full),
+        "objects" => make(&objects.one_queue().open()?, kind, calls, is_full),
+        _ => make(&objects.open()?, kind, calls, is_full),
+    }
     Ok(())
 }

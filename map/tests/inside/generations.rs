@@ -1,0 +1,84 @@
+//! Invalidations that come between the steps of a call.
+use super::one_shard;
+use super::turns::{before_calls, calls};
+#[cfg(feature = "objects")]
+use crate::ObjectMap;
+use crate::{Board, Map};
+
+type Numbers = Map<u64, u64>;
+
+fn open() -> Numbers {
+    Map::builder(1).one_table().open_shaped(&one_shard(100), 1, 5).unwrap()
+}
+
+// A call of an earlier generation finds an entry of a later one.
+#[test]
+fn an_update_that_began_before_loses_no_later_one() {
+    let map = open();
+    map.insert(&1, 1).unwrap();
+    let other = map.clone();
+    before_calls(0, 1, move || {
+        other.invalidate_all();
+        other.update(&1, |old| old.unwrap_or(10)).unwrap();
+    });
+    assert_eq!(calls(|| map.update(&1, |old| old.map_or(100, |old| old + 1))).1, Ok(11));
+    assert_eq!(map.get(&1), Some(11));
+}
+
+// The generation ends before a call of the index that the load makes, and its flight is about to be detached.
+#[test]
+fn a_load_puts_nothing_that_is_found_in_a_later_generation() {
+    for before in 0..2 {
+        let map = open();
+        let Board::Lead(lead) = map.try_board(&1) else { panic!("nobody loads it") };
+        let other = map.clone();
+        before_calls(before, 1, move || other.inner.generation.end());
+        assert_eq!(calls(|| lead.publish(7)).1, 7);
+        assert_eq!(map.get(&1), None, "before call {before}");
+    }
+    let map = open();
+    let Board::Lead(lead) = map.try_board(&1) else { panic!("nobody loads it") };
+    map.inner.generation.end();
+    assert_eq!((lead.publish(7), map.get(&1)), (7, None));
+    let make = || {
+        map.inner.generation.end();
+        8
+    };
+    assert_eq!((map.get_or_insert_with(&2, make), map.get(&2)), (8, None));
+}
+
+#[cfg(feature = "objects")]
+#[test]
+fn an_update_of_an_object_that_began_before_loses_no_later_one() {
+    let map = ObjectMap::<u64, u64>::new(100).unwrap();
+    map.insert(1, 1).unwrap();
+    let other = map.clone();
+    before_calls(0, 1, move || {
+        other.invalidate_all();
+        other.update(1, |old| *old.unwrap_or(&10)).unwrap();
+    });
+    calls(|| map.update(1, |old| old.map_or(100, |old| old + 1))).1.unwrap();
+    assert_eq!(map.get(&1), Some(11));
+}
+
+#[cfg(feature = "objects")]
+#[test]
+fn a_load_of_an_object_puts_nothing_that_is_found_in_a_later_generation() {
+    for before in 0..2 {
+        let map = ObjectMap::<u64, u64>::new(100).unwrap();
+        let other = map.clone();
+        let Board::Lead(lead) = map.try_board(&1) else { panic!("nobody loads it") };
+        before_calls(before, 1, move || other.inner.generation.end());
+        assert_eq!(calls(|| lead.publish(7)).1, 7);
+        assert_eq!(map.get(&1), None, "before call {before}");
+    }
+    let map = ObjectMap::<u64, u64>::new(100).unwrap();
+    let Board::Lead(lead) = map.try_board(&1) else { panic!("nobody loads it") };
+    map.inner.generation.end();
+    assert_eq!((lead.publish(7), map.get(&1)), (7, None));
+    let make = || {
+        map.inner.generation.end();
+        8
+    };
+    assert_eq!((map.get_or_insert_with(&2, make), map.get(&2)), (8, None));
+}
