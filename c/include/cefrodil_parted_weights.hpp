@@ -23,7 +23,7 @@ inline uint32_t share_of(uint32_t entries, uint32_t shards) noexcept {
 
 class PartedWeights {
   public:
-    // A power of two of parts, each with this bound, for so many entries.
+    // So many parts, each with this bound, for so many entries.
     void open(size_t count, uint64_t bound, uint64_t entries, bool has_small) {
         for (size_t n = 0; n < count; n++) {
             parts_.push_back(std::make_unique<Part>(bound, entries, has_small));
@@ -32,8 +32,8 @@ class PartedWeights {
     // Whether there are any.
     explicit operator bool() const noexcept { return !parts_.empty(); }
 
-    // That of the key with this number. The multiplier is odd: numbers may be spread badly.
-    Weights &of(uint64_t index) noexcept { return parts_[index * 0x9e3779b97f4a7c15 >> 32 & (parts_.size() - 1)]->weights; }
+    // That of the key with this number. By other bits than those by which its sketch places the key.
+    Weights &of(uint64_t index) noexcept { return parts_[place_in(parts_.size(), mixed(index) << 32)]->weights; }
     uint64_t sum() const noexcept {
         return std::accumulate(parts_.begin(), parts_.end(), uint64_t(0), [](uint64_t sum, const auto &part) { return sum + part->weights.sum(); });
     }

@@ -241,6 +241,36 @@ static void comes_again() {
     MUST(times >= 12);
 }
 
+// The same of many keys, in as many parts as shards.
+static void many_come_again() {
+    Numbers numbers;
+    MUST(numbers.open({6400, 16}) == Status::ok);
+    uint64_t fresh = 1000000;
+    const auto put_new = [&](uint64_t count) {
+        for (; count != 0; count--) {
+            MUST(numbers.insert(fresh++, 0).status == Status::ok);
+        }
+    };
+    const auto put_known = [&] {
+        for (uint64_t key = 0; key < 300; key++) {
+            MUST(numbers.insert_or_assign(key, 0).status == Status::ok);
+        }
+    };
+    put_new(2 * numbers.capacity());
+    put_known();
+    put_new(numbers.capacity() / 4);
+    uint64_t known = 0, left = 0;
+    for (uint64_t key = 0; key < 300; key++) {
+        left += !numbers.contains(key);
+    }
+    put_known();
+    put_new(numbers.capacity() / 4);
+    for (uint64_t key = 0; key < 300; key++) {
+        known += numbers.contains(key);
+    }
+    MUST(left > 270 && known > 200);
+}
+
 // Without a weigher a map has room for as many entries as were asked for. With one shard it holds just these.
 static void entries_alone() {
     for (const uint32_t shards : {1, 4, 0}) {
@@ -381,6 +411,7 @@ int main(int argc, char **argv) {
     two_rings();
     used_keys_stay();
     comes_again();
+    many_come_again();
     entries_alone();
     waiting();
     agrees_with_a_model<cefrodil::SipHash<uint64_t>>({1000}, 1000, 30000 / less);
