@@ -1,4 +1,4 @@
-//! Numbers in command lines, read as memcached reads them: `strtol` and its kin, up to the first blank.
+//! Numbers in command lines, read as memcached reads them: `strtol` and its kin, up to the first blank. And numbers in answers.
 
 /// Whether it is white space in C, which has one byte more than Rust.
 fn is_blank(byte: &u8) -> bool {
@@ -45,4 +45,18 @@ pub fn integer(text: &[u8]) -> Option<i64> {
 /// The length of a block.
 pub fn length(text: &[u8]) -> Option<usize> {
     unsigned(text).filter(|length| *length <= i32::MAX as u64 - 2).map(|length| length as usize)
+}
+
+/// The digits of the largest number.
+const DIGITS: usize = u64::MAX.ilog10() as usize + 1;
+
+/// Writes a number: each answer with a value has two, so this does no more than it must.
+pub fn write(out: &mut Vec<u8>, number: u64) {
+    let (mut digits, mut start, mut rest) = ([0; DIGITS], DIGITS, number);
+    while start == DIGITS || rest > 0 {
+        start -= 1;
+        digits[start] = b'0' + (rest % 10) as u8;
+        rest /= 10;
+    }
+    out.extend_from_slice(&digits[start..]);
 }
