@@ -4,7 +4,7 @@ use crate::audit::{digest, Audit};
 use crate::index::{Index, Outcome, Refused, Seen, Stamp, Token};
 use crate::item::{About, Item, NewItem};
 use crate::room::{cost, Leaving, Room};
-use cefrodil_map::{BytesMap, IfError, Inserted, Look, OpenError, Put, Reason};
+use cefrodil_map::{BytesMap, GetError, IfError, Inserted, Look, OpenError, Put, Reason};
 use std::cell::Cell;
 use std::hash::{BuildHasher, RandomState};
 use std::sync::Arc;
@@ -124,12 +124,16 @@ impl Index for Objects {
     }
 
     fn look(&self, keys: &[&[u8]], each: &mut dyn FnMut(usize, Seen<'_>)) {
-        self.map.look_many(keys, |position, found| {
+        let mut found = |position: usize, found: Result<Look<&Item>, GetError>| {
             if let Ok(found) = found {
                 self.log_look(|| self.hash_of(keys[position]), found);
             }
             each(position, answers::seen(found));
-        });
+        };
+        match keys {
+            [key] => self.map.look(key, |look| found(0, look)),
+            _ => self.map.look_many(keys, found),
+        }
     }
 
     fn look_stamped(&self, stamp: Stamp, see: &mut dyn FnMut(Seen<'_>)) {

@@ -4,6 +4,7 @@ use super::bytes::{Any, Block, Bytes, Head};
 use super::error::{AbsentError, IfError};
 use super::inner::ObjectInner;
 use super::look::Look;
+use super::object::Keyed;
 use super::put::Put;
 use crate::error::{GetError, InsertError, OpenError};
 use crate::settings::Settings;
@@ -115,8 +116,16 @@ impl<H: Head, S> BytesMap<H, S> {
 
     /// Looks up what has this hash, whatever its key is.
     pub fn look_hash<R>(&self, hash: u64, look: impl FnOnce(Result<Look<&Bytes<H>>, GetError>) -> R) -> R {
+        self.look_at(hash, &Any, look)
+    }
+
+    #[inline]
+    fn look_at<Q: ?Sized, R>(&self, hash: u64, key: &Q, look: impl FnOnce(Result<Look<&Bytes<H>>, GetError>) -> R) -> R
+    where
+        Bytes<H>: Keyed<Q>,
+    {
         let pinned = self.inner.pin();
-        let state = pinned.look(hash, &Any, self.inner.looks());
+        let state = pinned.look(hash, key, self.inner.looks());
         self.inner.count(&state);
         look(state.map(|state| state.object()).ok_or(GetError::Busy))
     }
@@ -144,6 +153,11 @@ impl<H: Head, S: BuildHasher> BytesMap<H, S> {
     #[must_use]
     pub fn hash_of(&self, key: &[u8]) -> u64 {
         self.inner.hash(key)
+    }
+
+    /// Looks the key up, and calls `look` with what was found. For one key it takes less than [`look_many`](Self::look_many).
+    pub fn look<R>(&self, key: &[u8], look: impl FnOnce(Result<Look<&Bytes<H>>, GetError>) -> R) -> R {
+        self.look_at(self.hash_of(key), key, look)
     }
 
     /// As [`ObjectMap::look_many`](crate::ObjectMap::look_many).

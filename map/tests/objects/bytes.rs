@@ -1,6 +1,6 @@
 //! Maps of bytes: what a block has, and that the map takes none for another, loses none and frees each once.
 use crate::ledger::{done, next};
-use cefrodil_map::{AbsentError, Block, Bytes, BytesMap, Head, IfError, Look, Reason};
+use cefrodil_map::{AbsentError, Block, Bytes, BytesMap, GetError, Head, IfError, Look, Reason};
 use std::alloc::{alloc, dealloc, Layout};
 use std::hash::{BuildHasher, BuildHasherDefault, Hasher, RandomState};
 use std::mem::offset_of;
@@ -112,6 +112,11 @@ fn each_call_does_what_it_says() {
                 found = Some((result.number, since));
             }
         });
+        let alone = map.look(key.to_string().as_bytes(), |look| match look {
+            Ok(Look::Found { result, since, .. }) => Some((result.number, since)),
+            _ => None,
+        });
+        assert_eq!(alone, found);
         found
     };
     assert_eq!(found(1), None);
@@ -192,6 +197,7 @@ fn a_key_is_not_taken_for_another_one_with_its_hash() {
     let map = BytesMap::<Counted>::builder(100).threads(1).hasher(BuildHasherDefault::<Same>::default()).open().unwrap();
     let at = map.put(make(1, 10)).unwrap().at;
     map.look_many(&[b"2"], |_, look| assert!(matches!(look, Ok(Look::Absent { .. }))));
+    map.look(b"2", |look| assert!(matches!(look, Ok(Look::Absent { .. }))));
     assert!(matches!(map.remove_if(b"2", at), Err(IfError::NotThere { .. })));
     assert!(map.put_if_absent(make(2, 20)).is_ok(), "it takes the place of the other one");
     map.look_many(&[b"1", b"2"], |index, look| assert_eq!(matches!(look, Ok(Look::Found { .. })), index == 1));
@@ -228,12 +234,17 @@ fn threads_find_whole_blocks_and_each_is_freed_once() {
                     let key = next(&mut seed) % KEYS;
                     let text = key.to_string();
                     let mut token = None;
-                    map.look_many(&[text.as_bytes()], |_, look| {
+                    let mut see = |look: Result<Look<&Bytes<Counted>>, GetError>| {
                         if let Ok(Look::Found { result, since, .. }) = look {
                             check(key, result);
                             token = Some(since);
                         }
-                    });
+                    };
+                    if key % 2 == 0 {
+                        map.look(text.as_bytes(), see);
+                    } else {
+                        map.look_many(&[text.as_bytes()], |_, look| see(look));
+                    }
                     let new = || make(key, made.fetch_add(1, SeqCst));
                     match (next(&mut seed) % 4, token) {
                         (0, _) => done(map.put(new())),
