@@ -55,8 +55,8 @@ pub trait Index: Send + Sync {
         self.peek(stamp.hash, &mut |seen| see(seen.map(|seen| seen.filter(|(_, token)| *token == stamp.token))));
     }
 
-    /// Puts the item, whatever its key has. Then calls `see` with it, and with the one that it has replaced.
-    fn put(&self, item: NewItem, see: &mut dyn FnMut(&Item, Option<&Item>)) -> Result<Token, Refused>;
+    /// Puts the item, whatever its key has, which has this hash. Then calls `see` with it, and with the one that it has replaced.
+    fn put(&self, hash: u64, item: NewItem, see: &mut dyn FnMut(&Item, Option<&Item>)) -> Result<Token, Refused>;
 
     /// Puts the item if its key is absent.
     fn put_new(&self, item: NewItem) -> Result<Outcome, Refused>;

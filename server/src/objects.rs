@@ -149,9 +149,9 @@ impl Index for Objects {
         self.map.peek_hash(hash, |found| see(answers::seen(found)));
     }
 
-    fn put(&self, item: NewItem, see: &mut dyn FnMut(&Item, Option<&Item>)) -> Result<Token, Refused> {
+    fn put(&self, hash: u64, item: NewItem, see: &mut dyn FnMut(&Item, Option<&Item>)) -> Result<Token, Refused> {
         let logged = self.logged(&item);
-        let (put, ()) = self.map.put_seen(item, see).map_err(answers::of_put)?;
+        let (put, ()) = self.map.put_seen(hash, item, see).map_err(answers::of_put)?;
         self.log_put(logged, put);
         Ok(put.at)
     }

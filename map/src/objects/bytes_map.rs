@@ -175,18 +175,19 @@ impl<H: Head, S: BuildHasher> BytesMap<H, S> {
         self.inner.put(hash, block).map_err(|(_, why)| self.inner.refused(why))
     }
 
-    /// Like [`put`](Self::put). Then calls `see` with the block, and with the one that it has replaced. Both stay until `see` returns, also if other
-    /// threads remove the block meanwhile. If `see` panics, the one that was replaced leaks.
+    /// Like [`put`](Self::put) of a block whose key has this hash, by [`hash_of`](Self::hash_of): with another one, its key will not be found. Then
+    /// calls `see` with the block, and with the one that it has replaced. Both stay until `see` returns, also if other threads remove the block
+    /// meanwhile. If `see` panics, the one that was replaced leaks.
     ///
     /// # Errors
     ///
     /// As [`put`](Self::put).
     pub fn put_seen<R>(
         &self,
+        hash: u64,
         block: Block<H>,
         see: impl FnOnce(&Bytes<H>, Option<&Bytes<H>>) -> R,
     ) -> Result<(Put, R), InsertError> {
-        let hash = self.hash_of(block.key());
         self.inner.put_seen(hash, block, see).map_err(|(_, why)| self.inner.refused(why))
     }
 

@@ -161,13 +161,13 @@ impl Hasher for Same {
 fn a_put_shows_the_block_and_the_one_that_it_replaces() {
     let map = BytesMap::<Counted>::builder(100).shards(1).threads(1).open().unwrap();
     let numbers = |new: &Bytes<Counted>, old: Option<&Bytes<Counted>>| (new.number, old.map(|old| old.number));
-    let (first, seen) = map.put_seen(make(1, 1), numbers).unwrap();
+    let (first, seen) = map.put_seen(map.hash_of(b"1"), make(1, 1), numbers).unwrap();
     assert_eq!((seen, map.len()), ((1, None), 1));
-    let (second, seen) = map.put_seen(make(1, 2), numbers).unwrap();
+    let (second, seen) = map.put_seen(map.hash_of(b"1"), make(1, 2), numbers).unwrap();
     assert!((seen, map.len()) == ((2, Some(1)), 1) && second.at > first.at);
     // Both stay while they are looked at, though the new one leaves the map meanwhile.
     let (_, ()) = map
-        .put_seen(make(1, 3), |new, old| {
+        .put_seen(map.hash_of(b"1"), make(1, 3), |new, old| {
             let since = map.look_hash(map.hash_of(b"1"), |look| match look {
                 Ok(Look::Found { since, .. }) => since,
                 other => panic!("{}", other.is_ok()),
@@ -186,7 +186,8 @@ fn a_put_shows_the_block_and_the_one_that_it_replaces() {
 fn a_block_that_is_evicted_is_not_replaced() {
     let map = BytesMap::<Counted>::builder(10).shards(1).threads(1).open().unwrap();
     for key in 0..50 {
-        let (_, replaced) = map.put_seen(make(key, 1), |_, old| old.is_some()).unwrap();
+        let block = make(key, 1);
+        let (_, replaced) = map.put_seen(map.hash_of(block.key()), block, |_, old| old.is_some()).unwrap();
         assert!(!replaced);
     }
     assert!(map.stats().evicted >= 30);

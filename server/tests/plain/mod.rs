@@ -114,7 +114,7 @@ impl Index for Plain {
         see(Ok(items.get(&hash).map(|entry| (&*entry.item, entry.token))));
     }
 
-    fn put(&self, item: NewItem, see: &mut dyn FnMut(&Item, Option<&Item>)) -> Result<Token, Refused> {
+    fn put(&self, _: u64, item: NewItem, see: &mut dyn FnMut(&Item, Option<&Item>)) -> Result<Token, Refused> {
         match self.put_as(item, |_| true, see)? {
             Outcome::Done(token) => Ok(token),
             _ => unreachable!("there is no condition"),
