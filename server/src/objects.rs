@@ -145,6 +145,15 @@ impl Index for Objects {
         });
     }
 
+    fn look_hashes(&self, hashes: &[u64], each: &mut dyn FnMut(usize, Seen<'_>)) {
+        self.map.look_hashes(hashes, |position, found| {
+            if let Ok(found) = found {
+                self.log_look(|| hashes[position], found);
+            }
+            each(position, answers::seen(found));
+        });
+    }
+
     fn peek(&self, hash: u64, see: &mut dyn FnMut(Seen<'_>)) {
         self.map.peek_hash(hash, |found| see(answers::seen(found)));
     }

@@ -5,8 +5,10 @@ use super::error::{AbsentError, IfError};
 use super::inner::ObjectInner;
 use super::look::Look;
 use super::object::Keyed;
+use super::pinned::State;
 use super::put::Put;
 use crate::error::{GetError, InsertError, OpenError};
+use crate::handle::MANY;
 use crate::settings::Settings;
 use crate::stats::Stats;
 use crate::wait::TRIES;
@@ -117,6 +119,21 @@ impl<H: Head, S> BytesMap<H, S> {
     /// Looks up what has this hash, whatever its key is.
     pub fn look_hash<R>(&self, hash: u64, look: impl FnOnce(Result<Look<&Bytes<H>>, GetError>) -> R) -> R {
         self.look_at(hash, &Any, look)
+    }
+
+    /// Looks up what has these hashes in order, and calls `look` with the index of each and what was found. Up to 32 are looked up together, which
+    /// takes less for each than [`look_hash`](Self::look_hash).
+    pub fn look_hashes(&self, hashes: &[u64], mut look: impl FnMut(usize, Result<Look<&Bytes<H>>, GetError>)) {
+        let pinned = self.inner.pin();
+        for (chunk, hashes) in hashes.chunks(MANY).enumerate() {
+            let mut replies = [Reply::Busy; MANY];
+            self.inner.slots.call(|handle| handle.get_many(hashes, &mut replies[..hashes.len()]));
+            for (index, (hash, reply)) in hashes.iter().zip(replies).enumerate() {
+                let state = pinned.state_or_look(*hash, &Any, reply, self.inner.looks());
+                self.inner.count(&state);
+                look(chunk * MANY + index, state.map(State::object).ok_or(GetError::Busy));
+            }
+        }
     }
 
     #[inline]

@@ -183,6 +183,23 @@ fn a_put_shows_the_block_and_the_one_that_it_replaces() {
 }
 
 #[test]
+fn hashes_are_looked_up_in_order() {
+    let map = BytesMap::<Counted>::builder(1_000).threads(1).open().unwrap();
+    let hash_of = |key: u64| map.hash_of(key.to_string().as_bytes());
+    let since = (0..100).map(|key| map.put(make(key, key)).unwrap().at).collect::<Vec<u64>>();
+    // Each second one is absent.
+    let hashes = (0..200).map(|number| hash_of(if number % 2 == 0 { number / 2 } else { 1_000 + number })).collect::<Vec<u64>>();
+    let mut seen = Vec::new();
+    map.look_hashes(&hashes, |index, look| match look {
+        Ok(Look::Found { result, since, .. }) => seen.push((index, Some((result.number, since)))),
+        Ok(Look::Absent { .. }) => seen.push((index, None)),
+        other => panic!("{}", other.is_ok()),
+    });
+    let expected = |index: usize| (index % 2 == 0).then(|| (index as u64 / 2, since[index / 2]));
+    assert_eq!(seen, (0..200).map(|index| (index, expected(index))).collect::<Vec<_>>());
+}
+
+#[test]
 fn a_block_that_is_evicted_is_not_replaced() {
     let map = BytesMap::<Counted>::builder(10).shards(1).threads(1).open().unwrap();
     for key in 0..50 {

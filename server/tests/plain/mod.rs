@@ -106,6 +106,10 @@ impl Index for Plain {
         see(Ok(entry.map(|entry| (&*entry.item, entry.token))));
     }
 
+    fn look_hashes(&self, hashes: &[u64], each: &mut dyn FnMut(usize, Seen<'_>)) {
+        hashes.iter().enumerate().for_each(|(position, hash)| self.peek(*hash, &mut |seen| each(position, seen)));
+    }
+
     fn peek(&self, hash: u64, see: &mut dyn FnMut(Seen<'_>)) {
         if self.control.refuses_looks.load(SeqCst) {
             return see(Err(Refused::Held));
