@@ -23,8 +23,11 @@ const WAIT: Duration = Duration::from_micros(200);
 /// How often a command looks at the memory and evicts, at most, if the process exceeds its ceiling.
 const LOOKS_OF_A_PUT: u32 = 4;
 
-/// How many entries a command looks at, at most, if the queues are too long. They are looked up together, which takes less for each.
+/// How many entries a command looks at, at most, if the queues are too long. They are looked up together, which takes less for each. Meanwhile no
+/// other command can evict their items, so if there are few items, it looks at fewer.
 const TIDIED: usize = 64;
+const FEW_TIDIED: usize = 8;
+const PART_OF_TIDIED: usize = 8;
 
 /// An item that a command is about to replace. It must not give way to the one that replaces it.
 #[derive(Clone, Copy)]
@@ -219,10 +222,11 @@ impl Store {
     pub(crate) fn tidy(&self) {
         let items = self.room.items() as usize;
         let Some(first) = self.queue.pop_if_long(items) else { return };
+        let most = (items / PART_OF_TIDIED).clamp(FEW_TIDIED, TIDIED);
         // The next commands have no entry to look at.
-        let fewer = items.saturating_sub(TIDIED / Queue::MOST_EACH);
+        let fewer = items.saturating_sub(most / Queue::MOST_EACH);
         let (mut popped, mut count) = ([first; TIDIED], 1);
-        for place in &mut popped[1..] {
+        for place in &mut popped[1..most] {
             let Some(queued) = self.queue.pop_if_long(fewer) else { break };
             *place = queued;
             count += 1;

@@ -25,6 +25,8 @@ pub struct Control {
     pub stalled: AtomicU64,
     /// How often what had left was to be freed.
     pub sweeps: AtomicUsize,
+    /// How many hashes were looked up together, at most.
+    pub most_together: AtomicUsize,
 }
 
 /// What is under the hash of a key.
@@ -107,6 +109,7 @@ impl Index for Plain {
     }
 
     fn look_hashes(&self, hashes: &[u64], each: &mut dyn FnMut(usize, Seen<'_>)) {
+        self.control.most_together.fetch_max(hashes.len(), SeqCst);
         hashes.iter().enumerate().for_each(|(position, hash)| self.peek(*hash, &mut |seen| each(position, seen)));
     }
 
