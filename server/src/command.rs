@@ -3,6 +3,7 @@ use crate::counts::Count;
 use crate::dump;
 use crate::item::Item;
 use crate::meta_command;
+use crate::number;
 use crate::request::{Change, Order, Request};
 use crate::stats;
 use crate::store::{Answer, Changed, Fault, Store};
@@ -51,9 +52,13 @@ pub(crate) use text;
 pub fn value(out: &mut Vec<u8>, key: &[u8], item: &Item, token: Option<u64>) {
     out.extend_from_slice(b"VALUE ");
     out.extend_from_slice(key);
-    text!(out, " {} {}", item.flags, item.value().len());
+    out.push(b' ');
+    number::write(out, item.flags.into());
+    out.push(b' ');
+    number::write(out, item.value().len() as u64);
     if let Some(token) = token {
-        text!(out, " {token}");
+        out.push(b' ');
+        number::write(out, token);
     }
     block(out, item.value());
 }

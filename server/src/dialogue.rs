@@ -94,14 +94,14 @@ impl Dialogue {
     }
 
     fn line(&mut self, store: &Store, input: &[u8], out: &mut Vec<u8>) -> Step {
-        let end = input.iter().take(LONGEST_LINE).position(|byte| *byte == b'\n');
+        let end = find(&input[..input.len().min(LONGEST_LINE)], b'\n');
         let Some(end) = end else { return self.part_of_line(input, out) };
         let (text, rest) = (input[..end].strip_suffix(b"\r").unwrap_or(&input[..end]), &input[end + 1..]);
         let end = end + 1;
         let (request, is_quiet) = parse(text);
         match request {
             Ok(Request::Quit) => return Step(end, Some(Turn::Ends)),
-            Ok(Request::Keys(keys, start)) if words(&text[start..]).all(|key| key.len() <= LONGEST_KEY) => {
+            Ok(Request::Keys(keys, start)) if have_right_length(&text[start..]) => {
                 self.state = State::Keys(keys);
                 return Step(start, None);
             }
@@ -225,6 +225,18 @@ impl Step {
             Step(taken, turn) => Step(bytes + taken, turn),
         }
     }
+}
+
+/// Whether no key is too long.
+fn have_right_length(keys: &[u8]) -> bool {
+    keys.len() <= LONGEST_KEY || words(keys).all(|key| key.len() <= LONGEST_KEY)
+}
+
+/// Where this byte is first.
+fn find(bytes: &[u8], sought: u8) -> Option<usize> {
+    // SAFETY: the C library looks at these bytes alone.
+    let at = unsafe { libc::memchr(bytes.as_ptr().cast(), sought.into(), bytes.len()) };
+    (!at.is_null()).then(|| at as usize - bytes.as_ptr() as usize)
 }
 
 /// Whether this is the first line of a request of HTTP. A web page can make a browser send one, with commands in its body.

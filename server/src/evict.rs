@@ -2,7 +2,7 @@
 use crate::ceiling::Expected;
 use crate::index::{Outcome, Refused, Stamp};
 use crate::item::Item;
-use crate::queue::{Line, Queued};
+use crate::queue::{Line, Queue, Queued};
 use crate::room::Leaving;
 use crate::slabs;
 use crate::store::{Fault, Store};
@@ -23,8 +23,11 @@ const WAIT: Duration = Duration::from_micros(200);
 /// How often a command looks at the memory and evicts, at most, if the process exceeds its ceiling.
 const LOOKS_OF_A_PUT: u32 = 4;
 
-/// How many entries a command looks at, at most, if the queues are too long. A removal makes them too long by two entries.
-const TIDIED: u32 = 8;
+/// How many entries a command looks at, at most, if the queues are too long. They are looked up together, which takes less for each. Meanwhile no
+/// other command can evict their items, so if there are few items, it looks at fewer.
+const TIDIED: usize = 64;
+const FEW_TIDIED: usize = 8;
+const PART_OF_TIDIED: usize = 8;
 
 /// An item that a command is about to replace. It must not give way to the one that replaces it.
 #[derive(Clone, Copy)]
@@ -215,15 +218,26 @@ impl Store {
         Leaving { is_live: self.is_live(item), was_fetched: item.was_fetched() }
     }
 
-    /// While the queues are too long, looks at some of their first entries. Those that are not old go to the end of the same queue.
+    /// If the queues are too long, looks at some of their first entries. Those that are not old go to the end of the same queue.
     pub(crate) fn tidy(&self) {
-        for _ in 0..TIDIED {
-            let Some(queued) = self.queue.pop_if_long(self.room.items() as usize) else { return };
-            let mut is_old = false;
-            self.index.look_stamped(queued.entry, &mut |seen| is_old = matches!(seen, Ok(None)));
+        let items = self.room.items() as usize;
+        let Some(first) = self.queue.pop_if_long(items) else { return };
+        let most = (items / PART_OF_TIDIED).clamp(FEW_TIDIED, TIDIED);
+        // The next commands have no entry to look at.
+        let fewer = items.saturating_sub(most / Queue::MOST_EACH);
+        let (mut popped, mut count) = ([first; TIDIED], 1);
+        for place in &mut popped[1..most] {
+            let Some(queued) = self.queue.pop_if_long(fewer) else { break };
+            *place = queued;
+            count += 1;
+        }
+        let hashes = popped.map(|queued| queued.entry.hash);
+        self.index.look_hashes(&hashes[..count], &mut |position, seen| {
+            let queued = popped[position];
+            let is_old = seen.is_ok_and(|seen| seen.is_none_or(|(_, token)| token != queued.entry.token));
             if !is_old {
                 self.queue.push(queued);
             }
-        }
+        });
     }
 }

@@ -47,6 +47,9 @@ pub trait Index: Send + Sync {
     /// Looks up the item of this put, if it is still there.
     fn look_stamped(&self, stamp: Stamp, see: &mut dyn FnMut(Seen<'_>));
 
+    /// Looks up the items with these hashes in order, and calls `each` with the position of each.
+    fn look_hashes(&self, hashes: &[u64], each: &mut dyn FnMut(usize, Seen<'_>));
+
     /// Looks up the item with this hash, for tidying: the index does not take it for a use of the item.
     fn peek(&self, hash: u64, see: &mut dyn FnMut(Seen<'_>));
 
@@ -55,8 +58,8 @@ pub trait Index: Send + Sync {
         self.peek(stamp.hash, &mut |seen| see(seen.map(|seen| seen.filter(|(_, token)| *token == stamp.token))));
     }
 
-    /// Puts the item, whatever its key has. Then calls `see` with it, and with the one that it has replaced.
-    fn put(&self, item: NewItem, see: &mut dyn FnMut(&Item, Option<&Item>)) -> Result<Token, Refused>;
+    /// Puts the item, whatever its key has, which has this hash. Then calls `see` with it, and with the one that it has replaced.
+    fn put(&self, hash: u64, item: NewItem, see: &mut dyn FnMut(&Item, Option<&Item>)) -> Result<Token, Refused>;
 
     /// Puts the item if its key is absent.
     fn put_new(&self, item: NewItem) -> Result<Outcome, Refused>;

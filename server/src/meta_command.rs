@@ -3,6 +3,7 @@ use crate::command::{block, count_change, count_comparison, count_deletion, line
 use crate::counts::Count;
 use crate::item::Item;
 use crate::meta::{Meta, Verb};
+use crate::number;
 use crate::request::{words, Change, How, Order};
 use crate::store::{Answer, Changed, Fault, Store};
 use std::io::Write;
@@ -38,7 +39,8 @@ fn get(store: &Store, meta: &Meta, out: &mut Vec<u8>) {
         let left = Some(store.clock.left(item.deadline()));
         let facts = Facts { flags: Some(item.flags), size: Some(item.value().len()), left, ..with(token) };
         if meta.with_value {
-            text!(out, "VA {}", item.value().len());
+            out.extend_from_slice(b"VA ");
+            number::write(out, item.value().len() as u64);
             write_flags(meta, &facts, out);
             block(out, item.value());
         } else {

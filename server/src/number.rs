@@ -1,4 +1,4 @@
-//! Numbers in command lines, read as memcached reads them: `strtol` and its kin, up to the first blank.
+//! Numbers in command lines, read as memcached reads them: `strtol` and its kin, up to the first blank. And numbers in answers.
 
 /// Whether it is white space in C, which has one byte more than Rust.
 fn is_blank(byte: &u8) -> bool {
@@ -22,12 +22,21 @@ fn signed(text: &[u8]) -> Option<(bool, u64)> {
     Some((negative, magnitude))
 }
 
+/// The number that these digits are, if they are nothing else and can't be too large.
+fn short(digits: &[u8]) -> Option<u64> {
+    if digits.is_empty() || digits.len() >= DIGITS {
+        return None;
+    }
+    let next = |number, byte: &u8| byte.is_ascii_digit().then(|| 10 * number + u64::from(byte - b'0'));
+    digits.iter().try_fold(0, next)
+}
+
 /// A number without a sign: a delta, a token, a stored counter.
 pub fn unsigned(text: &[u8]) -> Option<u64> {
-    match signed(text)? {
+    short(text).or_else(|| match signed(text)? {
         (true, 1..) => None,
         (_, magnitude) => Some(magnitude),
-    }
+    })
 }
 
 /// The flags of an item.
@@ -37,7 +46,7 @@ pub fn flags(text: &[u8]) -> Option<u32> {
 
 /// A number with a sign: a time to live, or a delay.
 pub fn integer(text: &[u8]) -> Option<i64> {
-    let (negative, magnitude) = signed(text)?;
+    let (negative, magnitude) = short(text).map(|number| (false, number)).or_else(|| signed(text))?;
     let magnitude = i64::try_from(magnitude).ok()?;
     Some(if negative { -magnitude } else { magnitude })
 }
@@ -45,4 +54,18 @@ pub fn integer(text: &[u8]) -> Option<i64> {
 /// The length of a block.
 pub fn length(text: &[u8]) -> Option<usize> {
     unsigned(text).filter(|length| *length <= i32::MAX as u64 - 2).map(|length| length as usize)
+}
+
+/// The digits of the largest number.
+const DIGITS: usize = u64::MAX.ilog10() as usize + 1;
+
+/// Writes a number: each answer with a value has two, so this does no more than it must.
+pub fn write(out: &mut Vec<u8>, number: u64) {
+    let (mut digits, mut start, mut rest) = ([0; DIGITS], DIGITS, number);
+    while start == DIGITS || rest > 0 {
+        start -= 1;
+        digits[start] = b'0' + (rest % 10) as u8;
+        rest /= 10;
+    }
+    out.extend_from_slice(&digits[start..]);
 }

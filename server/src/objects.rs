@@ -4,7 +4,7 @@ use crate::audit::{digest, Audit};
 use crate::index::{Index, Outcome, Refused, Seen, Stamp, Token};
 use crate::item::{About, Item, NewItem};
 use crate::room::{cost, Leaving, Room};
-use cefrodil_map::{BytesMap, IfError, Inserted, Look, OpenError, Put, Reason};
+use cefrodil_map::{BytesMap, GetError, IfError, Inserted, Look, OpenError, Put, Reason};
 use std::cell::Cell;
 use std::hash::{BuildHasher, RandomState};
 use std::sync::Arc;
@@ -124,12 +124,16 @@ impl Index for Objects {
     }
 
     fn look(&self, keys: &[&[u8]], each: &mut dyn FnMut(usize, Seen<'_>)) {
-        self.map.look_many(keys, |position, found| {
+        let mut found = |position: usize, found: Result<Look<&Item>, GetError>| {
             if let Ok(found) = found {
                 self.log_look(|| self.hash_of(keys[position]), found);
             }
             each(position, answers::seen(found));
-        });
+        };
+        match keys {
+            [key] => self.map.look(key, |look| found(0, look)),
+            _ => self.map.look_many(keys, found),
+        }
     }
 
     fn look_stamped(&self, stamp: Stamp, see: &mut dyn FnMut(Seen<'_>)) {
@@ -141,13 +145,22 @@ impl Index for Objects {
         });
     }
 
+    fn look_hashes(&self, hashes: &[u64], each: &mut dyn FnMut(usize, Seen<'_>)) {
+        self.map.look_hashes(hashes, |position, found| {
+            if let Ok(found) = found {
+                self.log_look(|| hashes[position], found);
+            }
+            each(position, answers::seen(found));
+        });
+    }
+
     fn peek(&self, hash: u64, see: &mut dyn FnMut(Seen<'_>)) {
         self.map.peek_hash(hash, |found| see(answers::seen(found)));
     }
 
-    fn put(&self, item: NewItem, see: &mut dyn FnMut(&Item, Option<&Item>)) -> Result<Token, Refused> {
+    fn put(&self, hash: u64, item: NewItem, see: &mut dyn FnMut(&Item, Option<&Item>)) -> Result<Token, Refused> {
         let logged = self.logged(&item);
-        let (put, ()) = self.map.put_seen(item, see).map_err(answers::of_put)?;
+        let (put, ()) = self.map.put_seen(hash, item, see).map_err(answers::of_put)?;
         self.log_put(logged, put);
         Ok(put.at)
     }

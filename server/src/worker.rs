@@ -6,6 +6,7 @@ use crate::expire::PAUSE;
 use crate::store::Store;
 use mio::{Events, Interest, Poll, Token, Waker};
 use std::collections::HashMap;
+use std::hash::{BuildHasherDefault, Hasher};
 use std::io::{self, ErrorKind};
 use std::mem;
 use std::sync::mpsc::{channel, Receiver, Sender, TryRecvError};
@@ -28,13 +29,32 @@ pub struct Inbox {
     waker: Arc<Waker>,
 }
 
+/// The hash of a token. Tokens are counted, so no client can choose them.
+#[derive(Debug, Default)]
+struct Counted(u64);
+
+impl Hasher for Counted {
+    fn write(&mut self, bytes: &[u8]) {
+        bytes.iter().for_each(|byte| self.write_usize((*byte).into()));
+    }
+
+    fn write_usize(&mut self, number: usize) {
+        // An odd number with bits everywhere: so each bit of a token changes the upper bits of the hash.
+        self.0 = (self.0 ^ number as u64).wrapping_mul(0x9e37_79b9_7f4a_7c15);
+    }
+
+    fn finish(&self) -> u64 {
+        self.0
+    }
+}
+
 /// The state of a worker's thread.
 #[derive(Debug)]
 pub struct Worker {
     store: Arc<Store>,
     poll: Poll,
     clients: Receiver<Connection>,
-    connections: HashMap<Token, Connection>,
+    connections: HashMap<Token, Connection, BuildHasherDefault<Counted>>,
     next_token: usize,
     /// Whose turn it is, though no event came.
     ready: Vec<Token>,
@@ -42,6 +62,8 @@ pub struct Worker {
     end: Option<Instant>,
     /// When it tidies up next.
     next_tidy: Instant,
+    /// When it woke last. The time is asked for once each time.
+    woke: Instant,
     /// If the inbox alone had it, it would be closed before it has woken the worker for the last time.
     _waker: Arc<Waker>,
 }
@@ -70,23 +92,25 @@ impl Worker {
         let poll = Poll::new()?;
         let waker = Arc::new(Waker::new(poll.registry(), WAKE)?);
         let (sender, clients) = channel();
-        let (connections, ready) = (HashMap::new(), Vec::new());
-        let (next_token, next_tidy, end) = (0, Instant::now() + PAUSE, None);
-        let worker = Worker { store, poll, clients, connections, next_token, ready, end, next_tidy, _waker: Arc::clone(&waker) };
+        let (connections, ready) = (HashMap::default(), Vec::new());
+        let (next_token, woke, end, keeps) = (0, Instant::now(), None, Arc::clone(&waker));
+        let next_tidy = woke + PAUSE;
+        let worker = Worker { store, poll, clients, connections, next_token, ready, end, next_tidy, woke, _waker: keeps };
         Ok((worker, Inbox { clients: sender, waker }))
     }
 
     /// Answers clients until the inbox is dropped.
     pub fn run(mut self, index: usize) -> io::Result<()> {
         counts::take_place(index);
-        let mut events = Events::with_capacity(EVENTS);
+        let (mut events, mut ready) = (Events::with_capacity(EVENTS), Vec::new());
         while !self.has_ended() {
             match self.poll.poll(&mut events, self.timeout()) {
                 Err(why) if why.kind() != ErrorKind::Interrupted => return Err(why),
                 _ => {}
             }
+            self.woke = Instant::now();
             self.tidy_up_at_times();
-            let mut ready = mem::take(&mut self.ready);
+            mem::swap(&mut ready, &mut self.ready);
             for event in &events {
                 if let Some(connection) = self.connections.get_mut(&event.token()) {
                     connection.note(event);
@@ -95,7 +119,7 @@ impl Worker {
             }
             ready.sort_unstable();
             ready.dedup();
-            ready.into_iter().for_each(|token| self.serve(token));
+            ready.drain(..).for_each(|token| self.serve(token));
         }
         Ok(())
     }
@@ -105,19 +129,18 @@ impl Worker {
             return Some(Duration::ZERO);
         }
         let next = self.end.map_or(self.next_tidy, |end| end.min(self.next_tidy));
-        Some(next.saturating_duration_since(Instant::now()))
+        Some(next.saturating_duration_since(self.woke))
     }
 
     fn tidy_up_at_times(&mut self) {
-        let now = Instant::now();
-        if now >= self.next_tidy {
-            self.next_tidy = now + PAUSE;
+        if self.woke >= self.next_tidy {
+            self.next_tidy = self.woke + PAUSE;
             self.store.tidy_up();
         }
     }
 
     fn has_ended(&self) -> bool {
-        self.end.is_some_and(|end| self.connections.is_empty() || Instant::now() >= end)
+        self.end.is_some_and(|end| self.connections.is_empty() || self.woke >= end)
     }
 
     fn serve(&mut self, token: Token) {

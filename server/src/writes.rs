@@ -41,7 +41,7 @@ impl Store {
         let born = self.clock.now();
         let put = self.put(order.key, data.len(), None, |hash| {
             let mut line = Line::Main;
-            let token = self.index.put(self.fresh(order, born, data), &mut |item, old| {
+            let token = self.index.put(hash, self.fresh(order, born, data), &mut |item, old| {
                 line = old.map_or_else(|| self.queue.line_of_new(hash), |old| old.line());
                 item.set_line(line);
             })?;

@@ -35,7 +35,7 @@ impl Logged {
 
     fn put(&self, key: &[u8], flags: u32) -> u64 {
         self.room.take(0);
-        self.objects.put(item(key, flags), &mut |_, _| {}).expect("there is room")
+        self.objects.put(self.objects.hash_of(key), item(key, flags), &mut |_, _| {}).expect("there is room")
     }
 
     /// The lines but for the head. This ends the log.

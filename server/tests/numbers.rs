@@ -1,5 +1,5 @@
 //! Numbers, as C's `strtoull` and its kin read them.
-use cefrodild::number::{flags, integer, length, unsigned};
+use cefrodild::number::{flags, integer, length, unsigned, write};
 
 /// White space in C.
 const BLANKS: [char; 6] = [' ', '\t', '\n', '\x0b', '\x0c', '\r'];
@@ -66,4 +66,14 @@ fn the_largest() {
     assert_eq!((flags(b"4294967295"), flags(b"4294967296"), flags(b"-1")), (Some(u32::MAX), None, None));
     // With its line end a block has 2^31 - 1 bytes at most.
     assert_eq!((length(b"2147483645"), length(b"2147483646"), length(b"-1")), (Some((1 << 31) - 3), None, None));
+}
+
+#[test]
+fn what_is_written_is_read_again() {
+    let powers = (0..20).map(|power| 10_u64.pow(power));
+    for number in powers.flat_map(|power| [power - 1, power, power + 1]).chain([u64::MAX - 1, u64::MAX]) {
+        let mut text = b" ".to_vec();
+        write(&mut text, number);
+        assert_eq!(text, format!(" {number}").as_bytes());
+    }
 }

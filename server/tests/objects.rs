@@ -9,7 +9,7 @@ use std::sync::Arc;
 /// Puts an item with these flags.
 fn put(objects: &Objects, room: &Room, key: &[u8], flags: u32) -> Token {
     room.take(cost(key.len(), 1));
-    objects.put(new_item(1, flags, u64::MAX, key, &[&[0]]), &mut |_, _| {}).expect("there is room")
+    objects.put(objects.hash_of(key), new_item(1, flags, u64::MAX, key, &[&[0]]), &mut |_, _| {}).expect("there is room")
 }
 
 /// The flags of the item with this stamp, if it is there.
@@ -145,7 +145,7 @@ fn a_put_shows_the_item_that_it_replaces() {
     for (flags, replaced) in [(1, None), (2, Some(1)), (3, Some(2))] {
         let mut seen = None;
         room.take(cost(3, 1));
-        let put = objects.put(new_item(1, flags, u64::MAX, b"key", &[&[0]]), &mut |item, old| {
+        let put = objects.put(objects.hash_of(b"key"), new_item(1, flags, u64::MAX, b"key", &[&[0]]), &mut |item, old| {
             seen = Some((item.flags, old.map(|old| old.flags)));
         });
         assert!(put.is_ok());

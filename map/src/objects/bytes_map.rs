@@ -4,8 +4,11 @@ use super::bytes::{Any, Block, Bytes, Head};
 use super::error::{AbsentError, IfError};
 use super::inner::ObjectInner;
 use super::look::Look;
+use super::object::Keyed;
+use super::pinned::State;
 use super::put::Put;
 use crate::error::{GetError, InsertError, OpenError};
+use crate::handle::MANY;
 use crate::settings::Settings;
 use crate::stats::Stats;
 use crate::wait::TRIES;
@@ -115,8 +118,31 @@ impl<H: Head, S> BytesMap<H, S> {
 
     /// Looks up what has this hash, whatever its key is.
     pub fn look_hash<R>(&self, hash: u64, look: impl FnOnce(Result<Look<&Bytes<H>>, GetError>) -> R) -> R {
+        self.look_at(hash, &Any, look)
+    }
+
+    /// Looks up what has these hashes in order, and calls `look` with the index of each and what was found. Up to 32 are looked up together, which
+    /// takes less for each than [`look_hash`](Self::look_hash).
+    pub fn look_hashes(&self, hashes: &[u64], mut look: impl FnMut(usize, Result<Look<&Bytes<H>>, GetError>)) {
         let pinned = self.inner.pin();
-        let state = pinned.look(hash, &Any, self.inner.looks());
+        for (chunk, hashes) in hashes.chunks(MANY).enumerate() {
+            let mut replies = [Reply::Busy; MANY];
+            self.inner.slots.call(|handle| handle.get_many(hashes, &mut replies[..hashes.len()]));
+            for (index, (hash, reply)) in hashes.iter().zip(replies).enumerate() {
+                let state = pinned.state_or_look(*hash, &Any, reply, self.inner.looks());
+                self.inner.count(&state);
+                look(chunk * MANY + index, state.map(State::object).ok_or(GetError::Busy));
+            }
+        }
+    }
+
+    #[inline]
+    fn look_at<Q: ?Sized, R>(&self, hash: u64, key: &Q, look: impl FnOnce(Result<Look<&Bytes<H>>, GetError>) -> R) -> R
+    where
+        Bytes<H>: Keyed<Q>,
+    {
+        let pinned = self.inner.pin();
+        let state = pinned.look(hash, key, self.inner.looks());
         self.inner.count(&state);
         look(state.map(|state| state.object()).ok_or(GetError::Busy))
     }
@@ -146,6 +172,11 @@ impl<H: Head, S: BuildHasher> BytesMap<H, S> {
         self.inner.hash(key)
     }
 
+    /// Looks the key up, and calls `look` with what was found. For one key it takes less than [`look_many`](Self::look_many).
+    pub fn look<R>(&self, key: &[u8], look: impl FnOnce(Result<Look<&Bytes<H>>, GetError>) -> R) -> R {
+        self.look_at(self.hash_of(key), key, look)
+    }
+
     /// As [`ObjectMap::look_many`](crate::ObjectMap::look_many).
     pub fn look_many(&self, keys: &[&[u8]], look: impl FnMut(usize, Result<Look<&Bytes<H>>, GetError>)) {
         self.inner.look_many(keys, look);
@@ -161,18 +192,19 @@ impl<H: Head, S: BuildHasher> BytesMap<H, S> {
         self.inner.put(hash, block).map_err(|(_, why)| self.inner.refused(why))
     }
 
-    /// Like [`put`](Self::put). Then calls `see` with the block, and with the one that it has replaced. Both stay until `see` returns, also if other
-    /// threads remove the block meanwhile. If `see` panics, the one that was replaced leaks.
+    /// Like [`put`](Self::put) of a block whose key has this hash, by [`hash_of`](Self::hash_of): with another one, its key will not be found. Then
+    /// calls `see` with the block, and with the one that it has replaced. Both stay until `see` returns, also if other threads remove the block
+    /// meanwhile. If `see` panics, the one that was replaced leaks.
     ///
     /// # Errors
     ///
     /// As [`put`](Self::put).
     pub fn put_seen<R>(
         &self,
+        hash: u64,
         block: Block<H>,
         see: impl FnOnce(&Bytes<H>, Option<&Bytes<H>>) -> R,
     ) -> Result<(Put, R), InsertError> {
-        let hash = self.hash_of(block.key());
         self.inner.put_seen(hash, block, see).map_err(|(_, why)| self.inner.refused(why))
     }
 

@@ -1,6 +1,6 @@
 //! Maps of bytes: what a block has, and that the map takes none for another, loses none and frees each once.
 use crate::ledger::{done, next};
-use cefrodil_map::{AbsentError, Block, Bytes, BytesMap, Head, IfError, Look, Reason};
+use cefrodil_map::{AbsentError, Block, Bytes, BytesMap, GetError, Head, IfError, Look, Reason};
 use std::alloc::{alloc, dealloc, Layout};
 use std::hash::{BuildHasher, BuildHasherDefault, Hasher, RandomState};
 use std::mem::offset_of;
@@ -112,6 +112,11 @@ fn each_call_does_what_it_says() {
                 found = Some((result.number, since));
             }
         });
+        let alone = map.look(key.to_string().as_bytes(), |look| match look {
+            Ok(Look::Found { result, since, .. }) => Some((result.number, since)),
+            _ => None,
+        });
+        assert_eq!(alone, found);
         found
     };
     assert_eq!(found(1), None);
@@ -156,13 +161,13 @@ impl Hasher for Same {
 fn a_put_shows_the_block_and_the_one_that_it_replaces() {
     let map = BytesMap::<Counted>::builder(100).shards(1).threads(1).open().unwrap();
     let numbers = |new: &Bytes<Counted>, old: Option<&Bytes<Counted>>| (new.number, old.map(|old| old.number));
-    let (first, seen) = map.put_seen(make(1, 1), numbers).unwrap();
+    let (first, seen) = map.put_seen(map.hash_of(b"1"), make(1, 1), numbers).unwrap();
     assert_eq!((seen, map.len()), ((1, None), 1));
-    let (second, seen) = map.put_seen(make(1, 2), numbers).unwrap();
+    let (second, seen) = map.put_seen(map.hash_of(b"1"), make(1, 2), numbers).unwrap();
     assert!((seen, map.len()) == ((2, Some(1)), 1) && second.at > first.at);
     // Both stay while they are looked at, though the new one leaves the map meanwhile.
     let (_, ()) = map
-        .put_seen(make(1, 3), |new, old| {
+        .put_seen(map.hash_of(b"1"), make(1, 3), |new, old| {
             let since = map.look_hash(map.hash_of(b"1"), |look| match look {
                 Ok(Look::Found { since, .. }) => since,
                 other => panic!("{}", other.is_ok()),
@@ -178,10 +183,28 @@ fn a_put_shows_the_block_and_the_one_that_it_replaces() {
 }
 
 #[test]
+fn hashes_are_looked_up_in_order() {
+    let map = BytesMap::<Counted>::builder(1_000).threads(1).open().unwrap();
+    let hash_of = |key: u64| map.hash_of(key.to_string().as_bytes());
+    let since = (0..100).map(|key| map.put(make(key, key)).unwrap().at).collect::<Vec<u64>>();
+    // Each second one is absent.
+    let hashes = (0..200).map(|number| hash_of(if number % 2 == 0 { number / 2 } else { 1_000 + number })).collect::<Vec<u64>>();
+    let mut seen = Vec::new();
+    map.look_hashes(&hashes, |index, look| match look {
+        Ok(Look::Found { result, since, .. }) => seen.push((index, Some((result.number, since)))),
+        Ok(Look::Absent { .. }) => seen.push((index, None)),
+        other => panic!("{}", other.is_ok()),
+    });
+    let expected = |index: usize| (index % 2 == 0).then(|| (index as u64 / 2, since[index / 2]));
+    assert_eq!(seen, (0..200).map(|index| (index, expected(index))).collect::<Vec<_>>());
+}
+
+#[test]
 fn a_block_that_is_evicted_is_not_replaced() {
     let map = BytesMap::<Counted>::builder(10).shards(1).threads(1).open().unwrap();
     for key in 0..50 {
-        let (_, replaced) = map.put_seen(make(key, 1), |_, old| old.is_some()).unwrap();
+        let block = make(key, 1);
+        let (_, replaced) = map.put_seen(map.hash_of(block.key()), block, |_, old| old.is_some()).unwrap();
         assert!(!replaced);
     }
     assert!(map.stats().evicted >= 30);
@@ -192,6 +215,7 @@ fn a_key_is_not_taken_for_another_one_with_its_hash() {
     let map = BytesMap::<Counted>::builder(100).threads(1).hasher(BuildHasherDefault::<Same>::default()).open().unwrap();
     let at = map.put(make(1, 10)).unwrap().at;
     map.look_many(&[b"2"], |_, look| assert!(matches!(look, Ok(Look::Absent { .. }))));
+    map.look(b"2", |look| assert!(matches!(look, Ok(Look::Absent { .. }))));
     assert!(matches!(map.remove_if(b"2", at), Err(IfError::NotThere { .. })));
     assert!(map.put_if_absent(make(2, 20)).is_ok(), "it takes the place of the other one");
     map.look_many(&[b"1", b"2"], |index, look| assert_eq!(matches!(look, Ok(Look::Found { .. })), index == 1));
@@ -228,12 +252,17 @@ fn threads_find_whole_blocks_and_each_is_freed_once() {
                     let key = next(&mut seed) % KEYS;
                     let text = key.to_string();
                     let mut token = None;
-                    map.look_many(&[text.as_bytes()], |_, look| {
+                    let mut see = |look: Result<Look<&Bytes<Counted>>, GetError>| {
                         if let Ok(Look::Found { result, since, .. }) = look {
                             check(key, result);
                             token = Some(since);
                         }
-                    });
+                    };
+                    if key % 2 == 0 {
+                        map.look(text.as_bytes(), see);
+                    } else {
+                        map.look_many(&[text.as_bytes()], |_, look| see(look));
+                    }
                     let new = || make(key, made.fetch_add(1, SeqCst));
                     match (next(&mut seed) % 4, token) {
                         (0, _) => done(map.put(new())),

@@ -25,6 +25,8 @@ pub struct Control {
     pub stalled: AtomicU64,
     /// How often what had left was to be freed.
     pub sweeps: AtomicUsize,
+    /// How many hashes were looked up together, at most.
+    pub most_together: AtomicUsize,
 }
 
 /// What is under the hash of a key.
@@ -106,6 +108,11 @@ impl Index for Plain {
         see(Ok(entry.map(|entry| (&*entry.item, entry.token))));
     }
 
+    fn look_hashes(&self, hashes: &[u64], each: &mut dyn FnMut(usize, Seen<'_>)) {
+        self.control.most_together.fetch_max(hashes.len(), SeqCst);
+        hashes.iter().enumerate().for_each(|(position, hash)| self.peek(*hash, &mut |seen| each(position, seen)));
+    }
+
     fn peek(&self, hash: u64, see: &mut dyn FnMut(Seen<'_>)) {
         if self.control.refuses_looks.load(SeqCst) {
             return see(Err(Refused::Held));
@@ -114,7 +121,7 @@ impl Index for Plain {
         see(Ok(items.get(&hash).map(|entry| (&*entry.item, entry.token))));
     }
 
-    fn put(&self, item: NewItem, see: &mut dyn FnMut(&Item, Option<&Item>)) -> Result<Token, Refused> {
+    fn put(&self, _: u64, item: NewItem, see: &mut dyn FnMut(&Item, Option<&Item>)) -> Result<Token, Refused> {
         match self.put_as(item, |_| true, see)? {
             Outcome::Done(token) => Ok(token),
             _ => unreachable!("there is no condition"),
