@@ -142,6 +142,12 @@ impl<V: Copy> Flights<V> {
         self.stripes.iter().for_each(|stripe| lock(stripe).clear());
     }
 
+    /// How many flights run. If there are none, a write takes no lock.
+    #[cfg(test)]
+    pub fn running(&self) -> usize {
+        self.running.load(SeqCst)
+    }
+
     /// How many threads and tasks have joined the flight of this key.
     #[cfg(test)]
     pub fn passengers(&self, print: Print) -> usize {

@@ -1,6 +1,6 @@
 //! One thread computes a value, and others wait for it. A value that was computed before a write of its key is not put after it.
 use super::waiting::LONG;
-use crate::{GetError, Inserted, Map};
+use crate::{Board, GetError, Inserted, Lead, Map};
 use std::panic::catch_unwind;
 use std::sync::mpsc::{channel, Receiver, Sender};
 use std::thread;
@@ -145,4 +145,28 @@ fn a_write_of_another_key_does_not_matter() {
         map.remove(&key).unwrap();
     }
     assert_eq!((computation.end(), map.get(&KEY)), (1, Some(1)));
+}
+
+fn lead(map: &Numbers, key: u64) -> Lead<'_, u64, u64> {
+    match map.try_board(&key) {
+        Board::Lead(lead) => lead,
+        _ => panic!("nobody loads {key}"),
+    }
+}
+
+#[test]
+fn a_write_finds_each_flight_that_runs_though_others_have_ended() {
+    let map = Numbers::new(100).unwrap();
+    for rounds in 0..3 {
+        let leads = [1, 2, 3].map(|key| lead(&map, key));
+        assert_eq!(map.inner.flights.running(), 3, "round {rounds}");
+        let [first, second, third] = leads;
+        assert_eq!(first.publish(10), 10);
+        drop(second);
+        assert_eq!(map.inner.flights.running(), 1);
+        map.remove(&3).unwrap();
+        assert_eq!((third.publish(30), map.get(&3)), (30, None), "it was detached");
+        assert_eq!(map.inner.flights.running(), 0);
+        assert_eq!(map.remove(&1), Ok(Some(10)));
+    }
 }
