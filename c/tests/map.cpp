@@ -63,7 +63,9 @@ static void openings() {
     MUST(numbers.open({0}) == Status::bad_items && numbers.open({100, 3}) == Status::bad_shards && numbers.open({100, 4, 0}) == Status::bad_handles);
     MUST(numbers.open({100, 4, 1025}) == Status::bad_handles && !numbers.is_open() && numbers.capacity() == 0);
     MUST(numbers.find(1) == std::nullopt && numbers.get(1).status == Status::closed && numbers.peek(1).status == Status::closed && !numbers.contains(1) && numbers.size() == 0);
-    MUST(numbers.insert(1, 1).status == Status::closed && numbers.insert_or_assign(1, 1).status == Status::closed);
+    for (const cefrodil::Stored stored : {numbers.insert(1, 1), numbers.insert_or_assign(1, 1)}) {
+        MUST(stored.status == Status::closed && !stored.renewed && !stored.evicted);
+    }
     std::optional<uint64_t> found[2] = {1, 2};
     const uint64_t keys[2] = {1, 2};
     MUST(numbers.find_many(keys, 2, found) == 0 && !found[0] && !found[1]);
