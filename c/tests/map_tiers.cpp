@@ -216,7 +216,8 @@ static void each_lookup_counts_once() {
     // This one looks into the main table again, since a key has moved.
     MUST(counted([&] { MUST(numbers.find(7) == 0); }, 0, 1));
     MUST(counted([&] { MUST(numbers.find(7) == 0); }, 0, 1));
-    MUST(counted([&] { MUST(numbers.find_many(7) == 0 && numbers.find_many(the_key) == 10); }, 1, 1));
+    MUST(counted([&] { MUST(numbers.find_many(7) == 0); }, 0, 1));
+    MUST(counted([&] { MUST(numbers.find_many(the_key) == 10); }, 1, 0));
     MUST(counted([&] { MUST(numbers.erase(the_key) == Status::ok); }, 1, 0));
 }
 
