@@ -25,7 +25,7 @@ const LOOKS_OF_A_PUT: u32 = 4;
 
 /// How many entries a command looks at, at most, if the queues are too long. They are looked up together, which takes less for each. Meanwhile no
 /// other command can evict their items, so if there are few items, it looks at fewer.
-const TIDIED: usize = 64;
+const TIDIED: usize = 32;
 const FEW_TIDIED: usize = 8;
 const PART_OF_TIDIED: usize = 8;
 

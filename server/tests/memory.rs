@@ -78,7 +78,7 @@ fn the_queue_forgets_items_that_were_overwritten() {
 
 #[test]
 fn a_command_takes_few_of_few_items_from_the_queue() {
-    for (items, most) in [(10, 8), (200, 25), (2_000, 64)] {
+    for (items, most) in [(10, 8), (200, 25), (2_000, 32)] {
         let mut client = Client::new(MEGABYTE);
         for number in 0..4 * items + 3_000 {
             client.ask(&format!("set {} 0 0 0\n\n", number % items));
