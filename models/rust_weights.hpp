@@ -1,4 +1,4 @@
-// How an entry of a queue of the crate `cefrodil-map` stands for the objects of a key, if the number of objects is bounded, line by line. .ci/models
+// How an entry of a queue of the crate `cefrodil-map` represents the objects of a key, if the number of objects is bounded, line by line. .ci/models
 // checks that each quoted line is still there.
 //| in map/src/objects/weights.rs
 //
@@ -21,7 +21,7 @@ struct RustWeights : rl::test_suite<RustWeights, 3> {
     static constexpr int none = 0, first = 1, most = 8;
 
     explored::Atomic<int> index{first};
-    // The entry that stands for each object.
+    // The entry that represents each object.
     std::array<explored::Atomic<int>, 4> entries{explored::Atomic<int>(none), explored::Atomic<int>(first), explored::Atomic<int>(none),
                                                  explored::Atomic<int>(none)};
     explored::Mutex lock{};

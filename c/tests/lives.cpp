@@ -1,7 +1,7 @@
 // Entries of a map of objects end: at their deadline, or when nobody has found them for a time. The tests set the clock.
 // Argument: by how much less to do.
 #include "cefrodil_object_map.hpp"
-#include "must.h"
+#include "ending_entries.hpp"
 #include <algorithm>
 #include <cstdlib>
 #include <map>
@@ -12,8 +12,6 @@ using cefrodil::object_map;
 using cefrodil::Status;
 using std::chrono::nanoseconds;
 using Numbers = object_map<uint64_t, uint64_t>;
-
-static std::atomic<int64_t> now{0};
 
 static Numbers::Rules living(nanoseconds to_live, nanoseconds to_idle = forever) {
     Numbers::Rules rules;
@@ -138,11 +136,6 @@ static void weighed() {
     MUST(numbers.erase_expired() == Status::ok && numbers.weight() == 50 && numbers.find(1) == 50u && numbers.size() == 1);
 }
 
-static uint64_t next_random(uint64_t &state) {
-    state = state * 6364136223846793005 + 1442695040888963407;
-    return state >> 33;
-}
-
 // All keys have few numbers in the index.
 struct Meeting {
     cefrodil::HashPair operator()(const uint64_t &key, const cefrodil::HashSecret &) const noexcept { return {key % 7, key}; }
@@ -195,33 +188,11 @@ template <class Hash> static void agrees_with_a_model(uint64_t calls) {
     MUST(expired > calls / 200);
 }
 
-// No call finds a value that had expired when the call began, while the clock goes on and others put.
 static void threads(uint64_t calls) {
     now = 0;
     Numbers map;
-    std::atomic<uint64_t> wrong{0}, hits{0};
     MUST(map.open({1000}, living(nanoseconds(1000), nanoseconds(700))) == Status::ok);
-    const auto work = [&](uint64_t drawn) {
-        for (uint64_t n = 0; n < calls; n++) {
-            const uint64_t key = next_random(drawn) % 100;
-            const int64_t before = now++;
-            // A value is when its put began.
-            const auto found = map.find(key);
-            wrong += found && int64_t(*found) + 1000 + 100 * 1000 < before;
-            hits += found.has_value();
-            static_cast<void>(n % 3 == 0 ? map.insert(key, uint64_t(now)).status : n % 3 == 1 ? map.erase(key) : map.erase_expired());
-        }
-    };
-    std::vector<std::thread> running;
-    for (uint64_t n = 1; n <= 3; n++) {
-        running.emplace_back(work, n);
-    }
-    std::for_each(running.begin(), running.end(), [](std::thread &thread) { thread.join(); });
-    now += 1000;
-    for (uint64_t key = 0; key < 100; key++) {
-        MUST(!map.contains(key));
-    }
-    MUST(wrong == 0 && hits > 0 && map.erase_expired() == Status::ok && map.size() == 0);
+    threads_find_nothing_that_has_ended(map, calls);
 }
 
 int main(int argc, char **argv) {

@@ -1,6 +1,6 @@
 // Entries of a timed_map end: at their deadline, or when nobody has found them for a time. The tests set the clock. Argument: by how much less to do.
 #include "cefrodil_timed_map.hpp"
-#include "must.h"
+#include "ending_entries.hpp"
 #include <algorithm>
 #include <cstdlib>
 #include <map>
@@ -10,8 +10,6 @@ using cefrodil::forever;
 using cefrodil::Status;
 using std::chrono::nanoseconds;
 using Numbers = cefrodil::timed_map<uint64_t, uint64_t>;
-
-static std::atomic<int64_t> now{0};
 
 static cefrodil::Lives living(nanoseconds to_live, nanoseconds to_idle = forever) {
     return {to_live, to_idle, [] { return nanoseconds(now.load()); }};
@@ -133,11 +131,6 @@ static void idle_in_two_tables() {
     MUST(numbers.find(100) == 1u && numbers.erase_expired() == Status::ok && numbers.size() == 1);
 }
 
-static uint64_t next_random(uint64_t &state) {
-    state = state * 6364136223846793005 + 1442695040888963407;
-    return state >> 33;
-}
-
 // All keys have few numbers in the index, so one key's entry gives way to another's.
 struct Meeting {
     cefrodil::HashPair operator()(const uint64_t &key, const cefrodil::HashSecret &) const noexcept { return {key % 7, key}; }
@@ -181,34 +174,11 @@ template <class Hash> static void agrees_with_a_model(const cefrodil::MapOptions
     MUST(hits > calls / 20 && misses > calls / 50);
 }
 
-// No call finds a value that had expired when the call began, while the clock goes on and others put.
 static void threads(uint64_t calls) {
     now = 0;
     Numbers map;
-    std::atomic<uint64_t> wrong{0}, hits{0};
     MUST(map.open({1000}, living(nanoseconds(1000), nanoseconds(700))) == Status::ok);
-    const auto work = [&](uint64_t drawn) {
-        for (uint64_t n = 0; n < calls; n++) {
-            const uint64_t key = next_random(drawn) % 100;
-            const int64_t before = now++;
-            // A value is when its put began. The clock goes on by less than that between the begin of a put and its deadline.
-            const auto found = map.find(key);
-            wrong += found && int64_t(*found) + 1000 + 100 * 1000 < before;
-            hits += found.has_value();
-            const Status status = n % 3 == 0 ? map.insert(key, uint64_t(now)).status : n % 3 == 1 ? map.erase(key) : map.erase_expired();
-            wrong += status != Status::ok && status != Status::absent && status != Status::present;
-        }
-    };
-    std::vector<std::thread> running;
-    for (uint64_t n = 1; n <= 3; n++) {
-        running.emplace_back(work, n);
-    }
-    std::for_each(running.begin(), running.end(), [](std::thread &thread) { thread.join(); });
-    now += 1000;
-    for (uint64_t key = 0; key < 100; key++) {
-        MUST(!map.contains(key));
-    }
-    MUST(wrong == 0 && hits > 0 && map.erase_expired() == Status::ok && map.size() == 0);
+    threads_find_nothing_that_has_ended(map, calls);
 }
 
 int main(int argc, char **argv) {

@@ -21,7 +21,7 @@ impl Generation {
     }
 }
 
-/// What this number adds to the check words of an generation. It is odd, so no two generations have the same.
+/// What this number adds to the check words of a generation. It is odd, so no two generations have the same.
 const STEP: u64 = 0x9e37_79b9_7f4a_7c15;
 
 /// The check word of a key in this generation.

@@ -1,10 +1,12 @@
 //! A map all of whose entries are invalidated by one step.
 mod ends;
 mod executor;
+mod loads;
 
 use cefrodil_map::{Board, Inserted, Map};
 use ends::ends;
 use executor::poll;
+use loads::load_beside_invalidations;
 use std::sync::atomic::{AtomicBool, AtomicU64, Ordering::SeqCst};
 use std::sync::Arc;
 use std::task::Poll;
@@ -89,34 +91,18 @@ fn what_was_being_made_when_it_came_is_not_found() {
 
 #[test]
 fn no_value_is_older_than_an_invalidation_that_has_returned() {
-    ends(|| load_beside_invalidations(|| Numbers::builder(8).one_table().open().unwrap()));
-    ends(|| load_beside_invalidations(|| Numbers::builder(8).open().unwrap()));
+    ends(|| load_from_source(|| Numbers::builder(8).one_table().open().unwrap()));
+    ends(|| load_from_source(|| Numbers::builder(8).open().unwrap()));
 }
 
 // A value is the source's number when it was loaded.
-fn load_beside_invalidations(open: fn() -> Numbers) {
-    let (map, source, told, end) = (open(), AtomicU64::new(0), AtomicU64::new(0), AtomicBool::new(false));
-    thread::scope(|threads| {
-        for thread in 0..3 {
-            let (map, source, told, end) = (&map, &source, &told, &end);
-            threads.spawn(move || {
-                let mut key = thread;
-                while !end.load(SeqCst) {
-                    key = (key + 3) % 16;
-                    let least = told.load(SeqCst);
-                    let value = map.get_or_insert_with(&key, || source.load(SeqCst));
-                    assert!(value >= least, "{value} is older than {least}");
-                    assert!(map.get(&key).is_none_or(|value| value >= least));
-                }
-            });
-        }
-        for number in 1..5_000 {
-            source.store(number, SeqCst);
-            map.invalidate_all();
-            told.store(number, SeqCst);
-        }
-        end.store(true, SeqCst);
-    });
+fn load_from_source(open: fn() -> Numbers) {
+    let map = open();
+    load_beside_invalidations(
+        |key, source| map.get_or_insert_with(&key, || source.load(SeqCst)),
+        |key| map.get(&key),
+        || map.invalidate_all(),
+    );
 }
 
 #[test]

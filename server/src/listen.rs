@@ -13,7 +13,7 @@ use std::path::{Path, PathBuf};
 /// A place to listen at.
 #[derive(Clone, Debug, PartialEq, Eq)]
 pub enum Place {
-    /// A host's name or address, and a port. A name may stand for several addresses.
+    /// A host's name or address, and a port. A name may have several addresses.
     Host(String, u16),
     /// A Unix socket in the file system, and the bits of its mode.
     File(PathBuf, u32),

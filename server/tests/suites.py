@@ -59,7 +59,7 @@ def prepared(source, folder):
 
 def outcome(folder, name):
     """How many assertions hold and fail in a file, and whether it passes whole. None: it leaves itself out."""
-    # Each has a session of its own, so that the servers of a test that waits for ever end with it.
+    # In a group of its own, which is killed if a test waits for ever: so its servers end, too.
     process = subprocess.Popen(['perl', '-Ilib', f't/{name}'], cwd=folder, stdout=subprocess.PIPE, stderr=subprocess.DEVNULL, text=True, errors='replace', start_new_session=True)
     try:
         said, _ = process.communicate(timeout=TIMEOUT)

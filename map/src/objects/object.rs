@@ -65,7 +65,7 @@ pub(crate) unsafe trait Held: Sized {
     /// Notes the queue that gets its entry. None moves from the main queue to the small one.
     fn set_line(&self, _: Line) {}
 
-    /// In a map with a bound on the number of objects, the moment of the put whose entry in a queue stands for it. `None`: not noted so far.
+    /// In a map with a bound on the number of objects, the moment of the put whose entry in a queue represents it. `None`: not noted so far.
     fn entry(&self) -> Option<u64> {
         None
     }

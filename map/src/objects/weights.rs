@@ -5,6 +5,7 @@ use super::object::Held;
 use super::pinned::Pinned;
 use super::put::Done;
 use super::queues::{Line, Queued, Queues};
+use crate::sketch::mixed;
 use cefrodil::{PutIfError, Reply, TurnError};
 use std::mem;
 use std::sync::atomic::{AtomicIsize, AtomicU64, Ordering::Relaxed};
@@ -19,7 +20,7 @@ const SPARED: u32 = 1024;
 pub(crate) type Weigher<O> = Box<dyn Fn(&O) -> u64 + Send + Sync>;
 
 /// What objects may weigh together. Without a weigher each weighs 1, and each of some parts has a bound of its own: so puts of most keys share no lock.
-/// Then the entry of an object stands for those, too, that replace it: such a put takes no lock.
+/// Then the entry of an object also represents those that replace it: such a put takes no lock.
 pub(crate) struct Weights<O> {
     weigher: Option<Weigher<O>>,
     // By the hash of the key. A power of two.
@@ -44,9 +45,9 @@ pub(crate) struct Place {
     pub since: u64,
 }
 
-/// What an entry of a queue stands for.
+/// What an entry of a queue represents.
 enum Holder {
-    /// No object: what it stood for has left.
+    /// No object: the one that it represented has left.
     Nothing,
     /// An object that was put at this moment, and whether it was used since this was asked of it, or is being put by another thread.
     Object { since: u64, is_used: bool },
@@ -98,10 +99,10 @@ impl<O> Weights<O> {
         self.weigher.is_none().then(|| self.parts.iter().map(|part| part.most as usize).sum())
     }
 
-    /// That of the keys with this hash. Keys may be spread badly.
+    /// That of the keys with this hash.
     pub fn part(&self, hash: u64) -> &Part {
-        let mixed = (hash ^ hash >> 32).wrapping_mul(0x9e37_79b9_7f4a_7c15);
-        &self.parts[(mixed >> 32) as usize & (self.parts.len() - 1)]
+        // By other bits than the sketch of a part, which would have few rows for its keys.
+        &self.parts[(mixed(hash) >> 32) as usize & (self.parts.len() - 1)]
     }
 
     /// How many entries the queues have.
@@ -192,7 +193,7 @@ impl<O: Held, S> ObjectInner<O, S> {
             let Some(first) = queues.pop_if_long(part.objects()) else { return };
             let pinned = self.pin();
             let peeked = self.slots.call(|handle| handle.try_peek(first.entry.hash));
-            if peeked.map_or(true, |reply| self.stands_for(&pinned, &reply, first.entry).is_some()) {
+            if peeked.map_or(true, |reply| self.represented(&pinned, &reply, first.entry).is_some()) {
                 queues.push(first);
             }
         }
@@ -250,20 +251,20 @@ impl<O: Held, S> ObjectInner<O, S> {
                 Fate::Evicted
             }
             Err(TurnError::Held | TurnError::Call(PutIfError::Spent)) => Fate::Held,
-            // The entry stands for the object that has replaced it.
+            // The entry represents the object that has replaced it.
             Err(TurnError::Call(PutIfError::Changed { .. })) if self.counts_objects() => Fate::Stays(queued.line),
             Err(_) => Fate::Old,
         }
     }
 
-    // What this entry stands for. A used object goes to the main queue, unless it has expired. `None`: each lookup was busy.
+    // What this entry represents. A used object goes to the main queue, unless it has expired. `None`: each lookup was busy.
     fn holder(&self, place: Place) -> Option<Holder> {
         let pinned = self.pin();
         let reply = self.slots.within(self.looks(), || match self.slots.call(|handle| handle.get_or_turn(place.hash)) {
             Reply::Busy => None,
             reply => Some(reply),
         })?;
-        let Some((object, since)) = self.stands_for(&pinned, &reply, place) else { return Some(Holder::Nothing) };
+        let Some((object, since)) = self.represented(&pinned, &reply, place) else { return Some(Holder::Nothing) };
         let is_being_put = self.counts_objects() && object.entry().is_none();
         let is_used = object.take_used() && self.is_live(object) || is_being_put;
         if is_used {
@@ -272,8 +273,8 @@ impl<O: Held, S> ObjectInner<O, S> {
         Some(Holder::Object { since, is_used })
     }
 
-    // The object of this reply if the entry stands for it, or may do so once another thread has put it, and the moment of its put.
-    fn stands_for<'a>(&self, pinned: &'a Pinned<O, S>, reply: &Reply<1>, place: Place) -> Option<(&'a O, u64)> {
+    // The object of this reply if the entry represents it, or may do so once another thread has put it, and the moment of its put.
+    fn represented<'a>(&self, pinned: &'a Pinned<O, S>, reply: &Reply<1>, place: Place) -> Option<(&'a O, u64)> {
         let Reply::Found { value: [word], since, .. } = *reply else { return None };
         let object = pinned.object(word);
         let is_so =

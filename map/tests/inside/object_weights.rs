@@ -67,9 +67,9 @@ fn queues_of_a_small_map_are_short() {
     assert!(map.len() == 300 && queued() <= 300 * 5 / 2, "{} entries for {} objects", queued(), map.len());
 }
 
-// While the index holds an object, another thread may not have noted yet which entry stands for it.
+// While the index holds an object, another thread may not have noted yet which entry represents it.
 #[test]
-fn an_entry_stays_until_it_is_known_whether_it_stands_for_an_object() {
+fn an_entry_stays_until_it_is_known_whether_it_represents_an_object() {
     let map = ObjectMap::<u64, u64>::builder(2).shards(1).threads(1).open().unwrap();
     map.insert(1, 10).unwrap();
     let hash = map.hash_of(&1);
@@ -120,7 +120,7 @@ fn only_maps_of_objects_have_queues() {
     assert!(ObjectMap::<u64, u64>::builder(100).open().unwrap().inner.weights.is_some());
 }
 
-// While an object is to be evicted, its key is put again. Then its entry stays, since it stands for the newer object.
+// While an object is to be evicted, its key is put again. Then its entry stays, since it represents the newer object.
 #[test]
 fn an_entry_stays_whose_object_is_replaced_while_it_is_to_give_way() {
     let map: Arc<OnceLock<Numbers>> = Arc::default();

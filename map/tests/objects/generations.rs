@@ -1,11 +1,11 @@
 //! A map of objects all of which are invalidated by one step.
 use crate::ends::ends;
 use crate::executor::poll;
+use crate::loads::load_beside_invalidations;
 use cefrodil_map::{Board, Inserted, Look, ObjectMap, Reason};
-use std::sync::atomic::{AtomicBool, AtomicU64, Ordering::SeqCst};
+use std::sync::atomic::Ordering::SeqCst;
 use std::sync::{Arc, Mutex};
 use std::task::Poll;
-use std::thread;
 use std::time::Duration;
 
 type Numbers = ObjectMap<u64, u64>;
@@ -119,32 +119,15 @@ fn what_was_being_made_when_it_came_is_not_found() {
 
 #[test]
 fn no_value_is_older_than_an_invalidation_that_has_returned() {
-    ends(load_beside_invalidations);
+    ends(load_from_source);
 }
 
 // A value is the source's number when it was loaded.
-fn load_beside_invalidations() {
-    let (map, source, told) = (Numbers::new(8).unwrap(), AtomicU64::new(0), AtomicU64::new(0));
-    let end = AtomicBool::new(false);
-    thread::scope(|threads| {
-        for thread in 0..3 {
-            let (map, source, told, end) = (&map, &source, &told, &end);
-            threads.spawn(move || {
-                let mut key = thread;
-                while !end.load(SeqCst) {
-                    key = (key + 3) % 16;
-                    let least = told.load(SeqCst);
-                    let value = map.get_or_insert_with(&key, || source.load(SeqCst));
-                    assert!(value >= least, "{value} is older than {least}");
-                    assert!(map.get(&key).is_none_or(|value| value >= least));
-                }
-            });
-        }
-        for number in 1..5_000 {
-            source.store(number, SeqCst);
-            map.invalidate_all();
-            told.store(number, SeqCst);
-        }
-        end.store(true, SeqCst);
-    });
+fn load_from_source() {
+    let map = Numbers::new(8).unwrap();
+    load_beside_invalidations(
+        |key, source| map.get_or_insert_with(&key, || source.load(SeqCst)),
+        |key| map.get(&key),
+        || map.invalidate_all(),
+    );
 }

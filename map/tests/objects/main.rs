@@ -14,6 +14,8 @@ mod generations;
 mod handles;
 mod ledger;
 mod listener;
+#[path = "../loads/mod.rs"]
+mod loads;
 mod model;
 mod panics;
 mod published;
