@@ -1,7 +1,7 @@
 //! The answer of `stats cachedump`: a list of items.
 use crate::command::{line, text};
 use crate::item::Item;
-use crate::queue::Cursor;
+use crate::queue::{Cursor, Entry};
 use crate::store::Store;
 use std::io::Write;
 
@@ -27,24 +27,25 @@ fn list(store: &Store, most: u64, out: &mut Vec<u8>) {
     // Items that are spared meanwhile come again at the end of their queue. So no more entries are looked at than there are now.
     let mut left = store.queue.entries();
     while let (Some(cursor), 1..) = (next, left) {
-        let (stamps, behind) = store.queue.look_from(cursor, LOOKED_AT.min(left));
-        left -= stamps.len();
+        let (entries, behind) = store.queue.look_from(cursor, LOOKED_AT.min(left));
+        left -= entries.len();
         next = behind;
-        for stamp in stamps {
+        for Entry { hash, number } in entries {
             if listed == most || out.len() >= end {
                 return;
             }
-            store.index.peek_stamped(stamp, &mut |seen| {
-                if let Some((item, _)) = seen.ok().flatten().filter(|(item, _)| store.is_live(item)) {
+            store.index.peek(hash, &mut |seen| {
+                let item = seen.ok().flatten().map(|(item, _)| item);
+                if let Some(item) = item.filter(|item| item.number() == Some(number) && store.is_live(item)) {
                     listed += 1;
-                    entry(store, item, out);
+                    write_item(store, item, out);
                 }
             });
         }
     }
 }
 
-fn entry(store: &Store, item: &Item, out: &mut Vec<u8>) {
+fn write_item(store: &Store, item: &Item, out: &mut Vec<u8>) {
     out.extend_from_slice(b"ITEM ");
     out.extend_from_slice(item.key());
     text!(out, " [{} b; {} s]\r\n", item.value().len(), store.clock.unix_end(item.deadline()));

@@ -2,7 +2,7 @@
 use crate::ceiling::Expected;
 use crate::index::{Outcome, Refused, Stamp};
 use crate::item::Item;
-use crate::queue::{Line, Queue, Queued};
+use crate::queue::{Entry, Line, Queue, Queued};
 use crate::room::Leaving;
 use crate::slabs;
 use crate::store::{Fault, Store};
@@ -43,12 +43,15 @@ enum Way {
     WithNeighbours,
 }
 
-/// What an entry of a queue is.
-enum Entry {
+/// What an entry of a queue stands for.
+enum Verdict {
+    /// No item.
     Old,
     /// It goes to the end of this queue.
     Spared(Line),
-    Victim(Leaving),
+    /// The item that is to be kept.
+    Kept,
+    Victim(Stamp, Leaving),
 }
 
 impl Store {
@@ -114,28 +117,35 @@ impl Store {
         false
     }
 
-    /// Notes that an item was stored.
-    pub(crate) fn enqueue(&self, queued: Queued<Stamp>) {
-        self.queue.push(queued);
+    /// Adds an entry for an item that was stored, and has replaced none.
+    pub(crate) fn enqueue(&self, entry: Entry, bytes: u64) {
+        let line = self.queue.line_of_new(entry.hash);
+        self.queue.push(Queued { entry, line, weight: bytes });
         self.tidy();
     }
 
-    /// Removes one item, or also its neighbours. Returns whether there was one that could be removed.
+    /// Removes one item, or also its neighbours. Returns whether it has, or another command has replaced that one.
     fn evict(&self, kept: Option<Stamp>, way: Way) -> bool {
         let mut from = None;
         for looked in 0..2 * LOOKS {
             let popped = from.map_or_else(|| self.queue.pop(self.room.limit()), |line| self.queue.pop_from(line));
             let Some(queued) = popped else { return false };
-            if kept == Some(queued.entry) {
-                // All that were before it in its queue were looked at.
-                from = Some(queued.line.other());
-            }
             match self.judge(queued, kept, looked < LOOKS) {
-                Entry::Old => {}
-                Entry::Spared(line) => self.queue.push(Queued { line, ..queued }),
-                Entry::Victim(leaving) => match self.remove_in(way, queued, leaving, kept) {
-                    Ok(true) => return true,
-                    Ok(false) => {}
+                Verdict::Old => {}
+                Verdict::Spared(line) => self.queue.push(Queued { line, ..queued }),
+                Verdict::Kept => {
+                    // All that were before it in its queue were looked at.
+                    from = Some(queued.line.other());
+                    self.queue.push(Queued { line: Line::Main, ..queued });
+                }
+                Verdict::Victim(stamp, leaving) => match self.remove_in(way, queued, (stamp, leaving), kept) {
+                    Ok(Outcome::Done(_)) => return true,
+                    Ok(Outcome::Absent) => {}
+                    // It represents the item that has replaced that one. There may be room now: for that item others have left.
+                    Ok(Outcome::Changed) => {
+                        self.queue.push(queued);
+                        return true;
+                    }
                     Err(_) => {
                         self.queue.push(queued);
                         return false;
@@ -146,29 +156,35 @@ impl Store {
         false
     }
 
-    /// Removes an item in this way. One that is kept stays. Returns whether the item was still there.
-    fn remove_in(&self, way: Way, queued: Queued<Stamp>, leaving: Leaving, kept: Option<Stamp>) -> Result<bool, Refused> {
-        let neighbours = if way == Way::WithNeighbours { self.neighbours(queued.entry) } else { Vec::new() };
-        let was_there = self.remove(queued.entry, leaving)?;
-        if was_there {
-            self.queue.gave_way(queued, queued.entry.hash);
+    /// Removes an item in this way. One that is kept stays.
+    fn remove_in(
+        &self,
+        way: Way,
+        queued: Queued<Entry>,
+        (stamp, leaving): (Stamp, Leaving),
+        kept: Option<Stamp>,
+    ) -> Result<Outcome, Refused> {
+        let neighbours = if way == Way::WithNeighbours { self.neighbours(stamp) } else { Vec::new() };
+        let outcome = self.remove(stamp, leaving)?;
+        if let Outcome::Done(_) = outcome {
+            self.queue.gave_way(queued, stamp.hash);
         }
         let stamps = neighbours.into_iter().filter_map(|(hash, at)| self.stamp_at(hash, at));
         for (neighbour, leaving) in stamps.filter(|(stamp, _)| Some(*stamp) != kept) {
             // If it can't be removed, it stays. Otherwise it leaves for its place in memory, so its key comes back to the main queue.
-            if let Ok(true) = self.remove(neighbour, leaving) {
-                self.queue.gave_way(Queued { entry: neighbour, line: Line::Small, weight: 0 }, neighbour.hash);
+            if let Ok(Outcome::Done(_)) = self.remove(neighbour, leaving) {
+                self.queue.gave_way(Queued { line: Line::Small, ..queued }, neighbour.hash);
             }
         }
-        Ok(was_there)
+        Ok(outcome)
     }
 
-    fn remove(&self, stamp: Stamp, leaving: Leaving) -> Result<bool, Refused> {
-        let was_there = matches!(self.index.remove_stamped(stamp)?, Outcome::Done(_));
-        if was_there {
+    fn remove(&self, stamp: Stamp, leaving: Leaving) -> Result<Outcome, Refused> {
+        let outcome = self.index.remove_stamped(stamp)?;
+        if let Outcome::Done(_) = outcome {
             self.room.count_gone(leaving);
         }
-        Ok(was_there)
+        Ok(outcome)
     }
 
     /// The hashes and addresses of all items that lie in one chunk with this one.
@@ -193,24 +209,31 @@ impl Store {
         stamp
     }
 
-    fn judge(&self, queued: Queued<Stamp>, kept: Option<Stamp>, may_spare: bool) -> Entry {
-        let mut entry = Entry::Old;
-        self.index.look_stamped(queued.entry, &mut |seen| {
-            entry = match seen {
-                Ok(Some((item, _))) => {
-                    let is_kept = kept == Some(queued.entry);
-                    if is_kept || (item.take_used() && may_spare && self.is_live(item)) {
-                        item.set_line(Line::Main);
-                        Entry::Spared(Line::Main)
+    fn judge(&self, queued: Queued<Entry>, kept: Option<Stamp>, may_spare: bool) -> Verdict {
+        let Entry { hash, number } = queued.entry;
+        let mut verdict = Verdict::Old;
+        self.index.look_hash(hash, &mut |seen| {
+            verdict = match seen {
+                Ok(Some((item, token))) if item.is_represented_by(number) => {
+                    let stamp = Stamp { hash, token };
+                    if kept == Some(stamp) {
+                        Verdict::Kept
+                    } else if may_spare && self.is_spared(item) {
+                        Verdict::Spared(Line::Main)
                     } else {
-                        Entry::Victim(self.leaving(item))
+                        Verdict::Victim(stamp, self.leaving(item))
                     }
                 }
-                Ok(None) => Entry::Old,
-                Err(_) => Entry::Spared(queued.line),
+                Ok(_) => Verdict::Old,
+                Err(_) => Verdict::Spared(queued.line),
             }
         });
-        entry
+        verdict
+    }
+
+    /// Whether the item was used, or is being put by another thread.
+    fn is_spared(&self, item: &Item) -> bool {
+        item.take_used() && self.is_live(item) || item.number().is_none()
     }
 
     /// What is counted of an item if it gives way now.
@@ -234,7 +257,7 @@ impl Store {
         let hashes = popped.map(|queued| queued.entry.hash);
         self.index.look_hashes(&hashes[..count], &mut |position, seen| {
             let queued = popped[position];
-            let is_old = seen.is_ok_and(|seen| seen.is_none_or(|(_, token)| token != queued.entry.token));
+            let is_old = seen.is_ok_and(|seen| seen.is_none_or(|(item, _)| !item.is_represented_by(queued.entry.number)));
             if !is_old {
                 self.queue.push(queued);
             }

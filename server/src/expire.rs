@@ -12,16 +12,16 @@ pub const LOOKED_AT: usize = 4096;
 impl Store {
     /// Looks at the next entries of the queue, and removes the items that are not live.
     pub fn expire(&self) {
-        for stamp in self.queue.look(LOOKED_AT) {
+        for entry in self.queue.look(LOOKED_AT) {
             let mut dead = None;
-            self.index.peek_stamped(stamp, &mut |seen| {
-                if let Ok(Some((item, _))) = seen {
+            self.index.peek(entry.hash, &mut |seen| {
+                if let Ok(Some((item, token))) = seen {
                     let leaving = self.leaving(item);
-                    dead = (!leaving.is_live).then(|| (item.key().to_vec(), leaving));
+                    dead = (!leaving.is_live).then(|| (item.key().to_vec(), token, leaving));
                 }
             });
-            if let Some((key, leaving)) = dead {
-                self.remove_dead(&key, stamp.token, leaving);
+            if let Some((key, token, leaving)) = dead {
+                self.remove_dead(&key, token, leaving);
             }
         }
         self.tidy();

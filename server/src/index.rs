@@ -44,8 +44,8 @@ pub trait Index: Send + Sync {
     /// Looks the keys up in order, and calls `each` with the position of each.
     fn look(&self, keys: &[&[u8]], each: &mut dyn FnMut(usize, Seen<'_>));
 
-    /// Looks up the item of this put, if it is still there.
-    fn look_stamped(&self, stamp: Stamp, see: &mut dyn FnMut(Seen<'_>));
+    /// Looks up the item with this hash.
+    fn look_hash(&self, hash: u64, see: &mut dyn FnMut(Seen<'_>));
 
     /// Looks up the items with these hashes in order, and calls `each` with the position of each.
     fn look_hashes(&self, hashes: &[u64], each: &mut dyn FnMut(usize, Seen<'_>));

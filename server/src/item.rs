@@ -1,9 +1,9 @@
 //! What is stored under a key.
 use crate::slabs;
-use cefrodil_map::{Block, Bytes, Head, Line};
+use cefrodil_map::{Block, Bytes, Head};
 use std::alloc::Layout;
 use std::mem::offset_of;
-use std::sync::atomic::{AtomicU64, AtomicU8, Ordering::Acquire, Ordering::Relaxed, Ordering::SeqCst};
+use std::sync::atomic::{AtomicU16, AtomicU64, Ordering::Acquire, Ordering::Relaxed, Ordering::SeqCst};
 use std::sync::Mutex;
 
 /// A key, its value, and what belongs to them.
@@ -22,23 +22,25 @@ pub struct About {
     /// The client's flags.
     pub flags: u32,
     value: u32,
+    /// `USED`, `FETCHED`, and the number of its entry in the queues, or 0 before that is noted. `USED` and `FETCHED` are hints: if one thread sees
+    /// another's change late, another item gives way.
+    marks: AtomicU16,
     key: u8,
-    /// `USED`, `IN_MAIN` and `FETCHED`. They are hints: if one thread sees another's change late, another item gives way.
-    marks: AtomicU8,
 }
 
-/// It was read lately.
-const USED: u8 = 1;
-
-/// Its entry is in the main queue.
-const IN_MAIN: u8 = 2;
+/// It was read lately, or has replaced another one.
+const USED: u16 = 1;
 
 /// It was ever read.
-const FETCHED: u8 = 4;
+const FETCHED: u16 = 2;
 
-// SAFETY: `marks` is the last field, and has one byte. Nobody changes the lengths. The memory is that of an allocator.
+/// The number is in the bits above, and at most this.
+const BITS_BELOW: u32 = 2;
+const MOST: u16 = u16::MAX >> BITS_BELOW;
+
+// SAFETY: `key` is the last field, and has one byte. Nobody changes the lengths. The memory is that of an allocator.
 unsafe impl Head for About {
-    const SIZE: usize = offset_of!(About, marks) + 1;
+    const SIZE: usize = offset_of!(About, key) + 1;
 
     fn lengths(&self) -> (usize, usize) {
         (self.key.into(), self.value as usize)
@@ -64,7 +66,7 @@ pub fn new_item(born: u64, flags: u32, deadline: u64, key: &[u8], value: &[&[u8]
         flags,
         value: length.try_into().expect("the longest value has 128 MB"),
         key: key.len().try_into().expect("the longest key has 250 bytes"),
-        marks: AtomicU8::new(0),
+        marks: AtomicU16::new(0),
     };
     let item = NewItem::new(about, key, value);
     slabs::note(&item);
@@ -120,20 +122,27 @@ impl About {
         self.marks.load(Relaxed) & FETCHED != 0
     }
 
-    /// The queue that has its entry.
-    pub fn line(&self) -> Line {
-        if self.marks.load(Relaxed) & IN_MAIN == 0 {
-            Line::Small
-        } else {
-            Line::Main
-        }
+    /// The number of the entry of the queues that represents it. `None`: not noted so far.
+    pub fn number(&self) -> Option<u16> {
+        // It says nothing of other memory, and is noted once.
+        Some(self.marks.load(Relaxed) >> BITS_BELOW).filter(|number| *number != 0)
     }
 
-    /// Notes the queue that gets its entry. None moves from the main queue to the small one.
-    pub fn set_line(&self, line: Line) {
-        if line == Line::Main {
-            self.marks.fetch_or(IN_MAIN, Relaxed);
+    /// Whether the entry of this number represents it, or may do so when its number is noted.
+    pub fn is_represented_by(&self, number: u16) -> bool {
+        self.number().is_none_or(|own| own == number)
+    }
+
+    /// Notes, once, the number of its entry: that of the item that it replaces, which is a use of the key, or that of a new entry. Returns a new one.
+    pub fn note_number(&self, older: Option<u16>) -> Option<u16> {
+        if let Some(number) = older {
+            self.marks.fetch_or(number << BITS_BELOW | USED, Relaxed);
+            return None;
         }
+        // By its time, so that two entries of a key hardly ever have the same.
+        let number = 1 + (self.born % u64::from(MOST)) as u16;
+        self.marks.fetch_or(number << BITS_BELOW, Relaxed);
+        Some(number)
     }
 }
 

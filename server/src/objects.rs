@@ -136,12 +136,12 @@ impl Index for Objects {
         }
     }
 
-    fn look_stamped(&self, stamp: Stamp, see: &mut dyn FnMut(Seen<'_>)) {
-        self.map.look_hash(stamp.hash, |found| {
+    fn look_hash(&self, hash: u64, see: &mut dyn FnMut(Seen<'_>)) {
+        self.map.look_hash(hash, |found| {
             if let Ok(found) = found {
-                self.log_look(|| stamp.hash, found);
+                self.log_look(|| hash, found);
             }
-            see(answers::seen(found).map(|seen| seen.filter(|(_, token)| *token == stamp.token)));
+            see(answers::seen(found));
         });
     }
 

@@ -5,7 +5,7 @@ use crate::counts::{Count, Counts};
 use crate::index::{Index, Refused, Seen, Token};
 use crate::item::{Flushes, Item};
 use crate::options::Options;
-use crate::queue::{Line, Queue};
+use crate::queue::Queue;
 use crate::room::Room;
 use crate::seat::Seats;
 use crate::turn::Turns;
@@ -68,7 +68,8 @@ pub enum Changed {
 /// What is under a key.
 pub(crate) enum Found<T> {
     Live(T, Token),
-    Dead(Token, Line),
+    /// With the number of its entry in the queues.
+    Dead(Token, Option<u16>),
     Absent,
 }
 
@@ -153,7 +154,7 @@ impl Store {
                 (Ok(Some((item, token))), Some(see)) if item.is_live(now, &self.flushes) => {
                     Ok(Found::Live(see(item, now), token))
                 }
-                (Ok(Some((item, token))), _) => Ok(Found::Dead(token, item.line())),
+                (Ok(Some((item, token))), _) => Ok(Found::Dead(token, item.number())),
                 (Ok(None), _) => Ok(Found::Absent),
                 (Err(_), _) => {
                     self.counts.add(Count::Busy);

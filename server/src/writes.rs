@@ -4,7 +4,7 @@ use crate::evict::Kept;
 use crate::index::{Outcome, Refused, Stamp, Token};
 use crate::item::{new_item, Item, NewItem};
 use crate::number;
-use crate::queue::{Line, Queued};
+use crate::queue::Entry;
 use crate::request::{Change, How, Order};
 use crate::room::cost;
 use crate::store::{Answer, Changed, Fault, Found, Store};
@@ -14,6 +14,20 @@ const TRIES: u32 = 1000;
 
 /// An item from this size on is freed as soon as it can be. Of smaller ones some wait.
 const LARGE: usize = 1 << 15;
+
+/// An item that is to be replaced.
+struct Older {
+    /// How many bytes its value has.
+    length: usize,
+    /// That of its entry in the queues.
+    number: Option<u16>,
+}
+
+impl Older {
+    fn of(item: &Item) -> Older {
+        Older { length: item.value().len(), number: item.number() }
+    }
+}
 
 impl Store {
     /// Stores this value as it is ordered.
@@ -40,12 +54,11 @@ impl Store {
     fn set(&self, order: &Order, data: &[u8]) -> Result<Answer, Fault> {
         let born = self.clock.now();
         let put = self.put(order.key, data.len(), None, |hash| {
-            let mut line = Line::Main;
+            let mut new = None;
             let token = self.index.put(hash, self.fresh(order, born, data), &mut |item, old| {
-                line = old.map_or_else(|| self.queue.line_of_new(hash), |old| old.line());
-                item.set_line(line);
+                new = item.note_number(old.and_then(|old| old.number()));
             })?;
-            Ok((Outcome::Done(token), line))
+            Ok((Outcome::Done(token), new))
         })?;
         Ok(put.map_or(Answer::NotStored, Answer::Done))
     }
@@ -69,9 +82,7 @@ impl Store {
         for _ in 0..TRIES {
             let found = self.find(order.key, |item, now| {
                 item.mark_used();
-                let next = self.over(order, data, item, now);
-                next.set_line(item.line());
-                (next, item.value().len())
+                (self.over(order, data, item, now), Older::of(item))
             })?;
             let (next, over) = match (found, order.how, order.compare) {
                 (Found::Absent | Found::Dead(..), How::Set | How::Replace, Some(_)) => return Ok(Answer::NotFound),
@@ -79,8 +90,8 @@ impl Store {
                 (Found::Live(_, token), _, Some(compare)) if token != compare => return Ok(Answer::Exists),
                 (Found::Absent | Found::Dead(..), How::Replace | How::Append | How::Prepend, _) => return Ok(Answer::NotStored),
                 (Found::Absent, ..) => (self.fresh(order, self.clock.now(), data), Found::Absent),
-                (Found::Dead(token, line), ..) => (self.fresh(order, self.clock.now(), data), Found::Dead(token, line)),
-                (Found::Live((next, length), token), ..) => (next, Found::Live(length, token)),
+                (Found::Dead(token, number), ..) => (self.fresh(order, self.clock.now(), data), Found::Dead(token, number)),
+                (Found::Live((next, older), token), ..) => (next, Found::Live(older, token)),
             };
             if next.value().len() > self.options.longest {
                 return Err(Fault::TooLong);
@@ -92,24 +103,22 @@ impl Store {
         Err(Fault::Disturbed)
     }
 
-    /// Puts an item over what was found: a live one with a value of this length, or another one, or none. `None`: that is not there any more.
-    fn put_over(&self, key: &[u8], found: Found<usize>, next: NewItem) -> Result<Option<Token>, Fault> {
-        let kept = match found {
-            Found::Live(length, token) => Some(Kept { stamp: self.stamp(key, token), bytes: cost(key.len(), length) }),
-            Found::Dead(..) | Found::Absent => None,
-        };
-        self.put(key, next.value().len(), kept, |hash| {
-            match found {
-                Found::Live(..) => {}
-                Found::Dead(_, line) => next.set_line(line),
-                Found::Absent => next.set_line(self.queue.line_of_new(hash)),
+    /// Puts an item over what was found. `None`: that is not there any more.
+    fn put_over(&self, key: &[u8], found: Found<Older>, next: NewItem) -> Result<Option<Token>, Fault> {
+        let (kept, number) = match found {
+            Found::Live(Older { length, number }, token) => {
+                (Some(Kept { stamp: self.stamp(key, token), bytes: cost(key.len(), length) }), number)
             }
-            let line = next.line();
+            Found::Dead(_, number) => (None, number),
+            Found::Absent => (None, None),
+        };
+        let new = next.note_number(number);
+        self.put(key, next.value().len(), kept, |_| {
             let outcome = match found {
                 Found::Live(_, token) | Found::Dead(token, _) => self.index.put_if(token, next),
                 Found::Absent => self.index.put_new(next),
             };
-            Ok((outcome?, line))
+            Ok((outcome?, new))
         })
     }
 
@@ -117,13 +126,14 @@ impl Store {
         Stamp { hash: self.index.hash_of(key), token }
     }
 
-    /// Makes room for an item with a value of this length, and puts it. `put` gets the key's hash, and returns the item's queue.
+    /// Makes room for an item with a value of this length, and puts it. `put` gets the key's hash, and returns the number of a new entry that the
+    /// item is to have in the queues.
     fn put(
         &self,
         key: &[u8],
         length: usize,
         kept: Option<Kept>,
-        put: impl FnOnce(u64) -> Result<(Outcome, Line), Refused>,
+        put: impl FnOnce(u64) -> Result<(Outcome, Option<u16>), Refused>,
     ) -> Result<Option<Token>, Fault> {
         let (bytes, hash) = (cost(key.len(), length), self.index.hash_of(key));
         let expected = self.make_room(bytes, kept)?;
@@ -132,8 +142,10 @@ impl Store {
         if length >= LARGE {
             self.index.sweep();
         }
-        if let Ok((Outcome::Done(token), line)) = outcome {
-            self.enqueue(Queued { entry: Stamp { hash, token }, line, weight: bytes });
+        if let Ok((Outcome::Done(token), new)) = outcome {
+            if let Some(number) = new {
+                self.enqueue(Entry { hash, number }, bytes);
+            }
             return Ok(Some(token));
         }
         self.room.give_back(bytes);
@@ -168,7 +180,7 @@ impl Store {
                 Ok(Outcome::Done(_)) => {
                     self.tidy();
                     return Ok(match found {
-                        Found::Dead(token, line) => Found::Dead(token, line),
+                        Found::Dead(token, number) => Found::Dead(token, number),
                         _ => Found::Live(true, token),
                     });
                 }
@@ -189,17 +201,16 @@ impl Store {
                 let number = change.of(number::unsigned(item.value())?);
                 let deadline = deadline.unwrap_or(item.deadline());
                 let next = new_item(born, item.flags, deadline, key, &[number.to_string().as_bytes()]);
-                next.set_line(item.line());
-                Some((next, number, item.value().len()))
+                Some((next, number, Older::of(item)))
             })?;
-            let (next, number, length, token) = match found {
+            let (next, number, older, token) = match found {
                 Found::Absent | Found::Dead(..) => return Ok(Changed::NotFound),
                 Found::Live(_, token) if compare.is_some_and(|compare| compare != token) => return Ok(Changed::Exists),
                 Found::Live(None, _) => return Ok(Changed::NotNumeric),
-                Found::Live(Some((next, number, length)), token) => (next, number, length, token),
+                Found::Live(Some((next, number, older)), token) => (next, number, older, token),
             };
             let deadline = next.deadline();
-            if let Some(token) = self.put_over(key, Found::Live(length, token), next)? {
+            if let Some(token) = self.put_over(key, Found::Live(older, token), next)? {
                 return Ok(Changed::Changed(number, token, deadline));
             }
         }

@@ -68,11 +68,22 @@ fn the_queue_forgets_items_that_were_deleted() {
 }
 
 #[test]
-fn the_queue_forgets_items_that_were_overwritten() {
+fn the_queue_forgets_items_that_were_deleted_and_stored_again() {
     let mut client = Client::new(MEGABYTE);
     for _ in 0..5_000 {
+        client.ask("delete a\n");
         set(&mut client, "a");
         assert!(client.store.queue.entries() <= most_entries(&client));
+    }
+}
+
+#[test]
+fn an_item_that_replaces_another_one_has_its_entry() {
+    let mut client = Client::new(MEGABYTE);
+    let changes = ["set a 0 0 1\n5\n", "add a 0 0 1\n5\n", "ma a N0 J5\n", "set a 0 -1 1\n5\n", "add a 0 0 1\n5\n", "set a 0 -1 1\n5\n", "set a 0 0 1\n5\n"];
+    for change in changes.into_iter().chain(CHANGES.map(|(change, _)| change)) {
+        client.ask(change);
+        assert_eq!(client.store.queue.entries(), 1, "{change}");
     }
 }
 
@@ -80,8 +91,9 @@ fn the_queue_forgets_items_that_were_overwritten() {
 fn a_command_takes_few_of_few_items_from_the_queue() {
     for (items, most) in [(10, 8), (200, 25), (2_000, 32)] {
         let mut client = Client::new(MEGABYTE);
-        for number in 0..4 * items + 3_000 {
-            client.ask(&format!("set {} 0 0 0\n\n", number % items));
+        (0..items).for_each(|number| drop(client.ask(&format!("set {number} 0 0 0\n\n"))));
+        for _ in 0..4 * items + 3_000 {
+            client.ask("set x 0 0 0\n\ndelete x\n");
         }
         assert_eq!(client.control.most_together.load(SeqCst), most, "{items}");
     }
@@ -93,6 +105,7 @@ fn the_queue_forgets_no_item_that_is_there() {
     set(&mut client, "abcdefgh");
     for _ in 0..5_000 {
         set(&mut client, "x");
+        client.ask("delete x\n");
     }
     // There is no room for this beside any other item.
     let most = MEGABYTE - cost(3, 0) as usize;
@@ -226,6 +239,20 @@ fn the_item_that_a_command_changes_does_not_give_way_to_it() {
         there(&mut client, "bc");
         assert_eq!(client.ask(change), answer, "{change}");
         assert_eq!(there(&mut client, "abc"), "ac", "{change}");
+    }
+}
+
+#[test]
+fn an_item_that_replaces_one_that_is_about_to_give_way_does_so_later() {
+    for (change, answer) in CHANGES {
+        let mut client = one_queue_for(3, 1);
+        set(&mut client, "abc");
+        let act = move |mut other: Client| assert_eq!(other.ask(change), answer);
+        // The change needs the room of `b` and `c`, since the new item is counted, and the older one still is.
+        assert_eq!(client.ask_beside("set d 0 0 1\n5\n", act), "STORED\n");
+        assert_eq!(there(&mut client, "abcd"), "ad", "{change}");
+        set(&mut client, "efgh");
+        assert_eq!(there(&mut client, "adefgh"), "fgh", "{change}");
     }
 }
 

@@ -15,7 +15,7 @@ fn put(objects: &Objects, room: &Room, key: &[u8], flags: u32) -> Token {
 /// The flags of the item with this stamp, if it is there.
 fn flags_of(objects: &Objects, stamp: Stamp) -> Option<u32> {
     let mut flags = None;
-    objects.look_stamped(stamp, &mut |seen| flags = seen.expect("nobody disturbs it").map(|(item, _)| item.flags));
+    objects.peek_stamped(stamp, &mut |seen| flags = seen.expect("nobody disturbs it").map(|(item, _)| item.flags));
     flags
 }
 

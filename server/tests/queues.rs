@@ -87,18 +87,19 @@ fn a_key_that_is_read_while_it_is_new_is_kept() {
     scan(&mut client, &mut first, ITEMS);
     let there = (300..310).filter(|key| has(&mut client, *key)).collect::<Vec<_>>();
     assert_eq!(there, (300..305).collect::<Vec<_>>());
-    // Another value stays in the main queue.
+    // They stay in the main queue.
     (300..305).for_each(|key| set(&mut client, key));
     scan(&mut client, &mut first, ITEMS);
     assert!((300..305).all(|key| has(&mut client, key)));
 }
 
 #[test]
-fn an_entry_of_an_older_value_evicts_no_newer_one() {
+fn an_entry_of_a_value_that_was_deleted_evicts_no_newer_one() {
     let (mut client, mut first) = (client(), SCANNED);
     full(&mut client, &mut first);
     set(&mut client, 300);
     scan(&mut client, &mut first, 15);
+    assert_eq!(client.ask("delete 0300\n"), "DELETED\n");
     set(&mut client, 300);
     // The entry of the first value comes to the head, and that of the second does not.
     scan(&mut client, &mut first, 15);
@@ -131,15 +132,14 @@ fn a_key_that_is_changed_stays_in_the_main_queue() {
 }
 
 #[test]
-fn a_new_key_that_is_changed_stays_in_the_small_queue() {
-    // These commands read the older value, which is a use of it, but not of the new one.
+fn a_new_key_that_is_changed_is_kept() {
     for change in CHANGES {
         let (mut client, mut first) = (client(), SCANNED);
         full(&mut client, &mut first);
-        set(&mut client, 307);
+        (306..308).for_each(|key| set(&mut client, key));
         client.ask(&change.replace("0007", "0307"));
         scan(&mut client, &mut first, ITEMS);
-        assert!(!has(&mut client, 307), "{change}");
+        assert!(has(&mut client, 307) && !has(&mut client, 306), "{change}");
     }
 }
 
@@ -163,7 +163,9 @@ fn changes_of_few_keys_leave_the_queues_short() {
     full(&mut client, &mut first);
     (300..310).for_each(|key| set(&mut client, key));
     for number in 0..20_000 {
-        set(&mut client, if number % 2 == 0 { 300 + number % 10 } else { number % 10 });
+        let key = if number % 2 == 0 { 300 + number % 10 } else { number % 10 };
+        client.ask(&format!("delete {key:04}\n"));
+        set(&mut client, key);
         // They may lag behind a little.
         assert!(client.store.queue.entries() <= Queue::MOST_EACH * ITEMS + Queue::SPARE + ITEMS / 2);
     }

@@ -99,13 +99,8 @@ impl Index for Plain {
         }
     }
 
-    fn look_stamped(&self, stamp: Stamp, see: &mut dyn FnMut(Seen<'_>)) {
-        if self.control.refuses_looks.load(SeqCst) {
-            return see(Err(Refused::Held));
-        }
-        let (items, _) = &*self.items.lock().unwrap();
-        let entry = items.get(&stamp.hash).filter(|entry| entry.token == stamp.token);
-        see(Ok(entry.map(|entry| (&*entry.item, entry.token))));
+    fn look_hash(&self, hash: u64, see: &mut dyn FnMut(Seen<'_>)) {
+        self.peek(hash, see);
     }
 
     fn look_hashes(&self, hashes: &[u64], each: &mut dyn FnMut(usize, Seen<'_>)) {
@@ -139,11 +134,11 @@ impl Index for Plain {
     }
 
     fn remove_if(&self, key: &[u8], token: Token) -> Result<Outcome, Refused> {
-        self.let_others_act();
         self.remove_stamped(Stamp { hash: self.hash_of(key), token })
     }
 
     fn remove_stamped(&self, stamp: Stamp) -> Result<Outcome, Refused> {
+        self.let_others_act();
         let one_less = self.control.removals_to_refuse.fetch_update(SeqCst, SeqCst, |left| left.checked_sub(1));
         if self.control.refuses_removals.load(SeqCst) || one_less.is_ok() {
             return Err(Refused::Held);
