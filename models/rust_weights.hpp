@@ -1,5 +1,5 @@
-// How an entry of a queue of the crate `cefrodil-map` represents the objects of a key, if the number of objects is bounded, line by line. .ci/models
-// checks that each quoted line is still there.
+// How an entry of a queue of the crate `cefrodil-map` represents the objects of a key, if the number of objects is bounded, and of the server its items,
+// line by line. .ci/models checks that each quoted line is still there.
 //| in map/src/objects/weights.rs
 //
 // Two threads put an object over what the key has, and one of them may remove that first. A third one takes entries out and evicts. Whatever comes
@@ -13,8 +13,8 @@
 
 struct RustWeights : rl::test_suite<RustWeights, 3> {
     static constexpr unsigned interruptions = 2;
-    static constexpr std::array<std::string_view, 4> steps{"entry of an object that has noted none", "entry of an object that was replaced",
-                                                           "entry of its own", "lock of the queue"};
+    static constexpr std::array<std::string_view, 5> steps{"entry of an object that has noted none", "entry of an object that was replaced",
+                                                           "entry of its own", "entry of an item that was looked at", "lock of the queue"};
 
     using Guard = std::lock_guard<explored::Mutex>;
     static constexpr std::memory_order relaxed = std::memory_order_relaxed, acquires = std::memory_order_acquire, both = std::memory_order_acq_rel;
@@ -79,14 +79,33 @@ struct RustWeights : rl::test_suite<RustWeights, 3> {
         }
     }
 
+    // By a command with a condition, which has looked at the item: it notes the entry first.
+    void put_if(int item) {
+        const int old = index.load(acquires);
+        if (old == none) {
+            return;
+        }
+        const int older = entries[old].load(relaxed);
+        const bool inherits = older != none && !explored::without("entry of an item that was looked at");
+        entries[item].store(inherits ? older : item, relaxed);             //| in server/src/writes.rs
+        if (index.compare_exchange(old, item, both) && older == none) {    //| let new = next.note_number(number);
+            push(item);                                                    //| if let Some(number) = new {
+        }
+    }
+
     void thread(unsigned index_of_thread) {
         if (index_of_thread == 0) {
-            put(2);
+            put(2);                                                        //| new = item.note_number(old.and_then(|old| old.number()));
         } else if (index_of_thread == 1) {
-            if (rl::rand(2) == 0) {
+            const unsigned command = rl::rand(3);
+            if (command == 0) {
                 index.exchange(none, both);
             }
-            put(3);
+            if (command < 2) {
+                put(3);
+            } else {
+                put_if(3);
+            }
         } else {
             evict();
             evict();

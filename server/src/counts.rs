@@ -1,4 +1,4 @@
-//! What the requests came to. Each worker counts for itself.
+//! What the requests came to. Each worker counts for itself, without a step that others wait for.
 use std::cell::Cell;
 use std::sync::atomic::{AtomicU64, Ordering::Relaxed};
 
@@ -51,12 +51,12 @@ counts! {
 const KINDS: usize = Count::NoBuffers as usize + 1;
 
 thread_local! {
-    static PLACE: Cell<usize> = const { Cell::new(0) };
+    static PLACE: Cell<Option<usize>> = const { Cell::new(None) };
 }
 
-/// Chooses which of the counts this thread adds to.
+/// Gives this thread a place of its own in all counts. No other thread may take the same one.
 pub fn take_place(index: usize) {
-    PLACE.set(index);
+    PLACE.set(Some(index));
 }
 
 #[derive(Debug)]
@@ -64,14 +64,26 @@ pub fn take_place(index: usize) {
 struct Place([AtomicU64; KINDS]);
 
 /// The counts of all threads.
-// They are relaxed: each change is one atomic step, and no other memory is read by what they say. `stats` may miss the latest ones.
+// They are relaxed: no other memory is read by what they say. `stats` may miss the latest ones.
 #[derive(Debug)]
-pub struct Counts(Box<[Place]>);
+pub struct Counts {
+    own: Box<[Place]>,
+    /// What threads without a place of their own add to.
+    shared: Place,
+    /// The sums at the last reset. The places only ever grow: another thread may be adding to one.
+    at_reset: Place,
+}
+
+impl Place {
+    fn new() -> Place {
+        Place(std::array::from_fn(|_| AtomicU64::new(0)))
+    }
+}
 
 impl Counts {
-    /// Counts for so many threads.
+    /// Counts for so many threads with a place of their own, and for all others.
     pub fn new(threads: usize) -> Counts {
-        Counts((0..threads).map(|_| Place(std::array::from_fn(|_| AtomicU64::new(0)))).collect())
+        Counts { own: (0..threads).map(|_| Place::new()).collect(), shared: Place::new(), at_reset: Place::new() }
     }
 
     /// Counts one more.
@@ -86,16 +98,28 @@ impl Counts {
 
     /// Counts so many more.
     pub fn add_many(&self, count: Count, number: u64) {
-        self.0[PLACE.get() % self.0.len()].0[count as usize].fetch_add(number, Relaxed);
+        match PLACE.get().and_then(|index| self.own.get(index)) {
+            // Only this thread changes it.
+            Some(Place(own)) => own[count as usize].store(own[count as usize].load(Relaxed) + number, Relaxed),
+            None => drop(self.shared.0[count as usize].fetch_add(number, Relaxed)),
+        }
     }
 
-    /// Each name with its sum.
+    /// Each name with its sum since the last reset.
     pub fn sums(&self) -> impl Iterator<Item = (&'static str, u64)> + '_ {
-        TEXTS.iter().enumerate().map(|(kind, text)| (*text, self.0.iter().map(|place| place.0[kind].load(Relaxed)).sum()))
+        TEXTS.iter().zip(&self.at_reset.0).enumerate().map(|(kind, (text, at_reset))| {
+            // First: another thread may reset it meanwhile.
+            let before = at_reset.load(Relaxed);
+            (*text, self.sum(kind).saturating_sub(before))
+        })
     }
 
     /// Begins anew at 0.
     pub fn reset(&self) {
-        self.0.iter().flat_map(|place| &place.0).for_each(|count| count.store(0, Relaxed));
+        self.at_reset.0.iter().enumerate().for_each(|(kind, at_reset)| at_reset.store(self.sum(kind), Relaxed));
+    }
+
+    fn sum(&self, kind: usize) -> u64 {
+        self.own.iter().chain([&self.shared]).map(|place| place.0[kind].load(Relaxed)).sum()
     }
 }

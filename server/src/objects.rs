@@ -17,6 +17,7 @@ pub const BYTES_OF_AN_ENTRY: usize = 56;
 #[derive(Debug)]
 pub struct Objects {
     map: BytesMap<About>,
+    room: Arc<Room>,
     audit: Option<Arc<Audit>>,
 }
 
@@ -54,15 +55,18 @@ fn cost_of(item: &Item) -> u64 {
 }
 
 impl Objects {
-    /// Opens an index for at least so many items. `room` hears of the bytes of what leaves it, and again when they are freed.
+    /// Opens an index for at least so many items. `room` hears of each item, and of the bytes of what leaves it, and again when they are freed.
     pub fn open(items: usize, threads: usize, room: &Arc<Room>, audit: Option<Arc<Audit>>) -> Result<Objects, OpenError> {
-        let (freeing, room, is_logged) = (Arc::clone(room), Arc::clone(room), audit.is_some());
+        let ([freeing, leaving], is_logged) = ([Arc::clone(room), Arc::clone(room)], audit.is_some());
         let (hasher, freed) = (RandomState::new(), move |item: &Item| freeing.free(cost_of(item)));
         let hash_of = hasher.clone();
         let listener = move |item: &Item, reason| {
-            room.leave(cost_of(item));
+            leaving.leave(cost_of(item));
+            if reason != Reason::Replaced {
+                leaving.subtract_item();
+            }
             if reason == Reason::Evicted {
-                room.count_gone(Leaving { is_live: true, was_fetched: item.was_fetched() });
+                leaving.count_gone(Leaving { is_live: true, was_fetched: item.was_fetched() });
                 EVICTED.set(is_logged.then(|| hash_of.hash_one(item.key())));
             }
         };
@@ -73,7 +77,7 @@ impl Objects {
         } else if let Some(shards) = shards_for(items) {
             builder = builder.shards(shards);
         }
-        Ok(Objects { map: builder.open()?, audit })
+        Ok(Objects { map: builder.open()?, room: Arc::clone(room), audit })
     }
 
     /// The most items that it holds.
@@ -89,6 +93,13 @@ impl Objects {
             Look::Absent { at } => audit.line(format_args!("absent {at} {hash}")),
             _ => {}
         }
+    }
+
+    fn note_put(&self, logged: Option<(u64, u64)>, put: Put) {
+        if put.did != Inserted::Renewed {
+            self.room.add_item();
+        }
+        self.log_put(logged, put);
     }
 
     fn log_put(&self, logged: Option<(u64, u64)>, put: Put) {
@@ -161,7 +172,7 @@ impl Index for Objects {
     fn put(&self, hash: u64, item: NewItem, see: &mut dyn FnMut(&Item, Option<&Item>)) -> Result<Token, Refused> {
         let logged = self.logged(&item);
         let (put, ()) = self.map.put_seen(hash, item, see).map_err(answers::of_put)?;
-        self.log_put(logged, put);
+        self.note_put(logged, put);
         Ok(put.at)
     }
 
@@ -169,7 +180,7 @@ impl Index for Objects {
         let logged = self.logged(&item);
         match self.map.put_if_absent(item) {
             Ok(put) => {
-                self.log_put(logged, put);
+                self.note_put(logged, put);
                 Ok(Outcome::Done(put.at))
             }
             Err(why) => answers::of_new(why),
@@ -180,7 +191,7 @@ impl Index for Objects {
         let (logged, hash) = (self.logged(&item), self.hash_of(item.key()));
         match self.map.replace_if(token, item) {
             Ok(put) => {
-                self.log_put(logged, put);
+                self.note_put(logged, put);
                 Ok(Outcome::Done(put.at))
             }
             Err(why) => self.failed(|| hash, why),

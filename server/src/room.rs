@@ -1,8 +1,8 @@
 //! The memory of items: how much they may take, and how much they do.
-use std::sync::atomic::{AtomicU64, Ordering::Relaxed};
+use std::sync::atomic::{AtomicI64, AtomicU64, Ordering::Relaxed};
 
-/// What an item takes beside its key and its value: 26 bytes before them, 16 for its place in the queue, and about 16 that an allocator adds.
-const OVERHEAD: u64 = 58;
+/// What an item takes beside its key and its value: 27 bytes before them, 10 for its entry in a queue, and about 16 that an allocator adds.
+const OVERHEAD: u64 = 53;
 
 /// Items that have left and are not freed yet may take this part of the limit, beside what it leaves.
 const PART_OF_RESERVE: u64 = 32;
@@ -12,14 +12,14 @@ const PART_OF_WAITING: u64 = 128;
 
 /// The bytes that items may take, and those that they do take.
 // All accesses are relaxed. Each change is one atomic step, so none is lost, and an item's bytes are added before it is put and so before they
-// are subtracted. No other memory is read by what the words say.
+// are subtracted. The item itself is counted after that: for a moment it may have left before. No other memory is read by what the words say.
 #[derive(Debug, Default)]
 pub struct Room {
     limit: AtomicU64,
     used: AtomicU64,
     allocated: AtomicU64,
     taken: AtomicU64,
-    items: AtomicU64,
+    items: AtomicI64,
     evicted: AtomicU64,
     evicted_unfetched: AtomicU64,
     reclaimed: AtomicU64,
@@ -69,9 +69,9 @@ impl Room {
         self.taken.load(Relaxed)
     }
 
-    /// How many items are in the index, with those that are about to be put.
+    /// How many items are in the index.
     pub fn items(&self) -> u64 {
-        self.items.load(Relaxed)
+        self.items.load(Relaxed).max(0) as u64
     }
 
     /// Counts the bytes of an item that is about to be put.
@@ -79,7 +79,6 @@ impl Room {
         self.taken.fetch_add(bytes, Relaxed);
         self.allocated.fetch_add(bytes, Relaxed);
         self.used.fetch_add(bytes, Relaxed);
-        self.items.fetch_add(1, Relaxed);
     }
 
     /// Counts the bytes of an item that was not put.
@@ -91,6 +90,15 @@ impl Room {
     /// Counts the bytes of an item that has left the index.
     pub fn leave(&self, bytes: u64) {
         self.used.fetch_sub(bytes, Relaxed);
+    }
+
+    /// Counts an item that was put, and has replaced none.
+    pub fn add_item(&self) {
+        self.items.fetch_add(1, Relaxed);
+    }
+
+    /// Counts an item that has left the index, and none has replaced it.
+    pub fn subtract_item(&self) {
         self.items.fetch_sub(1, Relaxed);
     }
 

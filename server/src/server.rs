@@ -2,7 +2,7 @@
 use crate::accept::accept_some;
 use crate::complain::{complain, complain_at_times, Last};
 use crate::connection::Connection;
-use crate::counts::{self, Count};
+use crate::counts::Count;
 use crate::listen::{Listener, Stream};
 use crate::signal;
 use crate::store::Store;
@@ -42,7 +42,6 @@ impl Server {
     /// Serves clients, and ends at SIGTERM, SIGINT or SIGUSR1, when what clients have sent is answered. Calls `ready` when it can serve.
     pub fn run(store: Arc<Store>, mut listeners: Vec<Listener>, ready: impl FnOnce() -> io::Result<()>) -> io::Result<()> {
         let signal = signal::file()?;
-        counts::take_place(store.options.threads);
         let mut poll = Poll::new()?;
         for (index, listener) in listeners.iter_mut().enumerate() {
             poll.registry().register(listener, Token(index), Interest::READABLE)?;

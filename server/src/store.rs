@@ -82,8 +82,7 @@ impl Debug for Store {
 impl Store {
     /// A store over this index.
     pub fn new(index: Box<dyn Index>, room: Arc<Room>, options: Options) -> Store {
-        // The last place is that of the thread that accepts connections.
-        let counts = Counts::new(options.threads + 1);
+        let counts = Counts::new(options.threads);
         let (clock, turns, flushes) = (Clock::new(), Turns::default(), Flushes::default());
         let queue = if options.one_queue { Queue::one() } else { Queue::new(options.items) };
         let seats = Seats::new(options.connections, options.memory / PART_OF_BUFFERS);

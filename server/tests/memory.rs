@@ -217,7 +217,7 @@ fn an_item_that_a_command_could_not_change_gives_way_in_its_turn() {
 
 #[test]
 fn what_an_item_counts() {
-    assert_eq!((cost(0, 0), cost(3, 5)), (58, 66));
+    assert_eq!((cost(0, 0), cost(3, 5)), (53, 61));
 }
 
 /// A command that changes what `a` has, and its answer.

@@ -1,8 +1,10 @@
 //! The small queue of new keys before the main one, by commands.
 mod plain;
+use cefrodild::item::new_item;
 use cefrodild::queue::Queue;
 use cefrodild::room::cost;
 use plain::client::Client;
+use std::collections::HashSet;
 use std::ops::Range;
 
 /// So many items have room.
@@ -182,4 +184,26 @@ fn what_expires_is_removed_from_both_queues() {
     client.store.expire();
     assert_eq!(client.store.room.items(), ITEMS as u64 - 2);
     assert!(!has(&mut client, 1) && !has(&mut client, 300) && has(&mut client, 2));
+}
+
+#[test]
+fn an_item_notes_the_number_of_its_entry() {
+    let item = |born| new_item(born, 0, u64::MAX, b"key", &[b"5"]);
+    let (old, new) = (item(1), item(2));
+    assert!(old.number().is_none() && old.is_represented_by(7), "another thread may be about to note it");
+    let number = old.note_number(None).expect("it replaces no other item");
+    assert!(old.is_represented_by(number) && !old.is_represented_by(number + 1) && !old.take_used());
+    assert_eq!((new.note_number(Some(number)), new.number()), (None, Some(number)));
+    assert!(new.take_used() && !new.was_fetched());
+}
+
+#[test]
+fn items_of_different_times_have_entries_of_different_numbers() {
+    let numbers = (1..=10_000).map(|born| {
+        let item = new_item(born, 0, u64::MAX, b"key", &[b"5"]);
+        let number = item.note_number(None);
+        assert_eq!(item.number(), number);
+        number
+    });
+    assert_eq!(numbers.collect::<HashSet<_>>().len(), 10_000);
 }

@@ -8,29 +8,38 @@ fn bytes_and_items_are_added_and_subtracted() {
     let state = || (room.used(), room.items(), room.is_over());
     assert_eq!(state(), (0, 0, false));
     room.take(60);
+    room.add_item();
     room.take(40);
+    room.add_item();
     assert_eq!(state(), (100, 2, false));
     room.take(1);
-    assert_eq!(state(), (101, 3, true));
+    assert_eq!(state(), (101, 2, true));
     room.give_back(60);
-    assert_eq!(state(), (41, 2, false));
+    room.subtract_item();
+    assert_eq!(state(), (41, 1, false));
     room.set_limit(40);
-    assert_eq!((room.limit(), state()), (40, (41, 2, true)));
+    assert_eq!((room.limit(), state()), (40, (41, 1, true)));
+    // One leaves before it is counted.
+    room.subtract_item();
+    room.subtract_item();
+    assert_eq!(room.items(), 0);
+    room.add_item();
+    assert_eq!(room.items(), 0);
 }
 
 #[test]
 fn what_has_left_is_counted_until_it_is_freed() {
     let room = Room::new(320);
-    let state = || (room.used(), room.waiting(), room.items(), room.is_crowded());
+    let state = || (room.used(), room.waiting(), room.is_crowded());
     room.take(320);
     room.leave(320);
-    assert_eq!(state(), (0, 320, 0, false));
+    assert_eq!(state(), (0, 320, false));
     room.take(10);
-    assert_eq!(state(), (10, 320, 1, false), "a part of the limit is beside it");
+    assert_eq!(state(), (10, 320, false), "a part of the limit is beside it");
     room.take(1);
-    assert_eq!(state(), (11, 320, 2, true));
+    assert_eq!(state(), (11, 320, true));
     room.free(320);
-    assert_eq!(state(), (11, 0, 2, false));
+    assert_eq!(state(), (11, 0, false));
     assert_eq!(room.taken(), 331);
 }
 

@@ -225,12 +225,15 @@ fn a_reset_keeps_what_is_there() {
 fn the_counts_of_all_threads() {
     let counts = Counts::new(3);
     let sum = || counts.sums().find(|(name, _)| *name == "cmd_get").map(|(_, sum)| sum);
-    let count = |place| {
-        take_place(place);
-        counts.add_many(Count::Gets, 10);
+    let count = |place: Option<usize>| {
+        place.into_iter().for_each(take_place);
+        (0..1_000).for_each(|_| counts.add_many(Count::Gets, 10));
     };
-    thread::scope(|threads| (0..3).for_each(|place| drop(threads.spawn(move || count(place)))));
-    assert_eq!(sum(), Some(30));
+    let places = [Some(0), Some(1), Some(2), Some(3), None, None];
+    thread::scope(|threads| places.into_iter().for_each(|place| drop(threads.spawn(move || count(place)))));
+    assert_eq!(sum(), Some(60_000));
     counts.reset();
     assert_eq!(sum(), Some(0));
+    count(Some(1));
+    assert_eq!(sum(), Some(10_000));
 }

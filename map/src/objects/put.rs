@@ -178,14 +178,13 @@ impl<O: Held, S> ObjectInner<O, S> {
         }
     }
 
-    /// The same. Then calls `see` with the object, and with the one that it has replaced. Both are pinned.
+    /// The same, in a map without flights. Then calls `see` with the object, and with the one that it has replaced. Both are pinned.
     pub fn put_seen<R>(
         &self,
         hash: u64,
         object: O::Owner,
         see: impl FnOnce(&O, Option<&O>) -> R,
     ) -> Result<(Put, R), (O::Owner, InsertError)> {
-        self.detach(hash);
         let mut seen = None;
         let offered = self.offer(hash, object, |word| {
             let put = self.in_pinned_turn(self.tries, || self.slots.call(|handle| handle.try_swap(hash, &[word])));

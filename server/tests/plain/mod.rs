@@ -69,8 +69,9 @@ impl Plain {
         *last += 1;
         see(&item, items.get(&hash).map(|entry| &*entry.item));
         let entry = Entry { cost: cost(item.key().len(), item.value().len()), item, token: *last };
-        if let Some(old) = items.insert(hash, entry) {
-            self.room.give_back(old.cost);
+        match items.insert(hash, entry) {
+            Some(old) => self.room.give_back(old.cost),
+            None => self.room.add_item(),
         }
         Ok(Outcome::Done(*last))
     }
@@ -149,6 +150,7 @@ impl Index for Plain {
             Some(entry) if entry.token != stamp.token => Ok(Outcome::Changed),
             Some(entry) => {
                 self.room.give_back(entry.cost);
+                self.room.subtract_item();
                 items.remove(&stamp.hash);
                 *last += 1;
                 Ok(Outcome::Done(*last))
