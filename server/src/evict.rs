@@ -43,7 +43,7 @@ enum Way {
     WithNeighbours,
 }
 
-/// What an entry of a queue stands for.
+/// What an entry of a queue represents, and what becomes of it.
 enum Verdict {
     /// No item.
     Old,
@@ -138,37 +138,42 @@ impl Store {
                     from = Some(queued.line.other());
                     self.queue.push(Queued { line: Line::Main, ..queued });
                 }
-                Verdict::Victim(stamp, leaving) => match self.remove_in(way, queued, (stamp, leaving), kept) {
-                    Ok(Outcome::Done(_)) => return true,
-                    Ok(Outcome::Absent) => {}
-                    // It represents the item that has replaced that one. There may be room now: for that item others have left.
-                    Ok(Outcome::Changed) => {
-                        self.queue.push(queued);
-                        return true;
+                Verdict::Victim(stamp, leaving) => {
+                    if let Some(has_gone) = self.evict_item(way, queued, (stamp, leaving), kept) {
+                        return has_gone;
                     }
-                    Err(_) => {
-                        self.queue.push(queued);
-                        return false;
-                    }
-                },
+                }
             }
         }
         false
     }
 
-    /// Removes an item in this way. One that is kept stays.
-    fn remove_in(
+    /// Removes the item of an entry in this way. One that is kept stays. Returns whether it has, or another command has replaced the item. `None`: it
+    /// had left.
+    fn evict_item(
         &self,
         way: Way,
         queued: Queued<Entry>,
         (stamp, leaving): (Stamp, Leaving),
         kept: Option<Stamp>,
-    ) -> Result<Outcome, Refused> {
+    ) -> Option<bool> {
         let neighbours = if way == Way::WithNeighbours { self.neighbours(stamp) } else { Vec::new() };
-        let outcome = self.remove(stamp, leaving)?;
-        if let Outcome::Done(_) = outcome {
-            self.queue.gave_way(queued, stamp.hash);
-        }
+        let has_gone = match self.remove(stamp, leaving) {
+            Ok(Outcome::Done(_)) => {
+                self.queue.gave_way(queued, stamp.hash);
+                Some(true)
+            }
+            Ok(Outcome::Absent) => None,
+            // The entry represents the item that has replaced that one. There may be room now: others have left for it.
+            Ok(Outcome::Changed) => {
+                self.queue.push(queued);
+                Some(true)
+            }
+            Err(_) => {
+                self.queue.push(queued);
+                return Some(false);
+            }
+        };
         let stamps = neighbours.into_iter().filter_map(|(hash, at)| self.stamp_at(hash, at));
         for (neighbour, leaving) in stamps.filter(|(stamp, _)| Some(*stamp) != kept) {
             // If it can't be removed, it stays. Otherwise it leaves for its place in memory, so its key comes back to the main queue.
@@ -176,7 +181,7 @@ impl Store {
                 self.queue.gave_way(Queued { line: Line::Small, ..queued }, neighbour.hash);
             }
         }
-        Ok(outcome)
+        has_gone
     }
 
     fn remove(&self, stamp: Stamp, leaving: Leaving) -> Result<Outcome, Refused> {

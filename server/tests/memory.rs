@@ -80,7 +80,15 @@ fn the_queue_forgets_items_that_were_deleted_and_stored_again() {
 #[test]
 fn an_item_that_replaces_another_one_has_its_entry() {
     let mut client = Client::new(MEGABYTE);
-    let changes = ["set a 0 0 1\n5\n", "add a 0 0 1\n5\n", "ma a N0 J5\n", "set a 0 -1 1\n5\n", "add a 0 0 1\n5\n", "set a 0 -1 1\n5\n", "set a 0 0 1\n5\n"];
+    let changes = [
+        "set a 0 0 1\n5\n",
+        "add a 0 0 1\n5\n",
+        "ma a N0 J5\n",
+        "set a 0 -1 1\n5\n",
+        "add a 0 0 1\n5\n",
+        "set a 0 -1 1\n5\n",
+        "set a 0 0 1\n5\n",
+    ];
     for change in changes.into_iter().chain(CHANGES.map(|(change, _)| change)) {
         client.ask(change);
         assert_eq!(client.store.queue.entries(), 1, "{change}");
