@@ -16,6 +16,8 @@ fn each_item_is_listed_once() {
     let mut client = Client::new(MEGABYTE);
     assert_eq!(list(&mut client, "stats cachedump 1 0"), [""; 0]);
     client.ask("set a 0 0 1\n1\nset b 7 0 0\n\nset c 0 0 3\n123\nset a 0 0 2\n12\ndelete c\nget a b\n");
+    // It has an old entry in the queue, too.
+    client.ask("delete b\nset b 7 0 0\n\n");
     assert_eq!(list(&mut client, "stats cachedump 1 0"), ["ITEM a [2 b; 0 s]", "ITEM b [0 b; 0 s]"]);
     assert_eq!(list(&mut client, "stats cachedump 1 0 more"), ["ITEM a [2 b; 0 s]", "ITEM b [0 b; 0 s]"]);
     assert_eq!(list(&mut client, "stats cachedump 1 1").len(), 1);

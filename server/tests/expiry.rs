@@ -194,6 +194,7 @@ fn a_look_for_dead_items_is_bounded_and_the_next_one_goes_on() {
     assert_eq!(client.store.room.items(), 10);
     client.store.expire();
     assert_eq!(client.store.room.items(), 0);
+    assert!(client.store.queue.entries() < dead, "it forgets some");
 }
 
 /// The item is found dead, and gets a new value before it is removed.

@@ -1,8 +1,9 @@
 //! Items that have left and are not freed yet, since a thread reads: their bytes are counted and bounded. The index is the real one.
+use cefrodild::item::new_item;
 use cefrodild::objects::Objects;
 use cefrodild::options::{parse, Asked};
 use cefrodild::request::{How, Order};
-use cefrodild::room::Room;
+use cefrodild::room::{cost, Room};
 use cefrodild::store::{Answer, Fault, Store};
 use std::sync::atomic::{AtomicBool, Ordering::SeqCst};
 use std::sync::mpsc::channel;
@@ -44,6 +45,29 @@ fn an_item_is_counted_until_it_is_freed() {
     });
     store.index.sweep();
     assert_eq!((store.room.used(), store.room.waiting()), (0, 0));
+}
+
+/// The entry of the first key comes to the head of its queue when that has a new item, which has not noted it.
+#[test]
+fn an_item_does_not_give_way_while_it_is_put() {
+    let bytes = cost(3, 1_000);
+    let store = store(100 * bytes);
+    let keys: Vec<_> = (100..200).map(|number| number.to_string()).collect();
+    assert!(keys.iter().all(|key| set(&store, key.as_bytes(), 1_000).is_ok()));
+    let (first, new) = (keys[0].as_bytes(), b"new".as_slice());
+    store.room.take(bytes);
+    let next = new_item(1, 0, u64::MAX, first, &[&[b'y'; 1_000]]);
+    let put = store.index.put(store.index.hash_of(first), next, &mut |item, old| {
+        assert!(set(&store, new, 1_000).is_ok());
+        item.note_number(old.and_then(|old| old.number()));
+    });
+    assert!(put.is_ok());
+    let mut found = Vec::new();
+    store.look(&[first, new], |place, _, _| {
+        found.push(place);
+        true
+    });
+    assert_eq!((found, store.room.items()), (vec![0, 1], 99));
 }
 
 #[test]

@@ -69,11 +69,12 @@ fn the_queue_forgets_items_that_were_deleted() {
 
 #[test]
 fn the_queue_forgets_items_that_were_deleted_and_stored_again() {
+    const ITEMS: usize = 1_000;
     let mut client = Client::new(MEGABYTE);
-    for _ in 0..5_000 {
-        client.ask("delete a\n");
-        set(&mut client, "a");
-        assert!(client.store.queue.entries() <= most_entries(&client));
+    for number in 0..10 * ITEMS {
+        client.ask(&format!("delete {0}\nset {0} 0 0 0\n\n", number % ITEMS));
+        // It may lag behind a little.
+        assert!(client.store.queue.entries() <= most_entries(&client) + ITEMS / 10);
     }
 }
 
