@@ -54,18 +54,15 @@ template <class V, class Times = Timeless> class Table : private Packing<V, Time
         return tiers_.open(entries, shards, passes, tries, mix, small_table);
     }
 
-    // A lookup for its value, which is set if the status is ok. If it stays busy, that is a miss.
+    // A lookup for its value, which is set if the status is ok. If it stays busy, that is a miss. It is counted.
     Status find(const Identity &key, std::optional<V> &value) noexcept {
-        const Identity known = now(key);
-        Words packed;
-        const Seen seen = looked(known, turns().looks(), true, packed, value);
-        if (seen.status == Status::ok && Times::is_due(ends_of(packed))) {
-            use(known, seen.since, packed);
-        }
-        return seen.status;
+        Slot<words> *const slot = tiers_.turns().own_slot();
+        return slot != nullptr ? find_by(slot, key, value) : find_shared(key, value);
     }
-    // The same for a few keys, by one call of the index. Sets the values that are there. A key that is busy is looked up again by itself, and so is one
-    // that the main table lacks if the small one may have it.
+    // The same, but it isn't counted.
+    Status seek(const Identity &key, std::optional<V> &value) noexcept { return seek_by(tiers_.turns().own_slot(), key, value); }
+    // Looks a few keys up, by one call of the index. Each is counted. Sets the values that are there. A key that is busy is looked up again by itself, and
+    // so is one that the main table lacks if the small one may have it.
     static constexpr size_t few = 32;
     void find_few(const Identity *keys, size_t count, std::optional<V> *values) noexcept {
         std::array<uint64_t, few> indices;
@@ -74,14 +71,21 @@ template <class V, class Times = Timeless> class Table : private Packing<V, Time
         std::transform(keys, keys + count, indices.begin(), [](const Identity &key) { return key.index; });
         const uint64_t generation = generation_.now();
         const bool lacks_young = tiers_.get_many(indices.data(), count, found.data(), answers.data());
+        uint64_t hits = 0, misses = 0;
         for (size_t i = 0; i < count; i++) {
             const bool is_found = answers[i].status == CEFRODIL_OK;
             if (is_found ? Times::is_due(ends_of(found[i])) : answers[i].status == CEFRODIL_BUSY || lacks_young) {
                 static_cast<void>(find(keys[i], values[i]));
             } else if (is_found && is_there(in_generation(keys[i], generation), found[i])) {
                 set_value(found[i], values[i]);
+                hits++;
+            } else {
+                misses++;
             }
         }
+        Slot<words> *const slot = tiers_.turns().own_slot();
+        tiers_.turns().count(slot, Status::ok, hits);
+        tiers_.turns().count(slot, Status::absent, misses);
     }
     // A lookup that is no use of the key. It is repeated as often as a put.
     Found<V> peek(const Identity &key) noexcept {
@@ -212,14 +216,36 @@ template <class V, class Times = Timeless> class Table : private Packing<V, Time
     bool is_there(const Identity &known, const Words &packed) const noexcept {
         return packed[0] == known.check && !Times::have_passed(ends_of(packed));
     }
+    [[gnu::always_inline]] Status find_by(Slot<words> *slot, const Identity &key, std::optional<V> &value) noexcept {
+        const Status status = seek_by(slot, key, value);
+        tiers_.turns().count(slot, status);
+        return status;
+    }
+    // Not compiled into the callers, which are quicker then with a slot.
+    [[gnu::cold]] [[gnu::noinline]] Status find_shared(const Identity &key, std::optional<V> &value) noexcept { return find_by(nullptr, key, value); }
+    [[gnu::always_inline]] Status seek_by(Slot<words> *slot, const Identity &key, std::optional<V> &value) noexcept {
+        const Identity known = now(key);
+        Words packed;
+        const Seen seen = looked(slot, known, turns().looks(), true, packed, value);
+        if (seen.status == Status::ok && Times::is_due(ends_of(packed))) {
+            use(known, seen.since, packed);
+        }
+        return seen.status;
+    }
     // Compiled into `find`.
-    [[gnu::always_inline]] Seen looked(const Identity &known, uint32_t most, bool moves, Words &packed, std::optional<V> &value) noexcept {
-        const Seen seen = tiers_.get(known, most, moves, packed);
+    [[gnu::always_inline]] Seen looked(Slot<words> *slot, const Identity &known, uint32_t most, bool moves, Words &packed,
+                                       std::optional<V> &value) noexcept {
+        const auto is_own = [this](const Identity &looked_up, const Words &entry) { return is_there(looked_up, entry); };
+        const Seen seen = tiers_.get(slot, known, most, moves, packed, is_own);
         if (seen.status != Status::ok || !is_there(known, packed)) {
             return {seen.status == Status::ok ? Status::absent : seen.status, seen.since};
         }
         set_value(packed, value);
         return seen;
+    }
+    // What is under a number. It stays in its table.
+    Seen get(uint64_t index, uint32_t most, Words &packed) noexcept {
+        return tiers_.get(tiers_.turns().own_slot(), {index, 0}, most, false, packed, [](const Identity &, const Words &) { return false; });
     }
     Entry look_once(const Identity &key, bool moves) noexcept {
         const Entry entry = looked_once(key, moves);
@@ -230,7 +256,7 @@ template <class V, class Times = Timeless> class Table : private Packing<V, Time
     [[gnu::noinline]] Entry looked_once(const Identity &key, bool moves) noexcept {
         Entry entry{};
         Words packed;
-        const Seen seen = looked(key, turns().tries(), moves, packed, entry.value);
+        const Seen seen = looked(tiers_.turns().own_slot(), key, turns().tries(), moves, packed, entry.value);
         entry.status = seen.status, entry.since = seen.since;
         if (seen.status == Status::ok) {
             entry.ends = ends_of(packed);
@@ -244,7 +270,7 @@ template <class V, class Times = Timeless> class Table : private Packing<V, Time
             if (!is_lost(tiers_.put_if(known.index, since, packed).status)) {
                 return;
             }
-            const Seen seen = tiers_.get(known, turns().looks(), false, packed);
+            const Seen seen = get(known.index, turns().looks(), packed);
             since = seen.since;
             if (seen.status != Status::ok || !is_there(known, packed)) {
                 return;
@@ -263,7 +289,7 @@ template <class V, class Times = Timeless> class Table : private Packing<V, Time
     // The moment of the put of what is under a number, if that has expired, or else 0.
     uint64_t expired(uint64_t index) noexcept {
         Words packed;
-        const Seen seen = tiers_.get({index, 0}, turns().tries(), false, packed);
+        const Seen seen = get(index, turns().tries(), packed);
         return seen.status == Status::ok && Times::have_passed(ends_of(packed)) ? seen.since : 0;
     }
     Status remove_all(const std::vector<uint64_t> &list) noexcept {
