@@ -116,7 +116,7 @@ template <class V, class Times = Timeless> class Table : private Packing<V, Time
     // Puts whatever is there.
     Stored put(const Identity &key, const V &value, const Life &life = {}) noexcept {
         const uint64_t generation = generation_.now();
-        const Stored put = stored(tiers_.put(key.index, pack(in_generation(key, generation), Times::ends(life), value)));
+        const Stored put = stored(tiers_.put(key.index, pack(in_generation(key, generation), Times::ends(life, generation), value)));
         // It may have overwritten an entry of the next generation.
         if (put.status == Status::ok && generation_.now() != generation) {
             static_cast<void>(this->put(key, value, life));
@@ -135,7 +135,7 @@ template <class V, class Times = Timeless> class Table : private Packing<V, Time
     // generation has begun, and what is there may be of it.
     Stored put_if_absent_in(uint64_t generation, const Identity &key, const V &value, const Life &life = {}) noexcept {
         const Identity known = in_generation(key, generation);
-        const Words packed = pack(known, Times::ends(life), value);
+        const Words packed = pack(known, Times::ends(life, generation), value);
         for (uint32_t repeat = 0;; repeat++) {
             const Stored put = stored(tiers_.put_if_absent(key.index, packed));
             if (put.status != Status::present) {
@@ -198,7 +198,7 @@ template <class V, class Times = Timeless> class Table : private Packing<V, Time
         return status == Status::ok ? remove_all(main) : status;
     }
 
-    // Removes what has expired. It is listed as by `clear`.
+    // Removes what has expired or is of an older generation. It is listed as by `clear`.
     Status erase_expired() noexcept {
         std::vector<uint64_t> small, main;
         Status status = tiers_.list(small, main);
@@ -280,17 +280,19 @@ template <class V, class Times = Timeless> class Table : private Packing<V, Time
     Status remove_expired(const std::vector<uint64_t> &list) noexcept {
         Status status = Status::ok;
         for (size_t at = 0; at < list.size() && status == Status::ok; at += 1 + words) {
-            const uint64_t since = expired(list[at]);
+            const uint64_t since = ended(list[at]);
             status = since != 0 ? tiers_.take_if(list[at], since) : status;
             status = is_lost(status) ? Status::ok : status;
         }
         return status;
     }
-    // The moment of the put of what is under a number, if that has expired, or else 0.
-    uint64_t expired(uint64_t index) noexcept {
+    // The moment of the put of what is under a number, if that has expired or is of an older generation, or else 0.
+    uint64_t ended(uint64_t index) noexcept {
         Words packed;
         const Seen seen = get(index, turns().tries(), packed);
-        return seen.status == Status::ok && Times::have_passed(ends_of(packed)) ? seen.since : 0;
+        // The generation is read after the entry, so it is not older than that.
+        const auto has_ended = [&] { return Times::have_passed(ends_of(packed)) || !Times::are_of(ends_of(packed), generation_.now()); };
+        return seen.status == Status::ok && has_ended() ? seen.since : 0;
     }
     Status remove_all(const std::vector<uint64_t> &list) noexcept {
         Status status = Status::ok;
