@@ -148,6 +148,23 @@ template <class Map> static void threads(uint32_t passes, uint64_t lookups) {
     MUST(map.close() == Status::ok && meter.counts().hits == 9 * lookups);
 }
 
+// Threads that share a pass count at the same time, and no count is lost.
+static void shared_counts(uint64_t counts) {
+    cefrodil_shape shape{};
+    cefrodil::inside::Passes<1> passes;
+    MUST(cefrodil_shape_for_items(100, 1, &shape) == CEFRODIL_OK && passes.open(shape, 1, 1) == Status::ok);
+    std::vector<std::thread> running;
+    for (int n = 0; n < 4; n++) {
+        running.emplace_back([&] {
+            for (uint64_t count = 0; count < counts; count++) {
+                passes.count(nullptr, cefrodil::inside::misses, 1);
+            }
+        });
+    }
+    std::for_each(running.begin(), running.end(), [](std::thread &thread) { thread.join(); });
+    MUST(passes.shared().meter().counts().misses == 4 * counts);
+}
+
 static void rates() {
     Numbers numbers;
     MUST(numbers.meter().counts().hit_rate() == 0 && numbers.open({100}) == Status::ok && numbers.meter().counts().hit_rate() == 0);
@@ -167,6 +184,7 @@ int main(int argc, char **argv) {
         threads<Numbers>(passes, 4000 / less / 20 * 20);
         threads<Objects>(passes, 4000 / less / 20 * 20);
     }
+    shared_counts(200000 / less);
     rates();
     return outcome("map_counts");
 }
