@@ -153,9 +153,13 @@ static void shared_counts(uint64_t counts) {
     cefrodil_shape shape{};
     cefrodil::inside::Passes<1> passes;
     MUST(cefrodil_shape_for_items(100, 1, &shape) == CEFRODIL_OK && passes.open(shape, 1, 1) == Status::ok);
+    std::atomic<int> ready{0};
     std::vector<std::thread> running;
     for (int n = 0; n < 4; n++) {
         running.emplace_back([&] {
+            for (ready++; ready != 4;) {
+                std::this_thread::yield();
+            }
             for (uint64_t count = 0; count < counts; count++) {
                 passes.count(nullptr, cefrodil::inside::misses, 1);
             }
@@ -184,7 +188,7 @@ int main(int argc, char **argv) {
         threads<Numbers>(passes, 4000 / less / 20 * 20);
         threads<Objects>(passes, 4000 / less / 20 * 20);
     }
-    shared_counts(200000 / less);
+    shared_counts(2000000 / less);
     rates();
     return outcome("map_counts");
 }
