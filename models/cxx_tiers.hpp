@@ -27,7 +27,7 @@
 //| return between_->young.may_have(key) ? has(slot.small, key) : std::optional<bool>(false);
 // The end of a lookup:
 //| if (status == CEFRODIL_ABSENT && between_->moves.has_lasted(slot.rest)) {
-//| return turns_.get(key.index, most, value);
+//| return turns_.get(turns_.own_slot(), key.index, most, value);
 struct CxxTiers : TiersOf<CxxTiers> {
     static constexpr std::array<std::string_view, 10> steps = steps_of_both;
 

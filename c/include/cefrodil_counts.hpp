@@ -1,5 +1,5 @@
-// What the calls by the handles of cefrodil.hpp came to, counted by handle and added up. If a program defines CEFRODIL_COUNTS as 0, in all its
-// files, nothing is counted.
+// What the calls by the handles of cefrodil.hpp came to, and the lookups of maps: counted by handle and added up. If a program defines CEFRODIL_COUNTS
+// as 0, in all its files, nothing is counted.
 #ifndef CEFRODIL_COUNTS_HPP
 #define CEFRODIL_COUNTS_HPP
 
@@ -21,16 +21,20 @@
 
 namespace cefrodil {
 
-// How many calls by the handles of one cache came to what, since it was opened.
+// How many calls by the handles of one cache came to what, since it was opened. A map counts its own lookups, as its `meter` says, and beside them what
+// its calls of the index came to.
 struct Counts {
     uint64_t hits = 0;      // lookups that found their key
     uint64_t misses = 0;    // lookups of a key that was absent
-    uint64_t busy = 0;      // lookups that were busy
+    uint64_t busy = 0;      // lookups that were busy; of a map: at each try
     uint64_t held = 0;      // writes, lists and peeks whose try for a turn did not win
     uint64_t evictions = 0; // puts that evicted another key
     uint64_t refusals = 0;  // writes that were refused: no_path, all_recent or spent
     uint64_t given_up = 0;  // calls of a map that were held or busy at each try, for over a tenth of a second
     uint64_t stalled = 0;   // for how many seconds calls have given up so, if one did in the last ten: then a thread stopped within a write
+
+    // Which part of the lookups that were not busy found their key: 0 to 1. Without any, 0.
+    double hit_rate() const noexcept { return hits == 0 ? 0 : static_cast<double>(hits) / static_cast<double>(hits + misses); }
 };
 
 namespace inside {
@@ -38,7 +42,8 @@ namespace inside {
 // The numbers of a line. The first three are statuses of a lookup.
 enum Counted : size_t { hits = CEFRODIL_OK, misses = CEFRODIL_ABSENT, busy = CEFRODIL_BUSY, held, evictions, refusals, all_counted };
 
-// What a handle has counted. One thread at a time adds, and any thread reads. The processor loads cache lines in pairs, so it has a pair of its own.
+// What a handle has counted. Only one thread at a time adds to a number alone, and any thread reads. The processor loads cache lines in pairs, so it has a
+// pair of its own.
 // A number says nothing of other memory, so its loads and stores are relaxed.
 struct alignas(128) Line {
     std::array<std::atomic<uint64_t>, all_counted> numbers{};
@@ -46,6 +51,8 @@ struct alignas(128) Line {
     [[gnu::always_inline]] void add(size_t which, uint64_t more) noexcept {
         numbers[which].store(numbers[which].load(std::memory_order_relaxed) + more, std::memory_order_relaxed);
     }
+    // Other threads may add to the number at the same time, by this.
+    void add_shared(size_t which, uint64_t more) noexcept { numbers[which].fetch_add(more, std::memory_order_relaxed); }
 };
 static_assert(sizeof(Line) == 128, "a pair of cache lines");
 
@@ -165,10 +172,15 @@ class Counter {
             }
         }
     }
-    // So many lookups that this counted as misses go on elsewhere, and are counted there.
-    void take_back_misses(uint64_t number) noexcept {
+    // For a map, which counts by itself: in the one thread that has the handle, or in one of those that share it.
+    [[gnu::always_inline]] void add(Counted what, uint64_t number) noexcept {
         if (line_ != nullptr) {
-            line_->add(misses, 0 - number);
+            line_->add(what, number);
+        }
+    }
+    void add_shared(Counted what, uint64_t number) noexcept {
+        if (line_ != nullptr) {
+            line_->add_shared(what, number);
         }
     }
     void tried(cefrodil_status status) noexcept {

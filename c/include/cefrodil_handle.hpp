@@ -196,15 +196,7 @@ struct Counting {
         handle.counter_.tried(status);
         return static_cast<Status>(status);
     }
-    static void looked(OpenHandle &handle, cefrodil_status status) noexcept { handle.counter_.looked(status); }
-    static void take_back_misses(OpenHandle &handle, uint64_t number) noexcept { handle.counter_.take_back_misses(number); }
-    // Like Handle::get_or_turn, but a value that is found is written where it stays.
-    template <size_t Words>
-    static Status get_or_turn(OpenHandle &handle, uint64_t key, std::array<uint64_t, Words> &value, cefrodil_reply &reply) noexcept {
-        const cefrodil_status status = cefrodil_get_or_turn_of_width(&handle.raw_, key, value.data(), Words, &reply);
-        handle.counter_.looked(status);
-        return static_cast<Status>(status);
-    }
+    static Counter &counter(OpenHandle &handle) noexcept { return handle.counter_; }
 };
 
 // A number of handles that the archive may allow; it refuses 0 for the same reason as a larger one.

@@ -43,7 +43,8 @@ class Clock {
     uint64_t deadline_after(std::chrono::nanoseconds life) const noexcept {
         return life == forever ? never : now() + span(life);
     }
-    bool has_passed(uint64_t deadline) const noexcept { return deadline != never && now() >= deadline; }
+    // Each time is less than 2^63, so a later deadline is never reached.
+    bool has_passed(uint64_t deadline) const noexcept { return deadline < uint64_t(1) << 63 && now() >= deadline; }
 
   private:
     static uint64_t span(std::chrono::nanoseconds life) noexcept { return static_cast<uint64_t>(std::max(life, std::chrono::nanoseconds(0)).count()); }

@@ -175,22 +175,22 @@ template <class K, class V, class Hash = SipHash<K>, class Times = inside::Timel
             return {Status::closed, function(), true};
         }
         const inside::Identity known = inner_->identities.of(key);
-        for (;;) {
-            if (std::optional<V> found; inner_->table.find(known, found) == Status::ok) {
-                return {Status::ok, *found, false};
-            }
+        std::optional<V> found;
+        // The lookup that counts.
+        for (Status status = inner_->table.find(known, found); status != Status::ok; status = inner_->table.seek(known, found)) {
             inside::Flight flight(inner_->flights_of(known), known);
             if (!flight.has_begun()) {
                 continue;
             }
             const uint64_t generation = inner_->table.generation().now();
             // Another flight may have ended between the lookup and the begin of this one.
-            if (std::optional<V> found; inner_->table.find(known, found) == Status::ok) {
-                return {Status::ok, *found, false};
+            if (inner_->table.seek(known, found) == Status::ok) {
+                break;
             }
             const V value = function();
             return {flight.land([&] { return inner_->table.put_if_absent_in(generation, known, value).status; }), value, true};
         }
+        return {Status::ok, *found, false};
     }
 
     // Removes each key that was put before. Unless ok, some keys may still be there; no_memory: all of them. It takes memory for a list of all
@@ -221,8 +221,9 @@ template <class K, class V, class Hash = SipHash<K>, class Times = inside::Timel
     uint64_t capacity() const noexcept { return inner_ ? inner_->table.turns().capacity() : 0; }
     // How many calls of the index threads without a pass of their own made. They wait for each other. If there are many, open the map with more passes.
     uint64_t shared_calls() const noexcept { return inner_ ? inner_->table.turns().shared_calls() : 0; }
-    // What the calls of the index came to. A repeated call counts each time, and a call of the map may make several, so no exact hit rate follows:
-    // for that, count the answers of your own calls. A lookup that goes on in a small table counts once.
+    // What the lookups of this map came to, each counted once: the calls of find, get, contains and find_or_compute, and the keys of find_many. So
+    // `meter().counts().hit_rate()` is exact while no call runs. What has expired is a miss, and so is another key's entry. A call of find_or_compute
+    // that waits for another one's value is a miss, too. The other counts are of calls of the index: of those, a call of the map may make several.
     Meter meter() const noexcept { return inner_ ? inner_->table.turns().meter() : Meter(nullptr); }
 
   protected:

@@ -113,6 +113,7 @@ template <class K, class V, class Hash = SipHash<K>, class Equal = std::equal_to
         Pinned pinned(inner_->objects);
         const inside::Identity known = inner_->identities.of(key);
         const Seen seen = inner_->look(pinned, known, key, inner_->objects.turns().looks(), inner_->generation());
+        pinned.count(seen.status);
         if (seen.status == Status::ok) {
             see(static_cast<const V &>(seen.object->value));
         }
@@ -209,8 +210,9 @@ template <class K, class V, class Hash = SipHash<K>, class Equal = std::equal_to
         if (!inner_) {
             return {Status::closed, function(), true};
         }
-        for (;;) {
-            if (std::optional<V> found = find(key)) {
+        // The first lookup is the one that counts.
+        for (std::optional<V> found = find(key);; found = seek(key)) {
+            if (found) {
                 return {Status::ok, std::move(*found), false};
             }
             Changed put = Objects::refused(Status::no_memory);
@@ -252,9 +254,16 @@ template <class K, class V, class Hash = SipHash<K>, class Equal = std::equal_to
     // The sum of the weights, exact while no call writes. What other calls are about to put counts, and what has left does not, though it may wait to
     // be freed. Without a weigher 0.
     uint64_t weight() const noexcept { return inner_ ? inner_->objects.weight() : 0; }
+    // What the lookups of this map came to, each counted once: the calls of look, find, get, contains and find_or_compute. As by cefrodil::map.
     Meter meter() const noexcept { return inner_ ? inner_->objects.turns().meter() : Meter(nullptr); }
 
   private:
+    // A copy of the key's value, if it is there. It isn't counted.
+    std::optional<V> seek(Key key) const {
+        Pinned pinned(inner_->objects);
+        const Seen seen = inner_->look(pinned, inner_->identities.of(key), key, inner_->objects.turns().looks(), inner_->generation());
+        return seen.status == Status::ok ? std::optional<V>(seen.object->value) : std::nullopt;
+    }
     // Computes the key's value, if no other call does so now, and puts it. None: another call did.
     template <class Function> std::optional<Computed<V>> compute(Key key, Function &function, Changed &put) {
         const inside::Identity known = inner_->identities.of(key);
@@ -264,7 +273,7 @@ template <class K, class V, class Hash = SipHash<K>, class Equal = std::equal_to
         }
         const uint64_t generation = inner_->generation();
         // Another flight may have ended between the lookup and the begin of this one.
-        if (std::optional<V> found = find(key)) {
+        if (std::optional<V> found = seek(key)) {
             return Computed<V>{Status::ok, std::move(*found), false};
         }
         V value = function();

@@ -77,17 +77,19 @@ template <class K, class V> class Objects {
     // The only way to an object: none that is found while this lives is freed before it ends.
     class Pinned {
       public:
-        explicit Pinned(Objects &those) noexcept : objects_(those), own_(those.epochs_, those.turns_.place()) {}
+        explicit Pinned(Objects &those) noexcept : objects_(those), slot_(those.turns_.own_slot()), own_(those.epochs_, those.turns_.place_of(slot_)) {}
         [[gnu::always_inline]] Seen look(uint64_t index, uint32_t most, uint64_t generation) noexcept {
             std::array<uint64_t, 1> word;
-            const inside::Seen seen = objects_.turns_.get(index, most, word);
+            const inside::Seen seen = objects_.turns_.get(slot_, index, most, word);
             if (seen.status != Status::ok) {
                 return {seen.status, nullptr, seen.since};
             }
             Each *const object = Each::found_at(word[0]);
             return objects_.is_used(*object, generation) ? Seen{Status::ok, object, seen.since} : Seen{Status::absent, nullptr, seen.since};
         }
-        // The same, which is no use of the object. It takes the turn at the key's shard, so the status may be held, and never busy.
+        // Counts a lookup of the map.
+        [[gnu::always_inline]] void count(Status status) noexcept { objects_.turns_.count(slot_, status); }
+        // The same as `look`, which is no use of the object. It takes the turn at the key's shard, so the status may be held, and never busy.
         Seen peek(uint64_t index, uint64_t generation) noexcept {
             const Answer<1> answer = objects_.turns_.repeated([&](Slot<1> &slot) { return slot.handle.try_peek(index); });
             if (!answer.value) {
@@ -99,12 +101,13 @@ template <class K, class V> class Objects {
         // The moment of the put of what is under a number, if that has expired or is of an older generation, or else 0.
         uint64_t expired(uint64_t index, uint64_t generation) noexcept {
             std::array<uint64_t, 1> word;
-            const inside::Seen seen = objects_.turns_.get(index, objects_.turns_.looks(), word);
+            const inside::Seen seen = objects_.turns_.get(slot_, index, objects_.turns_.looks(), word);
             return seen.status == Status::ok && objects_.has_ended(*Each::found_at(word[0]), generation) ? seen.since : 0;
         }
 
       private:
         Objects &objects_;
+        Slot<1> *const slot_;
         Epochs::Pinned own_;
     };
 

@@ -150,6 +150,10 @@ template <size_t Words> struct alignas(128) Slot {
     std::atomic<int64_t> keys{0};
 
     void add(int64_t more) noexcept { keys.store(keys.load(std::memory_order_relaxed) + more, std::memory_order_relaxed); }
+    // Like Handle::get_or_turn, but a value that is found is written where it stays, and nothing is counted.
+    Status look(uint64_t key, std::array<uint64_t, Words> &value, cefrodil_reply &reply) noexcept {
+        return static_cast<Status>(cefrodil_get_or_turn_of_width(handle.raw(), key, value.data(), Words, &reply));
+    }
 };
 
 // The passes of an index. All but opening and ending may be called by any thread.
@@ -204,9 +208,12 @@ template <size_t Words> class Passes {
         return last.passes == free_.get() ? static_cast<Slot<Words> *>(last.slot) : find_slot();
     }
     // Makes one call with the slot of this thread, or with the shared one. The call must run no code of the user, since that might call, too.
-    template <class Call> auto call(Call made) noexcept {
-        Slot<Words> *const slot = own_slot();
-        return slot != nullptr ? made(*slot) : call_shared(made);
+    template <class Call> auto call(Call made) noexcept { return call_by(own_slot(), made); }
+    // The same with this slot, which `own_slot` returned.
+    template <class Call> auto call_by(Slot<Words> *slot, Call made) noexcept { return slot != nullptr ? made(*slot) : call_shared(made); }
+    // Counts by such a slot.
+    void count(Slot<Words> *slot, Counted what, uint64_t number) noexcept {
+        slot != nullptr ? Counting::counter(slot->handle).add(what, number) : Counting::counter(slots_[0].handle).add_shared(what, number);
     }
 
     // How many keys all calls added, less those that they removed. Calls that run meanwhile count or not.
@@ -219,10 +226,8 @@ template <size_t Words> class Passes {
     }
     size_t free_count() const noexcept { return free_->count(); }
     // The number of this thread's slot, or 0 if it uses the shared one.
-    size_t place() noexcept {
-        const Slot<Words> *const slot = own_slot();
-        return slot != nullptr ? static_cast<size_t>(slot - slots_.get()) : 0;
-    }
+    size_t place() noexcept { return place_of(own_slot()); }
+    size_t place_of(const Slot<Words> *slot) const noexcept { return slot != nullptr ? static_cast<size_t>(slot - slots_.get()) : 0; }
     // How many calls the shared pass made.
     uint64_t shared_calls() const noexcept { return shared_calls_.load(std::memory_order_relaxed); }
     const Handle<Words> &shared() const noexcept { return slots_[0].handle; }

@@ -54,18 +54,15 @@ template <class V, class Times = Timeless> class Table : private Packing<V, Time
         return tiers_.open(entries, shards, passes, tries, mix, small_table);
     }
 
-    // A lookup for its value, which is set if the status is ok. If it stays busy, that is a miss.
+    // A lookup for its value, which is set if the status is ok. If it stays busy, that is a miss. It is counted.
     Status find(const Identity &key, std::optional<V> &value) noexcept {
-        const Identity known = now(key);
-        Words packed;
-        const Seen seen = looked(known, turns().looks(), true, packed, value);
-        if (seen.status == Status::ok && Times::is_due(ends_of(packed))) {
-            use(known, seen.since, packed);
-        }
-        return seen.status;
+        Slot<words> *const slot = tiers_.turns().own_slot();
+        return slot != nullptr ? find_by(slot, key, value) : find_shared(key, value);
     }
-    // The same for a few keys, by one call of the index. Sets the values that are there. A key that is busy is looked up again by itself, and so is one
-    // that the main table lacks if the small one may have it.
+    // The same, but it isn't counted.
+    Status seek(const Identity &key, std::optional<V> &value) noexcept { return seek_by(tiers_.turns().own_slot(), key, value); }
+    // Looks a few keys up, by one call of the index. Each is counted. Sets the values that are there. A key that is busy is looked up again by itself, and
+    // so is one that the main table lacks if the small one may have it.
     static constexpr size_t few = 32;
     void find_few(const Identity *keys, size_t count, std::optional<V> *values) noexcept {
         std::array<uint64_t, few> indices;
@@ -74,14 +71,21 @@ template <class V, class Times = Timeless> class Table : private Packing<V, Time
         std::transform(keys, keys + count, indices.begin(), [](const Identity &key) { return key.index; });
         const uint64_t generation = generation_.now();
         const bool lacks_young = tiers_.get_many(indices.data(), count, found.data(), answers.data());
+        uint64_t hits = 0, misses = 0;
         for (size_t i = 0; i < count; i++) {
             const bool is_found = answers[i].status == CEFRODIL_OK;
             if (is_found ? Times::is_due(ends_of(found[i])) : answers[i].status == CEFRODIL_BUSY || lacks_young) {
                 static_cast<void>(find(keys[i], values[i]));
             } else if (is_found && is_there(in_generation(keys[i], generation), found[i])) {
                 set_value(found[i], values[i]);
+                hits++;
+            } else {
+                misses++;
             }
         }
+        Slot<words> *const slot = tiers_.turns().own_slot();
+        tiers_.turns().count(slot, Status::ok, hits);
+        tiers_.turns().count(slot, Status::absent, misses);
     }
     // A lookup that is no use of the key. It is repeated as often as a put.
     Found<V> peek(const Identity &key) noexcept {
@@ -112,7 +116,7 @@ template <class V, class Times = Timeless> class Table : private Packing<V, Time
     // Puts whatever is there.
     Stored put(const Identity &key, const V &value, const Life &life = {}) noexcept {
         const uint64_t generation = generation_.now();
-        const Stored put = stored(tiers_.put(key.index, pack(in_generation(key, generation), Times::ends(life), value)));
+        const Stored put = stored(tiers_.put(key.index, pack(in_generation(key, generation), Times::ends(life, generation), value)));
         // It may have overwritten an entry of the next generation.
         if (put.status == Status::ok && generation_.now() != generation) {
             static_cast<void>(this->put(key, value, life));
@@ -131,7 +135,7 @@ template <class V, class Times = Timeless> class Table : private Packing<V, Time
     // generation has begun, and what is there may be of it.
     Stored put_if_absent_in(uint64_t generation, const Identity &key, const V &value, const Life &life = {}) noexcept {
         const Identity known = in_generation(key, generation);
-        const Words packed = pack(known, Times::ends(life), value);
+        const Words packed = pack(known, Times::ends(life, generation), value);
         for (uint32_t repeat = 0;; repeat++) {
             const Stored put = stored(tiers_.put_if_absent(key.index, packed));
             if (put.status != Status::present) {
@@ -194,7 +198,7 @@ template <class V, class Times = Timeless> class Table : private Packing<V, Time
         return status == Status::ok ? remove_all(main) : status;
     }
 
-    // Removes what has expired. It is listed as by `clear`.
+    // Removes what has expired or is of an older generation. It is listed as by `clear`.
     Status erase_expired() noexcept {
         std::vector<uint64_t> small, main;
         Status status = tiers_.list(small, main);
@@ -212,14 +216,36 @@ template <class V, class Times = Timeless> class Table : private Packing<V, Time
     bool is_there(const Identity &known, const Words &packed) const noexcept {
         return packed[0] == known.check && !Times::have_passed(ends_of(packed));
     }
+    [[gnu::always_inline]] Status find_by(Slot<words> *slot, const Identity &key, std::optional<V> &value) noexcept {
+        const Status status = seek_by(slot, key, value);
+        tiers_.turns().count(slot, status);
+        return status;
+    }
+    // Not compiled into the callers, which are quicker then with a slot.
+    [[gnu::cold]] [[gnu::noinline]] Status find_shared(const Identity &key, std::optional<V> &value) noexcept { return find_by(nullptr, key, value); }
+    [[gnu::always_inline]] Status seek_by(Slot<words> *slot, const Identity &key, std::optional<V> &value) noexcept {
+        const Identity known = now(key);
+        Words packed;
+        const Seen seen = looked(slot, known, turns().looks(), true, packed, value);
+        if (seen.status == Status::ok && Times::is_due(ends_of(packed))) {
+            use(known, seen.since, packed);
+        }
+        return seen.status;
+    }
     // Compiled into `find`.
-    [[gnu::always_inline]] Seen looked(const Identity &known, uint32_t most, bool moves, Words &packed, std::optional<V> &value) noexcept {
-        const Seen seen = tiers_.get(known, most, moves, packed);
+    [[gnu::always_inline]] Seen looked(Slot<words> *slot, const Identity &known, uint32_t most, bool moves, Words &packed,
+                                       std::optional<V> &value) noexcept {
+        const auto is_own = [this](const Identity &looked_up, const Words &entry) { return is_there(looked_up, entry); };
+        const Seen seen = tiers_.get(slot, known, most, moves, packed, is_own);
         if (seen.status != Status::ok || !is_there(known, packed)) {
             return {seen.status == Status::ok ? Status::absent : seen.status, seen.since};
         }
         set_value(packed, value);
         return seen;
+    }
+    // What is under a number. It stays in its table.
+    Seen get(uint64_t index, uint32_t most, Words &packed) noexcept {
+        return tiers_.get(tiers_.turns().own_slot(), {index, 0}, most, false, packed, [](const Identity &, const Words &) { return false; });
     }
     Entry look_once(const Identity &key, bool moves) noexcept {
         const Entry entry = looked_once(key, moves);
@@ -230,7 +256,7 @@ template <class V, class Times = Timeless> class Table : private Packing<V, Time
     [[gnu::noinline]] Entry looked_once(const Identity &key, bool moves) noexcept {
         Entry entry{};
         Words packed;
-        const Seen seen = looked(key, turns().tries(), moves, packed, entry.value);
+        const Seen seen = looked(tiers_.turns().own_slot(), key, turns().tries(), moves, packed, entry.value);
         entry.status = seen.status, entry.since = seen.since;
         if (seen.status == Status::ok) {
             entry.ends = ends_of(packed);
@@ -244,7 +270,7 @@ template <class V, class Times = Timeless> class Table : private Packing<V, Time
             if (!is_lost(tiers_.put_if(known.index, since, packed).status)) {
                 return;
             }
-            const Seen seen = tiers_.get(known, turns().looks(), false, packed);
+            const Seen seen = get(known.index, turns().looks(), packed);
             since = seen.since;
             if (seen.status != Status::ok || !is_there(known, packed)) {
                 return;
@@ -254,17 +280,19 @@ template <class V, class Times = Timeless> class Table : private Packing<V, Time
     Status remove_expired(const std::vector<uint64_t> &list) noexcept {
         Status status = Status::ok;
         for (size_t at = 0; at < list.size() && status == Status::ok; at += 1 + words) {
-            const uint64_t since = expired(list[at]);
+            const uint64_t since = ended(list[at]);
             status = since != 0 ? tiers_.take_if(list[at], since) : status;
             status = is_lost(status) ? Status::ok : status;
         }
         return status;
     }
-    // The moment of the put of what is under a number, if that has expired, or else 0.
-    uint64_t expired(uint64_t index) noexcept {
+    // The moment of the put of what is under a number, if that has expired or is of an older generation, or else 0.
+    uint64_t ended(uint64_t index) noexcept {
         Words packed;
-        const Seen seen = tiers_.get({index, 0}, turns().tries(), false, packed);
-        return seen.status == Status::ok && Times::have_passed(ends_of(packed)) ? seen.since : 0;
+        const Seen seen = get(index, turns().tries(), packed);
+        // The generation is read after the entry, so it is not older than that.
+        const auto has_ended = [&] { return Times::have_passed(ends_of(packed)) || !Times::are_of(ends_of(packed), generation_.now()); };
+        return seen.status == Status::ok && has_ended() ? seen.since : 0;
     }
     Status remove_all(const std::vector<uint64_t> &list) noexcept {
         Status status = Status::ok;

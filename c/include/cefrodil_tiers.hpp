@@ -70,23 +70,21 @@ template <size_t Words> class Tiers {
     // Whether the moment is that of a put into the small table. No table counts so far.
     static constexpr bool is_of_small(uint64_t since) noexcept { return (since & of_small) != 0; }
 
-    // Looks a key up in both tables: ok, absent, or busy if it was that so often. A value that is found is written. With `moves`, a key that is found in
-    // the small table moves to the main one.
-    Seen get(const Identity &key, uint32_t most, bool moves, Value &value) noexcept {
+    // Looks a key up in both tables, by a slot that `own_slot` returned: ok, absent, or busy if it was that so often. A value that is found is written. With
+    // `moves`, a key that is found in the small table moves to the main one, if `is_there` says of the value that it is the key's. It isn't counted.
+    template <class IsThere> Seen get(Slot<Words> *slot, const Identity &key, uint32_t most, bool moves, Value &value, IsThere is_there) noexcept {
         cefrodil_reply reply;
-        Slot<Words> *const slot = turns_.own_slot();
         const Status status = slot != nullptr ? look(*slot, key.index, value, reply) : look_shared(key.index, value, reply);
-        return status == Status::ok || status == Status::absent ? Seen{status, reply.since} : go_on(status, key, most, moves, value, reply.since);
+        const bool has_ended = status == Status::ok || status == Status::absent;
+        return has_ended ? Seen{status, reply.since} : go_on(status, key, most, moves, value, reply.since, is_there);
     }
     // Looks keys up in the main table, by one call of the index. Returns whether each that it lacks is to be looked up by `get`.
     bool get_many(const uint64_t *keys, size_t count, Value *values, cefrodil_answer *answers) noexcept {
         return turns_.call([&](Slot<Words> &slot) {
-            // An open handle has an answer for each key.
-            static_cast<void>(slot.handle.get_many(keys, count, values, answers));
-            const bool again = is_small_used();
-            const auto is_absent = [](const cefrodil_answer &answer) { return answer.status == CEFRODIL_ABSENT; };
-            Counting::take_back_misses(slot.handle, again ? static_cast<uint64_t>(std::count_if(answers, answers + count, is_absent)) : 0);
-            return again;
+            // It is ok: an open handle has an answer for each key.
+            [[maybe_unused]] const cefrodil_status status =
+                cefrodil_get_many_or_none(slot.handle.raw(), keys, count, values->data(), Words * count, answers, count);
+            return is_small_used();
         });
     }
     // Looks a key up in both tables, in a turn at each, which is no use of it: ok, absent, or held.
@@ -172,13 +170,13 @@ template <size_t Words> class Tiers {
     // Looks a key up by one slot: ok, absent, busy; present if the small table has it; changed if a key has moved meanwhile, perhaps this one. Then
     // it is in the main table.
     Status look(Slot<Words> &slot, uint64_t key, Value &value, cefrodil_reply &reply) noexcept {
-        const Status status = Counting::get_or_turn(slot.handle, key, value, reply);
+        const Status status = slot.look(key, value, reply);
         return status == Status::absent && is_small_used() ? look_small(slot, key, value, reply) : status;
     }
     [[gnu::cold]] [[gnu::noinline]] Status look_shared(uint64_t key, Value &value, cefrodil_reply &reply) noexcept {
         return turns_.call([&](Slot<Words> &slot) { return look(slot, key, value, reply); });
     }
-    // The main table counted a miss. It stays one if the small table lacks the key, too.
+    // The main table lacks the key.
     [[gnu::noinline]] Status look_small(Slot<Words> &slot, uint64_t key, Value &value, cefrodil_reply &reply) noexcept {
         const cefrodil_status status = between_->young.may_have(key)
                                            ? cefrodil_get_or_turn_of_width(slot.small.raw(), key, value.data(), Words, &reply)
@@ -186,34 +184,34 @@ template <size_t Words> class Tiers {
         if (status == CEFRODIL_ABSENT && between_->moves.has_lasted(slot.rest)) {
             return Status::absent;
         }
-        Counting::take_back_misses(slot.handle, 1);
         if (status == CEFRODIL_ABSENT) {
             return Status::changed;
         }
-        Counting::looked(slot.small, status);
         reply.since |= of_small;
         return status == CEFRODIL_OK ? Status::present : static_cast<Status>(status);
     }
     // Ends a lookup that neither found the key in the main table nor missed it.
-    [[gnu::cold]] [[gnu::noinline]] Seen go_on(Status status, const Identity &key, uint32_t most, bool moves, Value &value, uint64_t since) noexcept {
+    template <class IsThere>
+    [[gnu::cold]] [[gnu::noinline]] Seen go_on(Status status, const Identity &key, uint32_t most, bool moves, Value &value, uint64_t since,
+                                               IsThere is_there) noexcept {
         if (status == Status::busy) {
-            return look_again(key, most, moves, value);
+            return look_again(key, most, moves, value, is_there);
         }
         if (status == Status::changed) {
-            return turns_.get(key.index, most, value);
+            return turns_.get(turns_.own_slot(), key.index, most, value);
         }
-        // What is found under the number of another key is no use of that key.
-        if (moves && value[0] == key.check) {
+        // What is found under the number of another key is no use of that key. Nor is what has expired.
+        if (moves && is_there(key, value)) {
             promote(key.index, std::min(most, turns_.looks()));
         }
         return {Status::ok, since};
     }
-    Seen look_again(const Identity &key, uint32_t most, bool moves, Value &value) noexcept {
+    template <class IsThere> Seen look_again(const Identity &key, uint32_t most, bool moves, Value &value, IsThere is_there) noexcept {
         cefrodil_reply reply{};
         const auto again = [&](Slot<Words> &slot) { return look(slot, key.index, value, reply); };
         const Status status = turns_.repeated_lookup(again, most);
         const bool has_ended = status == Status::ok || status == Status::absent || status == Status::busy;
-        return has_ended ? Seen{status, reply.since} : go_on(status, key, most, moves, value, reply.since);
+        return has_ended ? Seen{status, reply.since} : go_on(status, key, most, moves, value, reply.since, is_there);
     }
 
     // Moves a key that was found in the small table to the main one. If another thread writes there now, the next lookup that finds the key tries it.

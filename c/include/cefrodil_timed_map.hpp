@@ -12,7 +12,8 @@
 //     }
 //
 // It has all calls of cefrodil::map, and insert_for, insert_or_assign_for, update_for and erase_expired. Values have up to 40 bytes. What has expired is
-// absent for all calls. It takes room until others overwrite or evict it, or until erase_expired, and `size` counts it.
+// absent for all calls, and so is what invalidate_all has ended. It takes room until others overwrite or evict it, or until erase_expired, and `size`
+// counts it.
 //
 // A put begins both times anew, also over a value. An update and each call that finds the entry begin the time to idle anew, but `peek` does not. For that
 // a lookup writes the entry again, if more than a sixteenth of the time has passed since the last such write. It waits for its turn as a write does. So
@@ -40,22 +41,42 @@ class Timed {
     static constexpr size_t moments = 2;
     // A time to live that a call says, or none.
     using Life = std::optional<std::chrono::nanoseconds>;
-    // When an entry ends, and when it does if no call finds it.
+    // When an entry ends, and when it does if no call finds it. The latter is a little sooner than it is to be, so that its last bits are those of the
+    // entry's generation.
     using Ends = std::array<uint64_t, moments>;
 
-    Timed() : clock_(Lives()) {}
-    explicit Timed(const Lives &lives) : clock_(lives) {}
+    Timed() : Timed(Lives()) {}
+    explicit Timed(const Lives &lives) : clock_(lives), last_bits_(last_bits_for(clock_)) {}
 
-    Ends ends(const Life &life) const noexcept { return {deadline(life), clock_.idle_deadline()}; }
-    // Those of what replaces an entry with such ends.
-    Ends renewed(const Ends &old, const Life &life) const noexcept { return {life ? deadline(life) : old[0], clock_.idle_deadline()}; }
+    Ends ends(const Life &life, uint64_t generation) const noexcept { return {deadline(life), idle_deadline(generation)}; }
+    // Those of what replaces an entry with such ends, in its generation.
+    Ends renewed(const Ends &old, const Life &life) const noexcept { return {life ? deadline(life) : old[0], idle_deadline(old[1])}; }
     bool have_passed(const Ends &ends) const noexcept { return clock_.has_passed(std::min(ends[0], ends[1])); }
+    // Whether they are those of an entry of this generation, or of one that differs from it by a multiple of how many are told apart. Until so many have
+    // begun, an entry has ended that no call found since.
+    bool are_of(const Ends &ends, uint64_t generation) const noexcept { return ((ends[1] ^ generation) & last_bits_) == 0; }
     // Whether the time to idle is to begin anew in the entry.
     bool is_due(const Ends &ends) const noexcept { return clock_.has_idle() && ends[1] < clock_.idle_deadline() - clock_.idle_time() / 16; }
 
   private:
     uint64_t deadline(const Life &life) const noexcept { return life ? clock_.deadline_after(*life) : clock_.deadline(); }
+    // The last moment up to the deadline that has the last bits of the generation.
+    uint64_t idle_deadline(uint64_t generation) const noexcept {
+        const uint64_t deadline = clock_.idle_deadline();
+        return deadline - ((deadline - generation) & last_bits_);
+    }
+    // They take less than 1/256 of the time to idle, or, without one, 32 bits of a deadline that is never reached.
+    static uint64_t last_bits_for(const Clock &clock) noexcept {
+        const uint64_t most = clock.has_idle() ? clock.idle_time() / 256 : uint64_t(1) << 32;
+        uint64_t count = 1;
+        while (count <= most / 2) {
+            count *= 2;
+        }
+        return count - 1;
+    }
+
     Clock clock_;
+    uint64_t last_bits_;
 };
 
 } // namespace inside
@@ -84,7 +105,7 @@ template <class K, class V, class Hash = SipHash<K>> class timed_map : public ma
     template <class Function> [[nodiscard]] Found<V> update_for(Key key, std::chrono::nanoseconds life, Function function) {
         return Base::update(key, nullptr, function, life);
     }
-    // Removes what has expired. It is listed as by `clear`. Unless ok, some of it may still be there.
+    // Removes what has expired, and what was put before invalidate_all. It is listed as by `clear`. Unless ok, some of it may still be there.
     [[nodiscard]] Status erase_expired() noexcept { return Base::remove_expired(); }
 };
 

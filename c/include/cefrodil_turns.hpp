@@ -83,16 +83,20 @@ template <size_t Words> class Turns {
         return status == Status::ok ? passes_.open_small(shape, shards) : status;
     }
 
-    // Looks a key up: ok, absent, or busy if it was that once and then so often. A value that is found is written. By `get_or_turn`, whose export
-    // is shorter.
-    Seen get(uint64_t key, uint32_t most, std::array<uint64_t, Words> &value) noexcept {
+    // Looks a key up by a slot that `own_slot` returned: ok, absent, or busy if it was that once and then so often. A value that is found is written. By
+    // `get_or_turn`, whose export is shorter. It isn't counted.
+    Seen get(Slot<Words> *own, uint64_t key, uint32_t most, std::array<uint64_t, Words> &value) noexcept {
         cefrodil_reply reply;
-        const Status status = passes_.call([&](Slot<Words> &slot) { return Counting::get_or_turn(slot.handle, key, value, reply); });
+        const Status status = passes_.call_by(own, [&](Slot<Words> &slot) { return slot.look(key, value, reply); });
         return status == Status::busy ? get_again(key, most, value) : Seen{status, reply.since};
     }
 
     // This thread's slot. Null: it uses the shared one.
     Slot<Words> *own_slot() noexcept { return passes_.own_slot(); }
+    // Counts lookups of the map, by such a slot.
+    [[gnu::always_inline]] void count(Slot<Words> *own, Status status, uint64_t number = 1) noexcept {
+        passes_.count(own, static_cast<Counted>(status), number);
+    }
     // Makes a call by this thread's slot, or by the shared one.
     template <class Call> auto call(Call made) noexcept { return passes_.call(made); }
     // The same, until it is neither busy nor held. An answer may be large, and copies of it would cost, so the loop is not that of `within`.
@@ -135,6 +139,7 @@ template <size_t Words> class Turns {
     }
 
     size_t place() noexcept { return passes_.place(); }
+    size_t place_of(const Slot<Words> *slot) const noexcept { return passes_.place_of(slot); }
     uint32_t tries() const noexcept { return tries_; }
     // How often a lookup is repeated that is a miss if it stays busy.
     uint32_t looks() const noexcept { return looks_; }
@@ -153,7 +158,7 @@ template <size_t Words> class Turns {
     }
     [[gnu::cold]] [[gnu::noinline]] Seen get_again(uint64_t key, uint32_t most, std::array<uint64_t, Words> &value) noexcept {
         cefrodil_reply reply{};
-        const auto again = [&](Slot<Words> &slot) { return Counting::get_or_turn(slot.handle, key, value, reply); };
+        const auto again = [&](Slot<Words> &slot) { return slot.look(key, value, reply); };
         const Status status = repeated_lookup(again, most);
         return {status, reply.since};
     }

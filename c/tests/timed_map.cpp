@@ -131,6 +131,45 @@ static void idle_in_two_tables() {
     MUST(numbers.find(100) == 1u && numbers.erase_expired() == Status::ok && numbers.size() == 1);
 }
 
+// A lookup of a young key that has expired is no use of it. A move would evict another key from the main table, which is full.
+static void expired_in_the_small_table() {
+    now = 0;
+    Numbers numbers;
+    MUST(numbers.open({40, 1}, living(nanoseconds(100))) == Status::ok);
+    for (uint64_t key = 0; key <= 40; key++) {
+        MUST(numbers.insert_for(key, key, forever).status == Status::ok);
+    }
+    const auto moves = [&](uint64_t key) {
+        const uint64_t before = numbers.meter().counts().evictions;
+        std::optional<uint64_t> value;
+        MUST(numbers.find(key).has_value() == (numbers.find_many(&key, 1, &value) == 1));
+        return numbers.meter().counts().evictions != before;
+    };
+    MUST(numbers.insert(100, 1).status == Status::ok && numbers.insert(101, 1).status == Status::ok && moves(100) && !moves(100));
+    now = 100;
+    MUST(!moves(101) && !numbers.find(101) && numbers.update(101, next).status == Status::absent && numbers.size() == 41);
+    MUST(numbers.erase_expired() == Status::ok && numbers.size() == 39);
+}
+
+// erase_expired removes what invalidate_all has ended, from both tables, and nothing else.
+static void erases_what_is_invalidated(const cefrodil::Lives &lives) {
+    now = 1000;
+    Numbers numbers;
+    MUST(numbers.open({40, 1}, lives) == Status::ok);
+    for (uint64_t round = 0; round < 5; round++) {
+        for (uint64_t key = 0; key < 43; key++) {
+            MUST(numbers.insert(key, uint64_t(key)).status == Status::ok);
+        }
+        const uint64_t all = numbers.size();
+        MUST(numbers.erase_expired() == Status::ok && numbers.size() == all && all > 40);
+        MUST(numbers.invalidate_all() == Status::ok && (round != 3 || numbers.invalidate_all() == Status::ok));
+        MUST(numbers.insert(0, 7).status == Status::ok && numbers.insert_or_assign_for(50, 8, forever).status == Status::ok);
+        MUST(numbers.update(0, next).value == 8u && numbers.size() >= all);
+        MUST(numbers.erase_expired() == Status::ok && numbers.size() == 2 && numbers.find(0) == 8u && numbers.find(50) == 8u);
+        MUST(numbers.clear() == Status::ok);
+    }
+}
+
 // All keys have few numbers in the index, so one key's entry gives way to another's.
 struct Meeting {
     cefrodil::HashPair operator()(const uint64_t &key, const cefrodil::HashSecret &) const noexcept { return {key % 7, key}; }
@@ -187,6 +226,11 @@ int main(int argc, char **argv) {
     lives_of_entries();
     idle();
     idle_in_two_tables();
+    expired_in_the_small_table();
+    for (const auto to_idle : {forever, nanoseconds(1024), nanoseconds(std::chrono::hours(1))}) {
+        erases_what_is_invalidated(living(forever, to_idle));
+        erases_what_is_invalidated(living(nanoseconds(100), to_idle));
+    }
     agrees_with_a_model<cefrodil::SipHash<uint64_t>>({1000}, true, 30000 / less);
     agrees_with_a_model<cefrodil::SipHash<uint64_t>>({30, 1}, false, 30000 / less);
     agrees_with_a_model<Meeting>({100, 1}, false, 30000 / less);

@@ -1,6 +1,6 @@
 // A program that defines CEFRODIL_COUNTS as 0 counts nothing, and its calls answer as ever.
 #define CEFRODIL_COUNTS 0
-#include "cefrodil.hpp"
+#include "cefrodil_object_map.hpp"
 #include "must.h"
 
 using namespace cefrodil;
@@ -18,5 +18,10 @@ int main() {
     MUST(counts.hits == 0 && counts.misses == 0 && counts.held == 0 && counts.evictions == 0);
     writing.end();
     MUST(handles[0].try_put(3, {30}).evicted && handles[1].get(3).at == 5);
+    map<int, int> numbers;
+    object_map<int, int> objects;
+    MUST(numbers.open({100}) == Status::ok && numbers.insert(1, 10).status == Status::ok && numbers.find(1) == 10 && !numbers.find(2));
+    MUST(objects.open({100}) == Status::ok && objects.insert(1, 10).status == Status::ok && objects.find(1) == 10 && !objects.find(2));
+    MUST(numbers.meter().counts().hits == 0 && numbers.meter().counts().misses == 0 && objects.meter().counts().hits == 0);
     return outcome("uncounted");
 }

@@ -340,6 +340,9 @@ static void many_keys() {
     // One that stays busy is a miss.
     disturb(1033);
     MUST(map.find_many(keys, 50, values) == 33 && !values[0] && values[1] == 20 && made == 50 + 1032 && waited(193, 800));
+    // It counts as neither a hit nor a miss, and once.
+    const cefrodil::Counts counts = map.meter().counts();
+    MUST(counts.busy == 1 && counts.hits == 8 * 34 + 33 && counts.misses == 9 * 16);
 }
 
 static bool counts(const cefrodil::map<int, int> &map, uint64_t given_up, uint64_t stalled) {

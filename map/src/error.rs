@@ -134,15 +134,15 @@ impl ClearError {
 pub(crate) const BUSY: &str = "writes disturbed each lookup";
 pub(crate) const HELD: &str = "other threads held the shard's turn";
 pub(crate) const CONTENDED: &str = "other threads changed the key each time";
-pub(crate) const TOO_HEAVY: &str = "the entry is heavier than all entries may be";
-const NO_MEMORY: &str = "out of memory";
+pub(crate) const TOO_HEAVY: &str = "the entry weighs more than the map may hold";
+const NO_MEMORY: &str = "no memory";
 pub(crate) const SPENT: &str = "the shard has made all its changes";
 
 impl Display for OpenError {
     fn fmt(&self, text: &mut Formatter) -> fmt::Result {
         text.write_str(match self {
             OpenError::Capacity => "the capacity must be at least 1, and at most 3774873 for each shard",
-            OpenError::Shards => "the number of shards must be a power of two from 1 to 256",
+            OpenError::Shards => "shards must be a power of two from 1 to 256",
             OpenError::Threads => "at most 1023 threads can have a handle of their own",
             OpenError::NoMemory => NO_MEMORY,
             OpenError::Index(why) => return why.fmt(text),

@@ -76,6 +76,24 @@ impl Counts {
 }
 
 impl Stats {
+    /// Which part of the lookups that were not busy found a value: 0 to 1. Without any, 0.
+    ///
+    /// ```
+    /// let ages = cefrodil_map::Map::<str, u64>::new(100)?;
+    /// ages.insert("ann", 41)?;
+    /// assert_eq!((ages.stats().hit_rate(), ages.get("ann"), ages.get("bob")), (0.0, Some(41), None));
+    /// assert_eq!(ages.stats().hit_rate(), 0.5);
+    /// # Ok::<(), Box<dyn std::error::Error>>(())
+    /// ```
+    #[must_use]
+    pub fn hit_rate(&self) -> f64 {
+        if self.hits == 0 {
+            0.0
+        } else {
+            self.hits as f64 / (self.hits + self.misses) as f64
+        }
+    }
+
     pub(crate) fn sum<'a>(all: impl Iterator<Item = &'a Counts>) -> Stats {
         let mut sums = [0; NUMBERS];
         for counts in all {

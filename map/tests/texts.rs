@@ -40,12 +40,12 @@ fn each_error_has_its_text() {
     const BUSY: &str = "writes disturbed each lookup";
     const HELD: &str = "other threads held the shard's turn";
     const CONTENDED: &str = "other threads changed the key each time";
-    const NO_MEMORY: &str = "out of memory";
+    const NO_MEMORY: &str = "no memory";
     const SPENT: &str = "the shard has made all its changes";
     let index = cefrodil::OpenError::Processor;
     let all: [(Box<dyn Error>, &str); 23] = [
         (Box::new(OpenError::Capacity), "the capacity must be at least 1, and at most 3774873 for each shard"),
-        (Box::new(OpenError::Shards), "the number of shards must be a power of two from 1 to 256"),
+        (Box::new(OpenError::Shards), "shards must be a power of two from 1 to 256"),
         (Box::new(OpenError::Threads), "at most 1023 threads can have a handle of their own"),
         (Box::new(OpenError::NoMemory), NO_MEMORY),
         (Box::new(OpenError::Index(index)), "the processor is older than x86-64-v2"),
@@ -55,7 +55,7 @@ fn each_error_has_its_text() {
         (Box::new(InsertError::NoPlace), "there is no place for the key"),
         (Box::new(InsertError::AllRecent), "the shard is full, and each entry was used again"),
         (Box::new(InsertError::NoTimeToLive), "the map was opened without a time to live"),
-        (Box::new(InsertError::TooHeavy), "the entry is heavier than all entries may be"),
+        (Box::new(InsertError::TooHeavy), "the entry weighs more than the map may hold"),
         (Box::new(InsertError::Spent), SPENT),
         (Box::new(RemoveError::Busy), BUSY),
         (Box::new(RemoveError::Held), HELD),

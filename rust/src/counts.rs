@@ -28,6 +28,18 @@ pub struct Counts {
     pub refusals: u64,
 }
 
+impl Counts {
+    /// Which part of the lookups that were not busy found their key: 0 to 1. Without any, 0.
+    #[must_use]
+    pub fn hit_rate(&self) -> f64 {
+        if self.hits == 0 {
+            0.0
+        } else {
+            self.hits as f64 / (self.hits + self.misses) as f64
+        }
+    }
+}
+
 /// Reads the counts of a cache, in any thread, at any time: also when its handles are dropped. A clone reads the same.
 ///
 /// Without the crate's feature `counts`, which is on by default, nothing is counted and each count is 0.
@@ -42,7 +54,7 @@ pub struct Counts {
 ///     let _ = handles[1].get(key);
 /// }
 /// # if cfg!(feature = "counts") {
-/// assert_eq!((meter.counts().hits, meter.counts().misses), (1, 2));
+/// assert_eq!((meter.counts().hits, meter.counts().misses, meter.counts().hit_rate()), (1, 2, 1.0 / 3.0));
 /// assert!(prometheus(&[("names", meter.counts())]).contains("\ncefrodil_hits_total{cache=\"names\"} 1\n"));
 /// # }
 /// # Ok::<(), Box<dyn std::error::Error>>(())

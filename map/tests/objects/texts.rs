@@ -35,7 +35,7 @@ fn each_error_has_a_text() {
         (Box::new(IfError::Changed { since: 1 }), "the key was put since"),
         (Box::new(IfError::Busy), "writes disturbed each lookup"),
         (Box::new(IfError::Held), "other threads held the shard's turn"),
-        (Box::new(IfError::TooHeavy), "the entry is heavier than all entries may be"),
+        (Box::new(IfError::TooHeavy), "the entry weighs more than the map may hold"),
         (Box::new(IfError::Spent), "the shard has made all its changes"),
     ];
     for (error, text) in all {

@@ -115,7 +115,7 @@ fn what_is_heavier_than_all_is_refused_and_changes_nothing() {
     let since = map.put(1, 30, None).unwrap().at;
     let refused = map.insert(1, MOST + 1).unwrap_err();
     assert_eq!((refused.why, refused.key, refused.value), (InsertError::TooHeavy, 1, MOST + 1));
-    assert_eq!(refused.to_string(), "the entry is heavier than all entries may be");
+    assert_eq!(refused.to_string(), "the entry weighs more than the map may hold");
     assert_eq!(map.insert_if_absent(2, u64::MAX).unwrap_err().why, AbsentError::Insert(InsertError::TooHeavy));
     assert_eq!(map.replace_if(1, since, 101, None).unwrap_err().why, IfError::TooHeavy);
     assert_eq!(map.update(1, |_| 101), Err(UpdateError::Insert(InsertError::TooHeavy)));
