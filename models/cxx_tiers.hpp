@@ -8,25 +8,25 @@
 #include "cefrodil_moves.hpp"
 
 // The lock of a move, and its steps:
-//| const KeyLocks::Guard locked = between_->locks.lock(key);
-//| const Moving moving(between_->moves);
+//| const KeyLock::Guard locked = spot.lock();
+//| const Moving moving(between_->moves, spot.last_move());
 //| const Written put = turns_.call([&](Slot<Words> &slot) { return slot.handle.try_put_if_absent(key, value); });
 //| const bool is_taken = within(tries, turns_.call(take), [&] { return turns_.call(take); }) == Status::ok;
 // The note of a copy:
 //| BetweenTables::set(between_->has_copies, true);
 // The lock of a write, and the removal of the copy:
-//| const KeyLocks::Guard locked = between_->locks.lock(key);
+//| const KeyLock::Guard locked = between_->lines.of(key).lock();
 //| const std::optional<Place> at = locked ? place(slot, key) : std::nullopt;
 //| const Status status = removed(slot, slot.small, key, slot.small.try_remove(key).status);
 // The counts of the filter: before a put; after a removal, a move and an eviction; and in a lookup and a write.
-//| between_->young.add(key);
-//| &handle == &slot.small ? between_->young.subtract(key) : between_->set_full(false);
-//| between_->young.subtract(key);
-//| between_->young.subtract(*put.evicted);
-//| const cefrodil_status status = between_->young.may_have(key)
-//| return between_->young.may_have(key) ? has(slot.small, key) : std::optional<bool>(false);
+//| spot.enter();
+//| &handle == &slot.small ? between_->lines.of(key).leave() : between_->set_full(false);
+//| spot.leave();
+//| between_->settle(slot.evicted);
+//| const cefrodil_status status = spot.may_be_young()
+//| return between_->lines.of(key).may_be_young() ? has(slot.small, key) : std::optional<bool>(false);
 // The end of a lookup:
-//| if (status == CEFRODIL_ABSENT && between_->moves.has_lasted(slot.rest)) {
+//| if (status == CEFRODIL_ABSENT && between_->moves.none_since(slot.moves, spot.last_move())) {
 //| return turns_.get(turns_.own_slot(), key.index, most, value);
 struct CxxTiers : TiersOf<CxxTiers> {
     static constexpr std::array<std::string_view, 10> steps = steps_of_both;
@@ -35,12 +35,14 @@ struct CxxTiers : TiersOf<CxxTiers> {
         template <class T> using Atomic = explored::Atomic<T>;
     };
     // Of a slot, which one thread has here.
-    using Rest = uint64_t;
-    cefrodil::inside::MovesOf<Parts> moves{};
+    using Noted = uint64_t;
+    using Moves = cefrodil::inside::MovesOf<Parts>;
+    Moves moves{};
+    Moves::Last last{0};
 
-    void begin() { moves.begin(); }
-    void end() { moves.end(); }
-    bool has_lasted(Rest &rest) { return moves.has_lasted(rest); }
+    void begin() { Moves::begin(last); }
+    void end() { moves.end(last); }
+    bool none_since(Noted &noted) { return moves.none_since(noted, last); }
 };
 
 #endif

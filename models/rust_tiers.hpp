@@ -6,7 +6,7 @@
 //
 // A table is one entry, and a call of the index one step of it. All steps are sequentially consistent, as those of the crate are.
 //
-// cxx_tiers.hpp is the same for C++. `Model` counts the moves, and notes a rest.
+// cxx_tiers.hpp is the same for C++. `Model` marks and counts the moves, and notes how many there were.
 #ifndef RUST_TIERS_HPP
 #define RUST_TIERS_HPP
 
@@ -37,9 +37,9 @@ template <class Model> struct TiersOf : rl::test_suite<Model, 3> {
 
     void move() {
         const explored::Mutex::Off off("lock of a move");
-        const Guard guard(key_lock);                                  //| let Some(_locked) = self.locks.lock(key) else { return };
+        const Guard guard(key_lock);                                  //| let Some(_locked) = spot.lock() else { return };
         if (!explored::without("beginning of a move")) {
-            model().begin();                                          //| let _moving = self.moves.begin();
+            model().begin();                                          //| let _moving = self.moves.begin(spot.last_move());
         }
         const int words = small.load(all);
         if (words == none) {
@@ -60,10 +60,10 @@ template <class Model> struct TiersOf : rl::test_suite<Model, 3> {
     // Of what the small table had.
     void leave(bool was_there) {
         if (was_there) {
-            RL_ASSERT(counted.fetch_sub(1, all) > 0);                 //| self.young.subtract(key);
+            RL_ASSERT(counted.fetch_sub(1, all) > 0);                 //| self.lines.of(key).leave();
         }
     }
-    bool may_be_young() { return counted.load(all) != 0; }            //| if self.young.may_have(key) {
+    bool may_be_young() { return counted.load(all) != 0; }            //| if self.lines.of(key).may_be_young() {
     // From the small table. If the main table has the key, there is a value all the time.
     void evict() {
         if (main.load(all) == none) {
@@ -73,18 +73,18 @@ template <class Model> struct TiersOf : rl::test_suite<Model, 3> {
         if (is_early && small.load(all) != none) {
             leave(true);
         }
-        leave(small.exchange(none, all) != none && !is_early);        //| self.young.subtract(evicted);
+        leave(small.exchange(none, all) != none && !is_early);        //| self.small.call(|small| small.settle(&self.lines));
     }
     void put_into_small(int words) {
         const bool is_late = explored::without("count before a put");
-        is_late ? 0 : counted.fetch_add(1, all);                      //| self.young.add(key);
+        is_late ? 0 : counted.fetch_add(1, all);                      //| spot.enter();
         const bool was_there = small.exchange(words, all) != none;
         is_late ? counted.fetch_add(1, all) : 0;
-        leave(was_there);                                             //| _ => self.young.subtract(key),
+        leave(was_there);                                             //| spot.leave();
     }
     void write(int words) {
         const explored::Mutex::Off off("lock of a write");
-        const Guard guard(key_lock);                                  //| let _locked = self.locks.lock(key).ok_or(TurnError::Held)?;
+        const Guard guard(key_lock);                                  //| let _locked = self.lines.of(key).lock().ok_or(TurnError::Held)?;
         const bool in_main = main.load(all) != none;                  //| let is_there = self.main.call(|handle| handle.has(key))?;
         const bool may_be_small = !in_main || copies.load(all) != 0;  //| if is_there && self.has_copies.load(SeqCst) {
         const bool in_small = may_be_small && may_be_young() && small.load(all) != none; //| self.small.call(|small| small.handle.has(key))
@@ -104,22 +104,22 @@ template <class Model> struct TiersOf : rl::test_suite<Model, 3> {
         leaves.store(1, all);
         const bool is_absent = main.load(all) == none && small.load(all) == none && main.load(all) == none;
         if (!is_absent || !explored::without("lock of a removal that finds nothing")) {
-            write(none); //| let _locked = self.locks.lock(key)?;
+            write(none); //| let _locked = self.lines.of(key).lock()?;
         }
     }
 
     // What a thread notes, and the lookups of that thread.
     struct Reader {
-        typename Model::Rest rest{};
+        typename Model::Noted noted{};
 
         int look_up(Model &tiers) {
             if (const int words = tiers.main.load(all); words != none) {
                 return words;
             }
-            if (const int words = tiers.may_be_young() ? tiers.small.load(all) : none; words != none) { //| if young.may_have(key) && self.handle.has(key) != Some(false) {
+            if (const int words = tiers.may_be_young() ? tiers.small.load(all) : none; words != none) {
                 return words;
             }
-            const bool is_sure = tiers.has_lasted(rest) || explored::without("another look into the main one");
+            const bool is_sure = tiers.none_since(noted) || explored::without("another look into the main one");
             return is_sure ? none : tiers.main.load(all);
         }
     };
@@ -150,32 +150,38 @@ template <class Model> struct TiersOf : rl::test_suite<Model, 3> {
             remove();
             RL_ASSERT(reader.look_up(model()) == none);
         } else {
-            model().has_lasted(reader.rest); // at the end of a lookup of another key
+            model().none_since(reader.noted); // at the end of a lookup of another key
             look_up(reader);
             look_up(reader);
         }
     }
 };
 
+// Besides, the steps of a lookup in the small table are there.
+//| in map/src/small_handle.rs
+//| if spot.may_be_young() && self.handle.has(key) != Some(false) {
+//| if self.noted.none_since(moves, spot.last_move()) {
 struct RustTiers : TiersOf<RustTiers> {
-    static constexpr std::array<std::string_view, 11> steps{steps_of_both[0], steps_of_both[1], steps_of_both[2], steps_of_both[3],
+    static constexpr std::array<std::string_view, 12> steps{steps_of_both[0], steps_of_both[1], steps_of_both[2], steps_of_both[3],
                                                             steps_of_both[4], steps_of_both[5], steps_of_both[6], steps_of_both[7],
-                                                            steps_of_both[8], steps_of_both[9], "ends of all moves"};
+                                                            steps_of_both[8], steps_of_both[9], "number of a move", "end of a move before its count"};
 
-    struct Rest {
-        int moves = -1; //| in map/src/moves.rs
-    };
-    explored::Atomic<int> begun{0}, ended{0};
+    using Noted = int;
+    static constexpr int on_its_way = 1000; //| in map/src/moves.rs
+    explored::Atomic<int> last{0}, ended{0};
 
-    void begin() { begun.fetch_add(1, all); }                         //| self.begun.fetch_add(1, SeqCst);
-    void end() { ended.fetch_add(1, all); }                           //| self.0.ended.fetch_add(1, SeqCst);
-    bool has_lasted(Rest &rest) {
-        const int now = begun.load(all);                              //| let begun = moves.begun.load(SeqCst);
-        if (rest.moves == now) {                                      //| if self.moves == begun && self.thread == this_thread() {
+    void begin() { last.store(on_its_way, all); }                     //| last.0.store(ON_ITS_WAY, SeqCst);
+    void end() {
+        const bool is_late = explored::without("end of a move before its count");
+        is_late ? last.store(0, all) : void();
+        const int before = ended.fetch_add(1, all);                   //| let before = self.moves.ended.fetch_add(1, SeqCst);
+        last.store(explored::without("number of a move") ? before : before + 1, all); //| self.last.0.store(before + 1, SeqCst);
+    }
+    bool none_since(Noted &noted) {
+        if (last.load(all) <= noted) {                                //| if last.0.load(SeqCst) <= self.moves && self.thread == this_thread() {
             return true;
         }
-        const bool have_ended = ended.load(all) == now;               //| let have_ended = moves.ended.load(SeqCst) == begun;
-        rest.moves = have_ended || explored::without("ends of all moves") ? now : -1;
+        noted = ended.load(all);                                      //| *self = Noted { moves: moves.ended.load(SeqCst), thread: this_thread() };
         return false;
     }
 };

@@ -10,28 +10,30 @@ namespace cefrodil {
 
 namespace inside {
 
-// How many moves have begun, and how many have ended. All steps are sequentially consistent, as those of the index are.
+// How many moves have ended. All steps are sequentially consistent, as those of the index are.
 template <class Parts> class MovesOf {
   public:
-    // Before the key is read in the small table.
-    void begin() noexcept { begun_.fetch_add(1, std::memory_order_seq_cst); }
-    void end() noexcept { ended_.fetch_add(1, std::memory_order_seq_cst); }
+    // The number of the last move of some keys, which have a lock in common: as many had ended with it. 0: none has moved.
+    using Last = typename Parts::template Atomic<uint64_t>;
 
-    // Whether no move has begun since a rest was noted by this slot: all moves had ended then, so many. Otherwise it is noted anew. So no move came
-    // between if a lookup by a slot calls this at its end, and makes all its calls of the index by that slot. At first a slot has a rest of 0 moves.
-    bool has_lasted(uint64_t &rest) const noexcept {
-        const uint64_t begun = begun_.load(std::memory_order_seq_cst);
-        if (rest == begun) {
+    // Before the key is read in the small table, by who has the lock.
+    static void begin(Last &last) noexcept { last.store(on_its_way, std::memory_order_seq_cst); }
+    void end(Last &last) noexcept { last.store(ended_.fetch_add(1, std::memory_order_seq_cst) + 1, std::memory_order_seq_cst); }
+
+    // Whether none of these keys has moved since so many moves had ended, and none is on its way. Otherwise it is noted how many have ended now. So
+    // none moved meanwhile if a lookup by a slot calls this at its end, with what the slot noted before. At first a slot has noted 0.
+    bool none_since(uint64_t &noted, const Last &last) const noexcept {
+        if (last.load(std::memory_order_seq_cst) <= noted) {
             return true;
         }
-        rest = ended_.load(std::memory_order_seq_cst) == begun ? begun : no_rest;
+        noted = ended_.load(std::memory_order_seq_cst);
         return false;
     }
 
   private:
-    static constexpr uint64_t no_rest = UINT64_MAX;
+    static constexpr uint64_t on_its_way = UINT64_MAX;
 
-    typename Parts::template Atomic<uint64_t> begun_{0}, ended_{0};
+    typename Parts::template Atomic<uint64_t> ended_{0};
 };
 
 using Moves = MovesOf<Threads>;
@@ -39,13 +41,14 @@ using Moves = MovesOf<Threads>;
 // A move. It ends with this.
 class Moving {
   public:
-    explicit Moving(Moves &moves) noexcept : moves_(moves) { moves_.begin(); }
+    Moving(Moves &moves, Moves::Last &last) noexcept : moves_(moves), last_(last) { Moves::begin(last); }
     Moving(const Moving &) = delete;
     Moving &operator=(const Moving &) = delete;
-    ~Moving() { moves_.end(); }
+    ~Moving() { moves_.end(last_); }
 
   private:
     Moves &moves_;
+    Moves::Last &last_;
 };
 
 } // namespace inside

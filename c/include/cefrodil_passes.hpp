@@ -12,6 +12,7 @@
 #include <memory>
 #include <mutex>
 #include <numeric>
+#include <optional>
 #include <unordered_map>
 #include <utility>
 #include <vector>
@@ -143,9 +144,11 @@ class Claims {
 // A handle with what its thread alone writes, in pairs of cache lines of its own.
 template <size_t Words> struct alignas(128) Slot {
     Handle<Words> handle{};
-    // Of a second index, if there is one: the small table of cefrodil_tiers.hpp. `rest` is what Moves of cefrodil_moves.hpp notes here.
+    // Of a second index, if there is one: the small table of cefrodil_tiers.hpp. `moves` is what Moves of cefrodil_moves.hpp notes here. `evicted`: a
+    // key that left the small table, which is not noted elsewhere so far.
     Handle<Words> small{};
-    uint64_t rest = 0;
+    uint64_t moves = 0;
+    std::optional<uint64_t> evicted{};
     // How many keys its calls added, less those that they removed. It is only added up, so its steps need no order.
     std::atomic<int64_t> keys{0};
 

@@ -6,11 +6,8 @@
 #ifndef CEFRODIL_TIERS_HPP
 #define CEFRODIL_TIERS_HPP
 
-#include "cefrodil_filter.hpp"
+#include "cefrodil_between_tables.hpp"
 #include "cefrodil_hash.hpp"
-#include "cefrodil_key_locks.hpp"
-#include "cefrodil_moves.hpp"
-#include "cefrodil_sketch.hpp"
 #include "cefrodil_turns.hpp"
 #include <algorithm>
 #include <array>
@@ -22,33 +19,6 @@
 namespace cefrodil {
 
 namespace inside {
-
-// What the tables have in common: locks by the key, the keys that left the small table, and the moves.
-struct BetweenTables {
-    // For so many entries in both tables, and in the small one.
-    BetweenTables(uint64_t entries, uint64_t small) : left(entries), young(small) {}
-    BetweenTables(const BetweenTables &) = delete;
-    BetweenTables &operator=(const BetweenTables &) = delete;
-
-    // Most calls find it as it is to be, and write nothing that other threads read.
-    static void set(std::atomic<bool> &flag, bool now) noexcept {
-        if (flag.load(std::memory_order_relaxed) != now) {
-            flag.store(now);
-        }
-    }
-    void set_full(bool now) noexcept { set(is_full, now); }
-
-    KeyLocks locks{};
-    Sketch left;
-    // What the small table may have.
-    Filter young;
-    // The last put of a new key into the main table evicted another one, and none was removed there since. Read relaxed: it is a guess.
-    std::atomic<bool> is_full{false};
-    // Whether a key was ever put into the small table, and whether a move ever left one in both. Each is set before that, while the key's lock is held.
-    // So who has the lock of a key that is in the small table, or in both, sees it.
-    std::atomic<bool> is_small_used{false}, has_copies{false};
-    Moves moves{};
-};
 
 template <size_t Words> class Tiers {
   public:
@@ -178,10 +148,11 @@ template <size_t Words> class Tiers {
     }
     // The main table lacks the key.
     [[gnu::noinline]] Status look_small(Slot<Words> &slot, uint64_t key, Value &value, cefrodil_reply &reply) noexcept {
-        const cefrodil_status status = between_->young.may_have(key)
+        const Spot spot = between_->lines.of(key);
+        const cefrodil_status status = spot.may_be_young()
                                            ? cefrodil_get_or_turn_of_width(slot.small.raw(), key, value.data(), Words, &reply)
                                            : CEFRODIL_ABSENT;
-        if (status == CEFRODIL_ABSENT && between_->moves.has_lasted(slot.rest)) {
+        if (status == CEFRODIL_ABSENT && between_->moves.none_since(slot.moves, spot.last_move())) {
             return Status::absent;
         }
         if (status == CEFRODIL_ABSENT) {
@@ -217,11 +188,12 @@ template <size_t Words> class Tiers {
     // Moves a key that was found in the small table to the main one. If another thread writes there now, the next lookup that finds the key tries it.
     // If so many tries don't take the key out of the small table, both have it, with the same words.
     void promote(uint64_t key, uint32_t tries) noexcept {
-        const KeyLocks::Guard locked = between_->locks.lock(key);
+        const Spot spot = between_->lines.of(key);
+        const KeyLock::Guard locked = spot.lock();
         if (!locked) {
             return;
         }
-        const Moving moving(between_->moves);
+        const Moving moving(between_->moves, spot.last_move());
         Value value;
         cefrodil_reply found;
         const auto is_there = [&](Slot<Words> &slot) {
@@ -238,7 +210,7 @@ template <size_t Words> class Tiers {
         const auto take = [&](Slot<Words> &slot) { return slot.small.try_take_if(key, found.since).status; };
         const bool is_taken = within(tries, turns_.call(take), [&] { return turns_.call(take); }) == Status::ok;
         if (is_taken) {
-            between_->young.subtract(key);
+            spot.leave();
         } else {
             BetweenTables::set(between_->has_copies, true);
         }
@@ -251,7 +223,7 @@ template <size_t Words> class Tiers {
 
     // Calls with the place of a key, which can't be written meanwhile. `held`: what is returned if other threads disturb this.
     template <class Answer, class Call> Answer in_place(Slot<Words> &slot, uint64_t key, Answer held, Call call) noexcept {
-        const KeyLocks::Guard locked = between_->locks.lock(key);
+        const KeyLock::Guard locked = between_->lines.of(key).lock();
         const std::optional<Place> at = locked ? place(slot, key) : std::nullopt;
         return at ? call(*at) : held;
     }
@@ -271,7 +243,7 @@ template <size_t Words> class Tiers {
         return may_be_both && !remove_copy(slot, key) ? std::nullopt : is_there;
     }
     std::optional<bool> is_in_small(Slot<Words> &slot, uint64_t key) noexcept {
-        return between_->young.may_have(key) ? has(slot.small, key) : std::optional<bool>(false);
+        return between_->lines.of(key).may_be_young() ? has(slot.small, key) : std::optional<bool>(false);
     }
     // Removes the key from the small table, if a move could not take it out. False: other threads disturbed this.
     [[gnu::cold]] [[gnu::noinline]] bool remove_copy(Slot<Words> &slot, uint64_t key) noexcept {
@@ -292,7 +264,7 @@ template <size_t Words> class Tiers {
 
     [[gnu::noinline]] Written put_in_two(uint64_t key, const Value &value) noexcept {
         return turns_.repeated([&](Slot<Words> &slot) {
-            const KeyLocks::Guard locked = between_->locks.lock(key);
+            const KeyLock::Guard locked = between_->lines.of(key).lock();
             return locked ? put_locked(slot, key, value) : refused(Status::held);
         });
     }
@@ -315,7 +287,8 @@ template <size_t Words> class Tiers {
     }
     // Puts a key that the main table doesn't have. A young one is put into the small table, whether that has it or not.
     Written put_beside_main(Slot<Words> &slot, uint64_t key, const Value &value) noexcept {
-        if (!between_->is_full.load(std::memory_order_relaxed) || between_->left.take(key)) {
+        between_->settle(slot.evicted);
+        if (!between_->is_full.load(std::memory_order_relaxed) || between_->lines.of(key).take_note()) {
             const std::optional<bool> in_small = is_in_small(slot, key);
             if (!in_small || !*in_small) {
                 return in_small ? put_main(slot, key, value) : refused(Status::held);
@@ -333,15 +306,16 @@ template <size_t Words> class Tiers {
     }
     Written put_small(Slot<Words> &slot, uint64_t key, const Value &value) noexcept {
         BetweenTables::set(between_->is_small_used, true);
-        between_->young.add(key);
+        const Spot spot = between_->lines.of(key);
+        spot.enter();
         const Written put = slot.small.try_put(key, value);
         // Otherwise it counts already, or is not there.
         if (put.status != Status::ok || put.renewed) {
-            between_->young.subtract(key);
+            spot.leave();
         }
         if (put.evicted) {
-            between_->young.subtract(*put.evicted);
-            between_->left.note(*put.evicted);
+            between_->lines.of(*put.evicted).fetch();
+            slot.evicted = put.evicted;
         }
         return counted(slot, put);
     }
@@ -354,7 +328,7 @@ template <size_t Words> class Tiers {
     Status removed(Slot<Words> &slot, const Handle<Words> &handle, uint64_t key, Status status) noexcept {
         if (status == Status::ok) {
             slot.add(-1);
-            &handle == &slot.small ? between_->young.subtract(key) : between_->set_full(false);
+            &handle == &slot.small ? between_->lines.of(key).leave() : between_->set_full(false);
         }
         return status;
     }
@@ -363,7 +337,7 @@ template <size_t Words> class Tiers {
     template <class Answer, class Change> Answer change_if(uint64_t key, uint64_t since, Answer held, Answer changed, Change change) noexcept {
         return turns_.repeated([&](Slot<Words> &slot) {
             if (!is_of_small(since) && !between_->has_copies.load()) {
-                const KeyLocks::Guard locked = between_->locks.lock(key);
+                const KeyLock::Guard locked = between_->lines.of(key).lock();
                 return locked ? change(slot, slot.handle, since) : held;
             }
             return in_place(slot, key, held, [&](Place at) {
@@ -377,10 +351,10 @@ template <size_t Words> class Tiers {
 
     // Each lock once.
     Status wait_for_moves() noexcept {
-        const auto try_lock = [&](uint64_t key) { return between_->locks.lock(key) ? Status::ok : Status::held; };
+        const auto try_lock = [&](size_t number) { return between_->lines.lock(number).lock() ? Status::ok : Status::held; };
         Status status = Status::ok;
-        for (uint64_t key = 0; key < KeyLocks::count && status == Status::ok; key++) {
-            status = within(turns_.tries(), try_lock(key), [&] { return try_lock(key); });
+        for (size_t number = 0; number < between_->lines.count() && status == Status::ok; number++) {
+            status = within(turns_.tries(), try_lock(number), [&] { return try_lock(number); });
         }
         return status;
     }

@@ -40,7 +40,7 @@ static void a_lookup_finds_it_though_a_pass_comes_back_that_knows_of_the_move() 
         for (step = 1; step != 2;) {
             std::this_thread::yield();
         }
-        MUST(numbers->find(the_key) == 10 && numbers->find(7) == 0 && numbers->find(7) == 0);
+        MUST(numbers->find(the_key) == 10 && numbers->find(beside(the_key)) == 0);
     });
     while (step != 1) {
         std::this_thread::yield();
@@ -84,7 +84,7 @@ static void a_lookup_finds_a_key_that_is_evicted_while_it_moves() {
     MUST(numbers.where(the_key) == In::main && numbers.find(the_key) == 10);
 }
 
-// Another move had begun when this thread looked up another key. It puts the key into the main table after this thread has looked there.
+// Another move had begun when this thread looked up another key of the line. It puts the key into the main table after this thread has looked there.
 static void a_lookup_finds_a_key_whose_move_began_before() {
     Numbers numbers;
     Numbers::with_young(numbers);
@@ -101,7 +101,7 @@ static void a_lookup_finds_a_key_whose_move_began_before() {
     while (step != 1) {
         std::this_thread::yield();
     }
-    MUST(numbers.find(7) == 0 && numbers.find(7) == 0);
+    MUST(numbers.find(beside(the_key)) == 0);
     before = 1;
     act = [&] {
         step = 2;

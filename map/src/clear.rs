@@ -4,7 +4,7 @@ use crate::handle::AnyHandle;
 use crate::key::Key;
 use crate::map::Map;
 use crate::stats::Kind;
-use crate::tiers::SmallHandle;
+use crate::small_handle::SmallHandle;
 use crate::wait::LISTS;
 use cefrodil::Removal;
 

@@ -2,12 +2,11 @@
 //! evict no keys that are used often.
 //!
 //! All writes of a key have its lock. Lookups have none: they look into the main table first. SAFETY.md says why that suffices.
-use crate::filter::Filter;
 use crate::handle::AnyHandle;
-use crate::key_locks::KeyLocks;
-use crate::moves::{Moves, Rest};
-use crate::sketch::Sketch;
+use crate::key_lines::KeyLines;
+use crate::moves::Moves;
 use crate::slots::Slots;
+use crate::small_handle::SmallHandle;
 use crate::stats::Kind;
 use crate::wait::{in_turn, within};
 use crate::words::{Words, MOST};
@@ -21,10 +20,7 @@ pub(crate) const OF_SMALL: u64 = 1 << 63;
 pub(crate) struct Tiers {
     main: Arc<Slots<AnyHandle>>,
     small: Arc<Slots<SmallHandle>>,
-    locks: KeyLocks,
-    // Keys that left the small table, and those that it may have.
-    left: Sketch,
-    young: Filter,
+    lines: KeyLines,
     // The last put of a new key into the main table evicted another one, and none was removed there since. Relaxed: it is a guess.
     is_full: AtomicBool,
     // Whether a key was ever put into the small table, and whether a move ever left one in both. Each is set before that, while the key's lock is
@@ -32,13 +28,6 @@ pub(crate) struct Tiers {
     is_small_used: AtomicBool,
     has_copies: AtomicBool,
     moves: Moves,
-}
-
-/// A handle of the small table.
-pub(crate) struct SmallHandle {
-    handle: AnyHandle,
-    // Noted when a thread missed a key by this handle.
-    rest: Rest,
 }
 
 /// Whether a key that the main table didn't have is in no table.
@@ -57,34 +46,14 @@ enum Place {
     Nowhere,
 }
 
-impl SmallHandle {
-    /// The keys of the small table.
-    pub fn keys(&mut self) -> Result<Vec<u64>, TurnError<ListError>> {
-        self.handle.keys()
-    }
-
-    fn miss(&mut self, key: u64, young: &Filter, moves: &Moves) -> Miss {
-        if young.may_have(key) && self.handle.has(key) != Some(false) {
-            return Miss::No;
-        }
-        if self.rest.has_lasted(moves) {
-            Miss::Yes
-        } else {
-            Miss::Moved
-        }
-    }
-}
-
 impl Tiers {
     /// Of these handles, and for so many entries in both tables, and so many in the small one.
     pub fn new(main: Arc<Slots<AnyHandle>>, small: Vec<AnyHandle>, entries: usize, young: usize) -> Tiers {
-        let small = small.into_iter().map(|handle| SmallHandle { handle, rest: Rest::default() }).collect();
+        let small = small.into_iter().map(SmallHandle::new).collect();
         Tiers {
             main,
             small: Arc::new(Slots::new(small)),
-            locks: KeyLocks::new(),
-            left: Sketch::new(entries),
-            young: Filter::new(young),
+            lines: KeyLines::new(entries, young),
             is_full: AtomicBool::new(false),
             is_small_used: AtomicBool::new(false),
             has_copies: AtomicBool::new(false),
@@ -98,8 +67,8 @@ impl Tiers {
     }
 
     #[cfg(test)]
-    pub(crate) fn young(&self) -> &Filter {
-        &self.young
+    pub(crate) fn lines(&self) -> &KeyLines {
+        &self.lines
     }
 
     /// Whether the small table may have keys that the main one lacks.
@@ -116,7 +85,7 @@ impl Tiers {
             return Miss::Yes;
         }
         match self.small.own() {
-            Some((mut small, _)) => small.miss(key, &self.young, &self.moves),
+            Some((mut small, _)) => small.miss(key, self.lines.of(key), &self.moves),
             None => self.miss_shared(key),
         }
     }
@@ -156,8 +125,9 @@ impl Tiers {
     /// Moves a key that was found in the small table to the main one. If another thread writes there now, the next lookup that finds the key tries
     /// it. If so many tries don't take the key out of the small table, both have it, with the same words.
     pub fn promote(&self, key: u64, tries: u32) {
-        let Some(_locked) = self.locks.lock(key) else { return };
-        let _moving = self.moves.begin();
+        let spot = self.lines.of(key);
+        let Some(_locked) = spot.lock() else { return };
+        let _moving = self.moves.begin(spot.last_move());
         let Reply::Found { value, since, .. } = self.small.call(|small| small.handle.get_or_turn(key)) else { return };
         let is_new = match self.main.call(|handle| handle.put_if_absent(key, &value)) {
             Ok(put) => {
@@ -172,7 +142,7 @@ impl Tiers {
         };
         let taken = in_turn(tries, || self.small.call(|small| small.handle.take_if(key, since)));
         if taken.is_ok() {
-            self.young.subtract(key);
+            self.lines.of(key).leave();
         } else {
             set(&self.has_copies, true);
         }
@@ -191,7 +161,7 @@ impl Tiers {
     }
 
     fn put(&self, key: u64, words: &Words) -> Result<Put, TurnError<PutError>> {
-        let _locked = self.locks.lock(key).ok_or(TurnError::Held)?;
+        let _locked = self.lines.of(key).lock().ok_or(TurnError::Held)?;
         if !self.is_full.load(Relaxed) && !self.is_small_used() {
             return self.put_main(key, words);
         }
@@ -203,7 +173,7 @@ impl Tiers {
     }
 
     pub fn put_if_absent(&self, key: u64, words: &Words) -> Result<Put, TurnError<PutIfAbsentError>> {
-        let _locked = self.locks.lock(key).ok_or(TurnError::Held)?;
+        let _locked = self.lines.of(key).lock().ok_or(TurnError::Held)?;
         match self.place(key).ok_or(TurnError::Held)? {
             Place::Main | Place::Small => Err(TurnError::Call(PutIfAbsentError::Present { since: 0 })),
             Place::Nowhere => self.put_beside_main(key, words).map_err(|why| match why {
@@ -229,7 +199,7 @@ impl Tiers {
         if since & OF_SMALL == 0 {
             set(&self.is_full, false);
         } else {
-            self.young.subtract(key);
+            self.lines.of(key).leave();
         }
         Ok(taken)
     }
@@ -242,7 +212,7 @@ impl Tiers {
         in_main: impl FnOnce(&mut AnyHandle) -> Result<u64, TurnError<PutIfError>>,
         in_small: impl FnOnce(&mut AnyHandle) -> Result<u64, TurnError<PutIfError>>,
     ) -> Result<u64, TurnError<PutIfError>> {
-        let _locked = self.locks.lock(key).ok_or(TurnError::Held)?;
+        let _locked = self.lines.of(key).lock().ok_or(TurnError::Held)?;
         if since & OF_SMALL == 0 && !self.has_copies.load(SeqCst) {
             return self.main.call(in_main);
         }
@@ -256,18 +226,18 @@ impl Tiers {
     /// Whether no table has the key. A lookup may miss it while it moves, if the small table evicts it meanwhile. So a write asks this, too. `None`:
     /// other threads disturbed this.
     pub fn lacks(&self, key: u64) -> Option<bool> {
-        let _locked = self.locks.lock(key)?;
+        let _locked = self.lines.of(key).lock()?;
         self.place(key).map(|place| matches!(place, Place::Nowhere))
     }
 
     /// Waits until the moves have ended that have begun before. A lock is tried so often.
     pub fn wait_for_moves(&self, tries: u32) -> Result<(), TurnError<ListError>> {
-        (0..KeyLocks::COUNT as u64).try_for_each(|key| within(tries, || self.locks.lock(key)).map(drop)).ok_or(TurnError::Held)
+        self.lines.locks().try_for_each(|lock| within(tries, || lock.lock()).map(drop)).ok_or(TurnError::Held)
     }
 
     /// Removes the key from both tables.
     pub fn remove(&self, key: u64) -> Result<Removal, TurnError<Spent>> {
-        let _locked = self.locks.lock(key).ok_or(TurnError::Held)?;
+        let _locked = self.lines.of(key).lock().ok_or(TurnError::Held)?;
         match self.place(key).ok_or(TurnError::Held)? {
             Place::Small => self.remove_young(key),
             Place::Main | Place::Nowhere => {
@@ -312,13 +282,13 @@ impl Tiers {
     fn remove_young(&self, key: u64) -> Result<Removal, TurnError<Spent>> {
         let removal = self.small.call(|small| small.handle.remove(key))?;
         if let Removal::Removed { .. } = removal {
-            self.young.subtract(key);
+            self.lines.of(key).leave();
         }
         Ok(removal)
     }
 
     fn is_in_small(&self, key: u64) -> Option<bool> {
-        if self.young.may_have(key) {
+        if self.lines.of(key).may_be_young() {
             self.small.call(|small| small.handle.has(key))
         } else {
             Some(false)
@@ -327,12 +297,13 @@ impl Tiers {
 
     // Puts a key that the main table doesn't have.
     fn put_beside_main(&self, key: u64, words: &Words) -> Result<Put, TurnError<PutError>> {
+        self.small.call(|small| small.settle(&self.lines));
         let is_full = self.is_full.load(Relaxed);
-        let has_left = is_full && self.left.take(key);
+        let has_left = is_full && self.lines.of(key).take_note();
         let put = self.put_by_age(key, words, is_full && !has_left);
         if has_left && put.is_err() {
             // For the next try.
-            self.left.note(key);
+            self.lines.of(key).note();
         }
         put
     }
@@ -365,16 +336,12 @@ impl Tiers {
 
     fn put_small(&self, key: u64, words: &Words) -> Result<Put, TurnError<PutError>> {
         set(&self.is_small_used, true);
-        self.young.add(key);
-        let put = self.small.call(|small| small.handle.put(key, words));
-        match put {
-            Ok(Put::Stored { evicted: None, .. }) => {}
-            Ok(Put::Stored { evicted: Some(evicted), .. }) => {
-                self.young.subtract(evicted);
-                self.left.note(evicted);
-            }
+        let spot = self.lines.of(key);
+        spot.enter();
+        let put = self.small.call(|small| small.put(key, words, &self.lines));
+        if !matches!(put, Ok(Put::Stored { .. })) {
             // It counts already, or is not there.
-            _ => self.young.subtract(key),
+            spot.leave();
         }
         put
     }

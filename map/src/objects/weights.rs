@@ -5,7 +5,7 @@ use super::object::Held;
 use super::pinned::Pinned;
 use super::put::Done;
 use super::queues::{Line, Queued, Queues};
-use crate::sketch::mixed;
+use crate::spread::mixed;
 use cefrodil::{PutIfError, Reply, TurnError};
 use std::mem;
 use std::sync::atomic::{AtomicIsize, AtomicU64, Ordering::Relaxed};

@@ -1,18 +1,19 @@
 //! What the filter of the small table has: each key that is there, and no other one for long.
 use super::done;
 use super::tiers::{hold_small, open_for, with_young, KEY};
-use crate::filter::Filter;
-use crate::tiers::SmallHandle;
+use crate::filter::Cells;
+use crate::spread::mixed;
+use crate::small_handle::SmallHandle;
 use crate::Map;
 use std::thread;
 
 fn key(number: u64) -> u64 {
-    number.wrapping_mul(0x0123_4567_89ab_cdef)
+    mixed(number.wrapping_mul(0x0123_4567_89ab_cdef))
 }
 
 #[test]
 fn a_filter_has_a_key_until_it_has_left_as_often_as_it_came() {
-    let filter = Filter::new(100);
+    let filter = Cells::<800>::default();
     assert!((0..1_000).all(|number| !filter.may_have(key(number))));
     (0..100).for_each(|number| filter.add(key(number)));
     assert!((0..100).all(|number| filter.may_have(key(number))));
@@ -27,7 +28,7 @@ fn a_filter_has_a_key_until_it_has_left_as_often_as_it_came() {
 
 #[test]
 fn a_cell_that_was_full_has_any_key_from_then_on() {
-    let filter = Filter::new(1);
+    let filter = Cells::<8>::default();
     (0..254).for_each(|_| filter.add(7));
     (0..254).for_each(|_| filter.subtract(7));
     assert!(!filter.may_have(7));
@@ -38,10 +39,11 @@ fn a_cell_that_was_full_has_any_key_from_then_on() {
     assert!(filter.may_have(7));
 }
 
-// Whether the filter counts as many keys as the small table has.
-fn counts_its_keys(map: &Map<u64, u64>) -> bool {
+// How many more keys the filter counts than the small table has. That this thread evicted one is noted.
+fn counted_too_much(map: &Map<u64, u64>) -> usize {
     let tiers = map.inner.tiers.as_ref().unwrap();
-    tiers.young().keys() == tiers.small().call(SmallHandle::keys).unwrap().len()
+    tiers.small().call(|small| small.settle(tiers.lines()));
+    tiers.lines().young_keys() - tiers.small().call(SmallHandle::keys).unwrap().len()
 }
 
 #[test]
@@ -69,9 +71,9 @@ fn each_way_out_of_the_small_table_is_counted() {
     ];
     for (number, way) in ways.iter().enumerate() {
         let map = with_young();
-        assert!(counts_its_keys(&map));
+        assert_eq!(counted_too_much(&map), 0);
         way(&map);
-        assert!(counts_its_keys(&map), "way {number}");
+        assert_eq!(counted_too_much(&map), 0, "way {number}");
     }
 }
 
@@ -95,7 +97,8 @@ fn threads_leave_it_as_the_table_is() {
             });
         }
     });
-    assert!(counts_its_keys(&map));
+    // Each of these threads may have evicted a key and put no other one since.
+    assert!(counted_too_much(&map) <= 3);
     map.clear().unwrap();
-    assert_eq!(map.inner.tiers.as_ref().unwrap().young().keys(), 0);
+    assert!(counted_too_much(&map) <= 3);
 }

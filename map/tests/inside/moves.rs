@@ -1,5 +1,5 @@
 //! A move from the small table to the main one crosses no write, and hides no key.
-use super::tiers::{hold_small, open_for, place, with_young, Numbers, KEY};
+use super::tiers::{beside, hold_small, open_for, place, with_young, Numbers, KEY};
 use super::turns::{before_calls, calls};
 use crate::inner::Found;
 use crate::tiers::OF_SMALL;
@@ -41,7 +41,7 @@ fn a_lookup_finds_it_though_it_takes_over_a_pass_that_knows_of_the_move() {
         map.insert(&KEY, 10).unwrap();
         ready.send(map.clone()).unwrap();
         goes.recv().unwrap();
-        assert_eq!((map.get(&KEY), map.get(&7)), (Some(10), None));
+        assert_eq!((map.get(&KEY), map.get(&beside(&map, KEY))), (Some(10), None));
     });
     let map: Numbers = is_ready.recv().unwrap();
     let mover = Cell::new(Some(mover));
@@ -62,7 +62,7 @@ fn a_lookup_by_the_shared_pass_finds_a_key_that_moves_meanwhile() {
     // It asks twice for a handle of its own before each call.
     before_calls(3, 1, move || {
         let map = other.clone();
-        thread::spawn(move || assert_eq!((map.get(&KEY), map.get(&7)), (Some(10), None))).join().unwrap();
+        thread::spawn(move || assert_eq!((map.get(&KEY), map.get(&beside(&map, KEY))), (Some(10), None))).join().unwrap();
     });
     assert_eq!(calls(|| map.get(&KEY)).1, Some(10));
 }

@@ -1,4 +1,6 @@
-//! What the sketch of keys that left remembers.
+//! What the tags of keys that left remember.
+use crate::key_lines::KeyLines;
+#[cfg(feature = "objects")]
 use crate::sketch::Sketch;
 
 fn key(number: u64) -> u64 {
@@ -6,21 +8,26 @@ fn key(number: u64) -> u64 {
 }
 
 // How many of these keys are noted. They aren't afterwards.
-fn taken(sketch: &Sketch, numbers: std::ops::Range<u64>) -> usize {
-    numbers.filter(|number| sketch.take(key(*number))).count()
+fn taken(numbers: std::ops::Range<u64>, take: impl Fn(u64) -> bool) -> usize {
+    numbers.filter(|number| take(key(*number))).count()
 }
 
 #[test]
-fn a_sketch_notes_a_key_until_others_come() {
-    let sketch = Sketch::new(1_000);
-    assert_eq!(taken(&sketch, 0..1_000), 0);
-    (0..100).for_each(|number| sketch.note(key(number)));
-    let noted = taken(&sketch, 0..100);
-    assert!(noted >= 90, "{noted} of 100");
-    assert_eq!(taken(&sketch, 0..100), 0);
-    (0..10_000).for_each(|number| sketch.note(key(number)));
-    let (late, early) = (taken(&sketch, 9_500..10_000), taken(&sketch, 0..5_000));
-    assert!(late > 250 && early < 100, "{late} late and {early} early keys");
+fn a_key_that_left_is_noted_until_others_come() {
+    for entries in [1_000, 5_000] {
+        let lines = KeyLines::new(entries, entries / 11);
+        let (note, take) = (|number| lines.of(key(number)).note(), |key| lines.of(key).take_note());
+        let (some, all) = (entries as u64 / 10, entries as u64 * 10);
+        assert_eq!(taken(0..all, take), 0);
+        (0..some).for_each(note);
+        let noted = taken(0..some, take);
+        assert!(noted as u64 * 10 >= some * 9, "{noted} of {some}");
+        assert_eq!(taken(0..some, take), 0);
+        (0..all).for_each(note);
+        // About a key for each two entries is remembered, those that came last.
+        let (late, early) = (taken(all - some * 5..all, take), taken(0..all / 2, take));
+        assert!(late * 4 > entries && early * 10 < entries, "{late} late and {early} early keys of {entries}");
+    }
 }
 
 #[cfg(feature = "objects")]
@@ -30,7 +37,7 @@ fn a_sketch_remembers_fewer_keys_of_a_table_with_fewer_entries() {
     let remembered = |entries| {
         (0..100).for_each(|_| sketch.fit(entries));
         (0..100_000).for_each(|number| sketch.note(key(number)));
-        taken(&sketch, 0..100_000)
+        taken(0..100_000, |key| sketch.take(key))
     };
     // Between half of the entries and all of them, or twice as many if there were more before. Keys that it takes for others are among them.
     for (entries, least, most) in

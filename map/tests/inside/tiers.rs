@@ -2,11 +2,13 @@
 use super::one_shard;
 use super::turns::{before_calls, calls, Turn};
 use crate::handle::AnyHandle;
-use crate::tiers::{SmallHandle, OF_SMALL};
+use crate::small_handle::SmallHandle;
+use crate::tiers::OF_SMALL;
 use crate::{InsertError, Inserted, Map, RemoveError, UpdateError};
 use cefrodil::Reply;
 use std::collections::HashMap;
 use std::hash::{BuildHasherDefault, Hasher};
+use std::ptr;
 use std::thread;
 use std::time::Duration;
 
@@ -44,6 +46,13 @@ pub fn place(map: &Numbers, key: u64) -> (bool, bool) {
     let (key, tiers) = (map.inner.print(&key).key, map.inner.tiers.as_ref().unwrap());
     let in_main = matches!(map.inner.slots.call(|handle| handle.get_or_turn(key)), Reply::Found { .. });
     (in_main, matches!(tiers.look_small(key), Reply::Found { since, .. } if since & OF_SMALL != 0))
+}
+
+/// Another key, whose line between the tables is the same.
+pub fn beside(map: &Numbers, key: u64) -> u64 {
+    let lines = map.inner.tiers.as_ref().unwrap().lines();
+    let line = |key: &u64| ptr::from_ref(lines.of(map.inner.print(key).key).last_move());
+    (10_000..).find(|other| line(other) == line(&key)).unwrap()
 }
 
 pub fn hold_small(map: &Numbers) -> Turn {
@@ -143,13 +152,20 @@ fn a_peek_finds_a_key_in_both_tables_and_moves_none() {
     assert_eq!(calls(|| map.peek(&KEY)).1, Ok(Some(10)));
 }
 
-// A miss costs a third call only after a key has moved.
+// A miss costs a third call only after a key of its line has moved. At first a thread knows of no move.
 #[test]
 fn a_miss_looks_at_each_table_once() {
     let map = with_young();
+    let others: Vec<u64> = (2..100).filter(|other| beside(&map, *other) != beside(&map, KEY)).take(2).collect();
+    let misses = |key: u64| {
+        let (calls, found) = calls(|| map.get(&key));
+        assert_eq!(found, None);
+        calls
+    };
+    assert_eq!((misses(others[0]), misses(others[0])), (3, 2));
     assert_eq!(calls(|| map.get(&KEY)).1, Some(10));
-    assert_eq!(calls(|| map.get(&7)), (3, None));
-    assert_eq!(calls(|| map.get(&7)), (2, None));
+    assert_eq!((misses(others[0]), misses(others[1])), (2, 2));
+    assert_eq!((misses(beside(&map, KEY)), misses(beside(&map, KEY))), (3, 2));
     assert_eq!(calls(|| map.get(&KEY)), (1, Some(10)));
 }
 
