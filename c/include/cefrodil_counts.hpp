@@ -28,7 +28,7 @@ struct Counts {
     uint64_t misses = 0;    // lookups of a key that was absent
     uint64_t busy = 0;      // lookups that were busy; of a map: at each try
     uint64_t held = 0;      // writes, lists and peeks whose try for a turn did not win
-    uint64_t evictions = 0; // puts that evicted another key
+    uint64_t evictions = 0; // puts that evicted another key; of an object_map: objects that left for others
     uint64_t refusals = 0;  // writes that were refused: no_path, all_recent or spent
     uint64_t given_up = 0;  // calls of a map that were held or busy at each try, for over a tenth of a second
     uint64_t stalled = 0;   // for how many seconds calls have given up so, if one did in the last ten: then a thread stopped within a write
@@ -172,14 +172,15 @@ class Counter {
             }
         }
     }
-    // For a map, which counts by itself: in the one thread that has the handle, or in one of those that share it.
-    [[gnu::always_inline]] void add(Counted what, uint64_t number) noexcept {
-        if (line_ != nullptr) {
+    // For a map, which counts by itself: in the one thread that has the handle, or in one of those that share it. Its handles have lines, unless nothing
+    // is counted.
+    [[gnu::always_inline]] void add([[maybe_unused]] Counted what, [[maybe_unused]] uint64_t number) noexcept {
+        if constexpr (CEFRODIL_COUNTS != 0) {
             line_->add(what, number);
         }
     }
-    void add_shared(Counted what, uint64_t number) noexcept {
-        if (line_ != nullptr) {
+    void add_shared([[maybe_unused]] Counted what, [[maybe_unused]] uint64_t number) noexcept {
+        if constexpr (CEFRODIL_COUNTS != 0) {
             line_->add_shared(what, number);
         }
     }

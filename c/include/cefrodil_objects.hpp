@@ -227,6 +227,7 @@ template <class K, class V> class Objects {
         const Swapped<1> taken = turns_.repeated([&](Slot<1> &slot) {
             const Swapped<1> tried = take(slot);
             slot.add(tried.status == Status::ok ? -1 : 0);
+            slot.count(evictions, tried.status == Status::ok && why == Left::evicted ? 1 : 0);
             return tried;
         });
         Each *const old = taken.old ? Each::at((*taken.old)[0]) : nullptr;

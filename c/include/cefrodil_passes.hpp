@@ -153,6 +153,8 @@ template <size_t Words> struct alignas(128) Slot {
     std::atomic<int64_t> keys{0};
 
     void add(int64_t more) noexcept { keys.store(keys.load(std::memory_order_relaxed) + more, std::memory_order_relaxed); }
+    // Counts so many more. Other threads may count by the shared slot, so call this only if the slot is the thread's own, or is locked.
+    [[gnu::always_inline]] void count(Counted what, uint64_t number) noexcept { Counting::counter(handle).add(what, number); }
     // Like Handle::get_or_turn, but a value that is found is written where it stays, and nothing is counted.
     Status look(uint64_t key, std::array<uint64_t, Words> &value, cefrodil_reply &reply) noexcept {
         return static_cast<Status>(cefrodil_get_or_turn_of_width(handle.raw(), key, value.data(), Words, &reply));
@@ -216,7 +218,7 @@ template <size_t Words> class Passes {
     template <class Call> auto call_by(Slot<Words> *slot, Call made) noexcept { return slot != nullptr ? made(*slot) : call_shared(made); }
     // Counts by such a slot.
     void count(Slot<Words> *slot, Counted what, uint64_t number) noexcept {
-        slot != nullptr ? Counting::counter(slot->handle).add(what, number) : Counting::counter(slots_[0].handle).add_shared(what, number);
+        slot != nullptr ? slot->count(what, number) : Counting::counter(slots_[0].handle).add_shared(what, number);
     }
 
     // How many keys all calls added, less those that they removed. Calls that run meanwhile count or not.

@@ -57,7 +57,12 @@ template <class V, class Times = Timeless> class Table : private Packing<V, Time
     // A lookup for its value, which is set if the status is ok. If it stays busy, that is a miss. It is counted.
     Status find(const Identity &key, std::optional<V> &value) noexcept {
         Slot<words> *const slot = tiers_.turns().own_slot();
-        return slot != nullptr ? find_by(slot, key, value) : find_shared(key, value);
+        if (slot == nullptr) {
+            return find_shared(key, value);
+        }
+        const Status status = seek_by(slot, key, value);
+        slot->count(static_cast<Counted>(status), 1);
+        return status;
     }
     // The same, but it isn't counted.
     Status seek(const Identity &key, std::optional<V> &value) noexcept { return seek_by(tiers_.turns().own_slot(), key, value); }
@@ -216,27 +221,28 @@ template <class V, class Times = Timeless> class Table : private Packing<V, Time
     bool is_there(const Identity &known, const Words &packed) const noexcept {
         return packed[0] == known.check && !Times::have_passed(ends_of(packed));
     }
-    [[gnu::always_inline]] Status find_by(Slot<words> *slot, const Identity &key, std::optional<V> &value) noexcept {
-        const Status status = seek_by(slot, key, value);
-        tiers_.turns().count(slot, status);
+    // Not compiled into the callers, which are quicker then with a slot.
+    [[gnu::cold]] [[gnu::noinline]] Status find_shared(const Identity &key, std::optional<V> &value) noexcept {
+        const Status status = seek_by(nullptr, key, value);
+        tiers_.turns().count(nullptr, status);
         return status;
     }
-    // Not compiled into the callers, which are quicker then with a slot.
-    [[gnu::cold]] [[gnu::noinline]] Status find_shared(const Identity &key, std::optional<V> &value) noexcept { return find_by(nullptr, key, value); }
     [[gnu::always_inline]] Status seek_by(Slot<words> *slot, const Identity &key, std::optional<V> &value) noexcept {
         const Identity known = now(key);
         Words packed;
-        const Seen seen = looked(slot, known, turns().looks(), true, packed, value);
+        // What is found under the number of another key is no use of that key. Nor is what has expired.
+        const auto is_own = [this](const Identity &looked_up, const Words &entry) { return is_there(looked_up, entry); };
+        const Seen seen = looked(slot, known, turns().looks(), packed, value, is_own);
         if (seen.status == Status::ok && Times::is_due(ends_of(packed))) {
             use(known, seen.since, packed);
         }
         return seen.status;
     }
-    // Compiled into `find`.
-    [[gnu::always_inline]] Seen looked(Slot<words> *slot, const Identity &known, uint32_t most, bool moves, Words &packed,
-                                       std::optional<V> &value) noexcept {
-        const auto is_own = [this](const Identity &looked_up, const Words &entry) { return is_there(looked_up, entry); };
-        const Seen seen = tiers_.get(slot, known, most, moves, packed, is_own);
+    // Compiled into `find`. `moves`: whether what is found in the small table moves to the main one.
+    template <class Moved>
+    [[gnu::always_inline]] Seen looked(Slot<words> *slot, const Identity &known, uint32_t most, Words &packed, std::optional<V> &value,
+                                       Moved moves) noexcept {
+        const Seen seen = tiers_.get(slot, known, most, packed, moves);
         if (seen.status != Status::ok || !is_there(known, packed)) {
             return {seen.status == Status::ok ? Status::absent : seen.status, seen.since};
         }
@@ -245,7 +251,7 @@ template <class V, class Times = Timeless> class Table : private Packing<V, Time
     }
     // What is under a number. It stays in its table.
     Seen get(uint64_t index, uint32_t most, Words &packed) noexcept {
-        return tiers_.get(tiers_.turns().own_slot(), {index, 0}, most, false, packed, [](const Identity &, const Words &) { return false; });
+        return tiers_.get(tiers_.turns().own_slot(), {index, 0}, most, packed, [](const Identity &, const Words &) { return false; });
     }
     Entry look_once(const Identity &key, bool moves) noexcept {
         const Entry entry = looked_once(key, moves);
@@ -256,7 +262,8 @@ template <class V, class Times = Timeless> class Table : private Packing<V, Time
     [[gnu::noinline]] Entry looked_once(const Identity &key, bool moves) noexcept {
         Entry entry{};
         Words packed;
-        const Seen seen = looked(tiers_.turns().own_slot(), key, turns().tries(), moves, packed, entry.value);
+        const auto moves_own = [this, moves](const Identity &looked_up, const Words &found) { return moves && is_there(looked_up, found); };
+        const Seen seen = looked(tiers_.turns().own_slot(), key, turns().tries(), packed, entry.value, moves_own);
         entry.status = seen.status, entry.since = seen.since;
         if (seen.status == Status::ok) {
             entry.ends = ends_of(packed);

@@ -40,13 +40,13 @@ template <size_t Words> class Tiers {
     // Whether the moment is that of a put into the small table. No table counts so far.
     static constexpr bool is_of_small(uint64_t since) noexcept { return (since & of_small) != 0; }
 
-    // Looks a key up in both tables, by a slot that `own_slot` returned: ok, absent, or busy if it was that so often. A value that is found is written. With
-    // `moves`, a key that is found in the small table moves to the main one, if `is_there` says of the value that it is the key's. It isn't counted.
-    template <class IsThere> Seen get(Slot<Words> *slot, const Identity &key, uint32_t most, bool moves, Value &value, IsThere is_there) noexcept {
+    // Looks a key up in both tables, by a slot that `own_slot` returned: ok, absent, or busy if it was that so often. A value that is found is written. A
+    // key that is found in the small table moves to the main one if `moves(key, value)` says so. It isn't counted.
+    template <class Moved> Seen get(Slot<Words> *slot, const Identity &key, uint32_t most, Value &value, Moved moves) noexcept {
         cefrodil_reply reply;
         const Status status = slot != nullptr ? look(*slot, key.index, value, reply) : look_shared(key.index, value, reply);
         const bool has_ended = status == Status::ok || status == Status::absent;
-        return has_ended ? Seen{status, reply.since} : go_on(status, key, most, moves, value, reply.since, is_there);
+        return has_ended ? Seen{status, reply.since} : go_on(status, key, most, value, reply.since, moves);
     }
     // Looks keys up in the main table, by one call of the index. Returns whether each that it lacks is to be looked up by `get`.
     bool get_many(const uint64_t *keys, size_t count, Value *values, cefrodil_answer *answers) noexcept {
@@ -162,27 +162,25 @@ template <size_t Words> class Tiers {
         return status == CEFRODIL_OK ? Status::present : static_cast<Status>(status);
     }
     // Ends a lookup that neither found the key in the main table nor missed it.
-    template <class IsThere>
-    [[gnu::cold]] [[gnu::noinline]] Seen go_on(Status status, const Identity &key, uint32_t most, bool moves, Value &value, uint64_t since,
-                                               IsThere is_there) noexcept {
+    template <class Moved>
+    [[gnu::cold]] [[gnu::noinline]] Seen go_on(Status status, const Identity &key, uint32_t most, Value &value, uint64_t since, Moved moves) noexcept {
         if (status == Status::busy) {
-            return look_again(key, most, moves, value, is_there);
+            return look_again(key, most, value, moves);
         }
         if (status == Status::changed) {
             return turns_.get(turns_.own_slot(), key.index, most, value);
         }
-        // What is found under the number of another key is no use of that key. Nor is what has expired.
-        if (moves && is_there(key, value)) {
+        if (moves(key, value)) {
             promote(key.index, std::min(most, turns_.looks()));
         }
         return {Status::ok, since};
     }
-    template <class IsThere> Seen look_again(const Identity &key, uint32_t most, bool moves, Value &value, IsThere is_there) noexcept {
+    template <class Moved> Seen look_again(const Identity &key, uint32_t most, Value &value, Moved moves) noexcept {
         cefrodil_reply reply{};
         const auto again = [&](Slot<Words> &slot) { return look(slot, key.index, value, reply); };
         const Status status = turns_.repeated_lookup(again, most);
         const bool has_ended = status == Status::ok || status == Status::absent || status == Status::busy;
-        return has_ended ? Seen{status, reply.since} : go_on(status, key, most, moves, value, reply.since, is_there);
+        return has_ended ? Seen{status, reply.since} : go_on(status, key, most, value, reply.since, moves);
     }
 
     // Moves a key that was found in the small table to the main one. If another thread writes there now, the next lookup that finds the key tries it.
