@@ -15,21 +15,28 @@
 // The note of a copy:
 //| BetweenTables::set(between_->has_copies, true);
 // The lock of a write, and the removal of the copy:
-//| const KeyLock::Guard locked = between_->lines.of(key).lock();
-//| const std::optional<Place> at = locked ? place(slot, key) : std::nullopt;
-//| const Status status = removed(slot, slot.small, key, slot.small.try_remove(key).status);
+//| const KeyLock::Guard locked = spot.lock();
+//| const std::optional<Place> at = locked ? place(slot, spot) : std::nullopt;
+//| const Status status = removed(slot, slot.small, spot, slot.small.try_remove(spot.key()).status);
 // The counts of the filter: before a put; after a removal, a move and an eviction; and in a lookup and a write.
 //| spot.enter();
-//| &handle == &slot.small ? between_->lines.of(key).leave() : between_->set_full(false);
+//| &handle == &slot.small ? spot.leave() : between_->set_full(false);
 //| spot.leave();
-//| between_->settle(slot.evicted);
+//| between_->settle(slot.notes);
 //| const cefrodil_status status = spot.may_be_young()
-//| return between_->lines.of(key).may_be_young() ? has(slot.small, key) : std::optional<bool>(false);
+//| return spot.may_be_young() ? has(slot.small, spot.key()) : std::optional<bool>(false);
 // The end of a lookup:
-//| if (status == CEFRODIL_ABSENT && between_->moves.none_since(slot.moves, spot.last_move())) {
+//| if (status == CEFRODIL_ABSENT && between_->is_miss(slot.notes, spot)) {
 //| return turns_.get(turns_.own_slot(), key.index, most, value);
+// A put of a new key into the main table, and a write of a key that was missed:
+//| between_->moves.end(spot.last_move());
+//| if (BetweenTables::is_still_missed(slot.notes, spot)) {
+//| in c/include/cefrodil_between_tables.hpp
+//| if (Moves::none_since(notes.moves, spot.last_move())) {
+//| notes = {moves.note(), std::nullopt, notes.evicted};
+//| return notes.missed == spot.key() && Moves::none_since(notes.moves, spot.last_move());
 struct CxxTiers : TiersOf<CxxTiers> {
-    static constexpr std::array<std::string_view, 10> steps = steps_of_both;
+    static constexpr std::array<std::string_view, 12> steps = steps_of_both;
 
     struct Parts {
         template <class T> using Atomic = explored::Atomic<T>;
@@ -42,7 +49,8 @@ struct CxxTiers : TiersOf<CxxTiers> {
 
     void begin() { Moves::begin(last); }
     void end() { moves.end(last); }
-    bool none_since(Noted &noted) { return moves.none_since(noted, last); }
+    bool none_since(Noted noted) const { return Moves::none_since(noted, last); }
+    void note(Noted &noted) { noted = moves.note(); }
 };
 
 #endif

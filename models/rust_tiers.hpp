@@ -1,12 +1,13 @@
 // How a key moves from the small table of the crate `cefrodil-map` to the main one, line by line. .ci/models checks that each quoted line is still there.
 //| in map/src/tiers.rs
 //
-// One thread moves a key, or evicts what the small table has of it. Another one evicts that, too, may write the key, and removes it. A third one looks it
-// up twice. No lookup finds an older value than was written before it, or any after the removal. None misses the key before it is evicted or removed.
+// One thread moves a key, evicts what the small table has of it, or puts the key if no table has it. Another one evicts that, too, may look the key up and
+// write it, and removes it. A third one looks it up twice. No lookup finds an older value than was written before it, or any after the removal. None misses
+// the key before it is evicted or removed.
 //
 // A table is one entry, and a call of the index one step of it. All steps are sequentially consistent, as those of the crate are.
 //
-// cxx_tiers.hpp is the same for C++. `Model` marks and counts the moves, and notes how many there were.
+// cxx_tiers.hpp is the same for C++. `Model` numbers the moves, and the lookups that note one.
 #ifndef RUST_TIERS_HPP
 #define RUST_TIERS_HPP
 
@@ -14,10 +15,10 @@
 
 template <class Model> struct TiersOf : rl::test_suite<Model, 3> {
     static constexpr unsigned interruptions = 2;
-    static constexpr std::array<std::string_view, 10> steps_of_both{
+    static constexpr std::array<std::string_view, 12> steps_of_both{
         "lock of a move",         "lock of a write",               "removal of the copy",                  "beginning of a move",
         "put before the removal", "another look into the main one", "lock of a removal that finds nothing", "note of a copy",
-        "count before a put",     "count after an eviction"};
+        "count before a put",     "count after an eviction",        "number of a put",                      "end of a miss by a new number"};
 
     using Guard = std::lock_guard<explored::Mutex>;
     static constexpr std::memory_order all = std::memory_order_seq_cst;
@@ -30,8 +31,8 @@ template <class Model> struct TiersOf : rl::test_suite<Model, 3> {
     explored::Atomic<int> copies{0};
     // What was written before. Whether an eviction or the removal has begun that may leave no value.
     explored::Atomic<int> written{1}, leaves{0};
-    // Whether the thread that moves the key evicts it instead.
-    explored::Atomic<int> evicts{0};
+    // Whether the thread that moves the key evicts it instead, or puts it.
+    explored::Atomic<int> evicts{0}, puts{0};
 
     Model &model() { return static_cast<Model &>(*this); }
 
@@ -73,7 +74,7 @@ template <class Model> struct TiersOf : rl::test_suite<Model, 3> {
         if (is_early && small.load(all) != none) {
             leave(true);
         }
-        leave(small.exchange(none, all) != none && !is_early);        //| self.small.call(|small| small.settle(&self.lines));
+        leave(small.exchange(none, all) != none && !is_early);
     }
     void put_into_small(int words) {
         const bool is_late = explored::without("count before a put");
@@ -82,10 +83,24 @@ template <class Model> struct TiersOf : rl::test_suite<Model, 3> {
         is_late ? counted.fetch_add(1, all) : 0;
         leave(was_there);                                             //| spot.leave();
     }
-    void write(int words) {
+    void put_into_main(int words) {
+        const bool is_new = main.exchange(words, all) == none;        //| let put = self.main.call(|handle| handle.put(key, words))?;
+        if (is_new && words != none && !explored::without("number of a put")) {
+            model().end();                                            //| self.moves.end(self.lines.of(key).last_move());
+        }
+    }
+    void put_if_absent(int words) {
+        puts.store(1, all);
+        const Guard guard(key_lock);
+        if (main.load(all) == none && small.load(all) == none) {
+            put_into_main(words);
+        }
+    }
+    template <class Reader> void write(int words, const Reader &reader) {
         const explored::Mutex::Off off("lock of a write");
         const Guard guard(key_lock);                                  //| let _locked = self.lines.of(key).lock().ok_or(TurnError::Held)?;
-        const bool in_main = main.load(all) != none;                  //| let is_there = self.main.call(|handle| handle.has(key))?;
+        const bool is_missed = reader.still_misses(model());          //| if self.small.call(|small| small.begin_write(key, &self.lines)) {
+        const bool in_main = !is_missed && main.load(all) != none;    //| let is_there = self.main.call(|handle| handle.has(key))?;
         const bool may_be_small = !in_main || copies.load(all) != 0;  //| if is_there && self.has_copies.load(SeqCst) {
         const bool in_small = may_be_small && may_be_young() && small.load(all) != none; //| self.small.call(|small| small.handle.has(key))
         if (in_main && in_small && !explored::without("removal of the copy")) {
@@ -93,24 +108,25 @@ template <class Model> struct TiersOf : rl::test_suite<Model, 3> {
         }
         // A key that no table has goes to either one.
         if (in_main || (!in_small && rl::rand(2) == 0)) {
-            main.store(words, all);
+            put_into_main(words);
         } else if (words != none) {
             put_into_small(words);
         } else {
             leave(small.exchange(none, all) != none);
         }
     }
-    void remove() {
+    template <class Reader> void remove(const Reader &reader) {
         leaves.store(1, all);
         const bool is_absent = main.load(all) == none && small.load(all) == none && main.load(all) == none;
         if (!is_absent || !explored::without("lock of a removal that finds nothing")) {
-            write(none); //| let _locked = self.lines.of(key).lock()?;
+            write(none, reader); //| let _locked = self.lines.of(key).lock()?;
         }
     }
 
     // What a thread notes, and the lookups of that thread.
     struct Reader {
         typename Model::Noted noted{};
+        bool misses = false;
 
         int look_up(Model &tiers) {
             if (const int words = tiers.main.load(all); words != none) {
@@ -119,9 +135,19 @@ template <class Model> struct TiersOf : rl::test_suite<Model, 3> {
             if (const int words = tiers.may_be_young() ? tiers.small.load(all) : none; words != none) {
                 return words;
             }
-            const bool is_sure = tiers.none_since(noted) || explored::without("another look into the main one");
+            misses = tiers.none_since(noted);
+            const bool is_sure = misses || explored::without("another look into the main one");
+            misses ? void() : tiers.note(noted);
             return is_sure ? none : tiers.main.load(all);
         }
+        // The end of a lookup of another key, of the same line.
+        void miss_another(Model &tiers) {
+            if (!tiers.none_since(noted)) {
+                tiers.note(noted);
+                misses = misses && explored::without("end of a miss by a new number");
+            }
+        }
+        bool still_misses(Model &tiers) const { return misses && tiers.none_since(noted); }
     };
 
     void look_up(Reader &reader) {
@@ -133,57 +159,61 @@ template <class Model> struct TiersOf : rl::test_suite<Model, 3> {
     void thread(unsigned index) {
         Reader reader;
         if (index == 0) {
-            if (rl::rand(2) == 0) {
+            const unsigned act = rl::rand(3);
+            if (act == 0) {
                 move();
-            } else {
+            } else if (act == 1) {
                 evicts.store(1, all);
                 evict();
+            } else {
+                put_if_absent(3);
             }
         } else if (index == 1) {
             evict();
             if (rl::rand(2) == 0) {
-                write(2);
+                reader.look_up(model());
+                reader.miss_another(model());
+                write(2, reader);
                 written.store(2, all);
                 const int words = reader.look_up(model());
                 RL_ASSERT(words == 2 || (words == none && evicts.load(all) != 0));
             }
-            remove();
-            RL_ASSERT(reader.look_up(model()) == none);
+            remove(reader);
+            RL_ASSERT(reader.look_up(model()) == none || puts.load(all) != 0);
         } else {
-            model().none_since(reader.noted); // at the end of a lookup of another key
+            model().note(reader.noted); // at the end of a lookup of another key
             look_up(reader);
             look_up(reader);
         }
     }
 };
 
-// Besides, the steps of a lookup in the small table are there.
+// Besides, the steps of a lookup in the small table are there, and the count after an eviction, which waits for the next write by the handle.
 //| in map/src/small_handle.rs
+//| self.settle(lines);
 //| if spot.may_be_young() && self.handle.has(key) != Some(false) {
-//| if self.noted.none_since(moves, spot.last_move()) {
+//| if self.noted.none_since(spot.last_move()) && self.noted.is_of_this_thread() {
+//| (self.noted, self.missed) = (Noted::now(moves), None);
+//| self.missed == Some(key) && self.noted.none_since(lines.of(key).last_move())
 struct RustTiers : TiersOf<RustTiers> {
-    static constexpr std::array<std::string_view, 12> steps{steps_of_both[0], steps_of_both[1], steps_of_both[2], steps_of_both[3],
-                                                            steps_of_both[4], steps_of_both[5], steps_of_both[6], steps_of_both[7],
-                                                            steps_of_both[8], steps_of_both[9], "number of a move", "end of a move before its count"};
+    static constexpr std::array<std::string_view, 14> steps{steps_of_both[0], steps_of_both[1],  steps_of_both[2],  steps_of_both[3],  steps_of_both[4],
+                                                            steps_of_both[5], steps_of_both[6],  steps_of_both[7],  steps_of_both[8],  steps_of_both[9],
+                                                            steps_of_both[10], steps_of_both[11], "number of a move", "mark until the number"};
 
     using Noted = int;
     static constexpr int on_its_way = 1000; //| in map/src/moves.rs
-    explored::Atomic<int> last{0}, ended{0};
+    explored::Atomic<int> last{0}, greatest{0};
 
     void begin() { last.store(on_its_way, all); }                     //| last.0.store(ON_ITS_WAY, SeqCst);
     void end() {
-        const bool is_late = explored::without("end of a move before its count");
-        is_late ? last.store(0, all) : void();
-        const int before = ended.fetch_add(1, all);                   //| let before = self.moves.ended.fetch_add(1, SeqCst);
-        last.store(explored::without("number of a move") ? before : before + 1, all); //| self.last.0.store(before + 1, SeqCst);
-    }
-    bool none_since(Noted &noted) {
-        if (last.load(all) <= noted) {                                //| if last.0.load(SeqCst) <= self.moves && self.thread == this_thread() {
-            return true;
+        if (explored::without("mark until the number")) {
+            last.store(0, all);
         }
-        noted = ended.load(all);                                      //| *self = Noted { moves: moves.ended.load(SeqCst), thread: this_thread() };
-        return false;
+        const int noted = greatest.load(all);                         //| let noted = self.noted.load(SeqCst);
+        last.store(explored::without("number of a move") ? noted : noted + 1, all); //| last.0.store(noted + 1, SeqCst);
     }
+    bool none_since(Noted noted) const { return last.load(all) <= noted; } //| last.0.load(SeqCst) <= self.moves
+    void note(Noted &noted) { noted = greatest.fetch_add(1, all) + 1; } //| let before = moves.noted.fetch_add(1, SeqCst);
 };
 
 #endif

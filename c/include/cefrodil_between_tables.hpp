@@ -4,6 +4,7 @@
 
 #include "cefrodil_key_lines.hpp"
 #include "cefrodil_moves.hpp"
+#include "cefrodil_passes.hpp"
 #include <atomic>
 #include <cstdint>
 #include <optional>
@@ -27,14 +28,28 @@ struct BetweenTables {
     }
     void set_full(bool now) noexcept { set(is_full, now); }
 
+    // At the end of a lookup that found its key in neither table: whether that is sure. Otherwise a key of its line has moved, perhaps this one.
+    bool is_miss(Notes &notes, const Spot &spot) noexcept {
+        if (Moves::none_since(notes.moves, spot.last_move())) {
+            notes.missed = spot.key();
+            return true;
+        }
+        notes = {moves.note(), std::nullopt, notes.evicted};
+        return false;
+    }
+    // Whether the main table lacks the key, as it did when it was missed last. For who has its lock.
+    static bool is_still_missed(const Notes &notes, const Spot &spot) noexcept {
+        return notes.missed == spot.key() && Moves::none_since(notes.moves, spot.last_move());
+    }
+
     // Takes a key that a put evicted out of its line, and notes it there. That waits for the next put of a new key by the same slot: by then the line has
     // come from another core.
-    void settle(std::optional<uint64_t> &evicted) noexcept {
-        if (evicted) {
-            const Spot spot = lines.of(*evicted);
+    void settle(Notes &notes) noexcept {
+        if (notes.evicted) {
+            const Spot spot = lines.of(*notes.evicted);
             spot.leave();
             spot.note();
-            evicted.reset();
+            notes.evicted.reset();
         }
     }
 
@@ -44,7 +59,7 @@ struct BetweenTables {
     // Whether a key was ever put into the small table, and whether a move ever left one in both. Each is set before that, while the key's lock is held.
     // So who has the lock of a key that is in the small table, or in both, sees it.
     std::atomic<bool> is_small_used{false}, has_copies{false};
-    // Each move writes them, so they have a pair of cache lines of their own.
+    // In a pair of cache lines of its own, since threads write it.
     alignas(128) Moves moves{};
 };
 

@@ -30,7 +30,9 @@ static_assert(sizeof(KeyLine) == 64, "a cache line");
 // A key's place in its line.
 class Spot {
   public:
-    Spot(KeyLine &line, size_t rows, uint64_t spread) noexcept : line_(line), rows_(rows), spread_(spread) {}
+    Spot(uint64_t key, KeyLine &line, size_t rows, uint64_t spread) noexcept : key_(key), line_(line), rows_(rows), spread_(spread) {}
+
+    uint64_t key() const noexcept { return key_; }
 
     // The lock of the key; or none, if another thread has it.
     KeyLock::Guard lock() const noexcept { return line_.lock.lock(); }
@@ -52,6 +54,7 @@ class Spot {
   private:
     Row &row() const noexcept { return line_.left[place_in(rows_, spread_)]; }
 
+    uint64_t key_;
     KeyLine &line_;
     size_t rows_; // of the line in use
     // The bits of the key that choose a place within the line.
@@ -68,7 +71,7 @@ class KeyLines {
 
     Spot of(uint64_t key) const noexcept {
         const Split found = split(count_, mixed(key));
-        return {lines_[found.place], rows_, found.rest};
+        return {key, lines_[found.place], rows_, found.rest};
     }
 
     // The locks of all keys.

@@ -67,7 +67,7 @@ struct MapOptions {
     // there moves to the main table. So keys that are used once evict none that are used often, and more lookups hit (docs/PERFORMANCE.md). For that
     // a lookup that misses the main table of a map that was full looks into the small one, too, if that may have the key. If it finds the key there, it
     // moves it: that is a write, for which another entry may be evicted. Each write takes a lock, and a write of a new key looks into the main table
-    // first. An object_map has a small queue instead, as its header says.
+    // first, unless the same thread has just missed it there. An object_map has a small queue instead, as its header says.
     bool small_table = true;
 };
 

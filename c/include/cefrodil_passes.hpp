@@ -141,14 +141,19 @@ class Claims {
     std::unordered_map<std::shared_ptr<FreePasses>, size_t> claims_{};
 };
 
+// What cefrodil_tiers.hpp notes by a slot: a number of Moves, a key that the main table has lacked since then, and a key that a put has evicted from the
+// small one.
+struct Notes {
+    uint64_t moves = 0;
+    std::optional<uint64_t> missed{}, evicted{};
+};
+
 // A handle with what its thread alone writes, in pairs of cache lines of its own.
 template <size_t Words> struct alignas(128) Slot {
     Handle<Words> handle{};
-    // Of a second index, if there is one: the small table of cefrodil_tiers.hpp. `moves` is what Moves of cefrodil_moves.hpp notes here. `evicted`: a
-    // key that left the small table, which is not noted elsewhere so far.
+    // Of a second index, if there is one: the small table of cefrodil_tiers.hpp.
     Handle<Words> small{};
-    uint64_t moves = 0;
-    std::optional<uint64_t> evicted{};
+    Notes notes{};
     // How many keys its calls added, less those that they removed. It is only added up, so its steps need no order.
     std::atomic<int64_t> keys{0};
 

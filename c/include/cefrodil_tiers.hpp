@@ -73,7 +73,7 @@ template <size_t Words> class Tiers {
     // small table evicts it meanwhile. So a write asks this, too.
     Status lacks(uint64_t key) noexcept {
         return turns_.repeated([&](Slot<Words> &slot) {
-            return in_place(slot, key, Status::held, [](Place at) { return at == Place::nowhere ? Status::absent : Status::present; });
+            return in_place(slot, key, Status::held, [](Place at, const Spot &) { return at == Place::nowhere ? Status::absent : Status::present; });
         });
     }
 
@@ -99,7 +99,7 @@ template <size_t Words> class Tiers {
             return turns_.removal([&](Handle<Words> &handle) { return handle.try_take_if(key, since).status; });
         }
         return change_if(key, since, Status::held, Status::changed, [&](Slot<Words> &slot, Handle<Words> &handle, uint64_t moment) {
-            return removed(slot, handle, key, handle.try_take_if(key, moment).status);
+            return removed(slot, handle, between_->lines.of(key), handle.try_take_if(key, moment).status);
         });
     }
     // Removes the key from both tables.
@@ -108,9 +108,9 @@ template <size_t Words> class Tiers {
             return turns_.removal([&](Handle<Words> &handle) { return handle.try_remove(key).status; });
         }
         return turns_.repeated([&](Slot<Words> &slot) {
-            return in_place(slot, key, Status::held, [&](Place at) {
+            return in_place(slot, key, Status::held, [&](Place at, const Spot &spot) {
                 Handle<Words> &handle = at == Place::small ? slot.small : slot.handle;
-                return removed(slot, handle, key, handle.try_remove(key).status);
+                return removed(slot, handle, spot, handle.try_remove(key).status);
             });
         });
     }
@@ -152,7 +152,7 @@ template <size_t Words> class Tiers {
         const cefrodil_status status = spot.may_be_young()
                                            ? cefrodil_get_or_turn_of_width(slot.small.raw(), key, value.data(), Words, &reply)
                                            : CEFRODIL_ABSENT;
-        if (status == CEFRODIL_ABSENT && between_->moves.none_since(slot.moves, spot.last_move())) {
+        if (status == CEFRODIL_ABSENT && between_->is_miss(slot.notes, spot)) {
             return Status::absent;
         }
         if (status == CEFRODIL_ABSENT) {
@@ -221,35 +221,39 @@ template <size_t Words> class Tiers {
 
     // Calls with the place of a key, which can't be written meanwhile. `held`: what is returned if other threads disturb this.
     template <class Answer, class Call> Answer in_place(Slot<Words> &slot, uint64_t key, Answer held, Call call) noexcept {
-        const KeyLock::Guard locked = between_->lines.of(key).lock();
-        const std::optional<Place> at = locked ? place(slot, key) : std::nullopt;
-        return at ? call(*at) : held;
+        const Spot spot = between_->lines.of(key);
+        const KeyLock::Guard locked = spot.lock();
+        const std::optional<Place> at = locked ? place(slot, spot) : std::nullopt;
+        return at ? call(*at, spot) : held;
     }
     // Where the key is, for who has its lock: here and below. If it is in the main table, the small one has it no more. None: other threads disturbed
     // this.
-    std::optional<Place> place(Slot<Words> &slot, uint64_t key) noexcept {
-        const std::optional<bool> in_main = is_in_main(slot, key);
+    std::optional<Place> place(Slot<Words> &slot, const Spot &spot) noexcept {
+        const std::optional<bool> in_main = is_in_main(slot, spot);
         if (!in_main || *in_main) {
             return in_main ? std::optional<Place>(Place::main) : std::nullopt;
         }
-        const std::optional<bool> in_small = is_in_small(slot, key);
+        const std::optional<bool> in_small = is_in_small(slot, spot);
         return in_small ? std::optional<Place>(*in_small ? Place::small : Place::nowhere) : std::nullopt;
     }
-    std::optional<bool> is_in_main(Slot<Words> &slot, uint64_t key) noexcept {
-        const std::optional<bool> is_there = has(slot.handle, key);
+    std::optional<bool> is_in_main(Slot<Words> &slot, const Spot &spot) noexcept {
+        if (BetweenTables::is_still_missed(slot.notes, spot)) {
+            return false;
+        }
+        const std::optional<bool> is_there = has(slot.handle, spot.key());
         const bool may_be_both = is_there && *is_there && between_->has_copies.load();
-        return may_be_both && !remove_copy(slot, key) ? std::nullopt : is_there;
+        return may_be_both && !remove_copy(slot, spot) ? std::nullopt : is_there;
     }
-    std::optional<bool> is_in_small(Slot<Words> &slot, uint64_t key) noexcept {
-        return between_->lines.of(key).may_be_young() ? has(slot.small, key) : std::optional<bool>(false);
+    std::optional<bool> is_in_small(Slot<Words> &slot, const Spot &spot) noexcept {
+        return spot.may_be_young() ? has(slot.small, spot.key()) : std::optional<bool>(false);
     }
     // Removes the key from the small table, if a move could not take it out. False: other threads disturbed this.
-    [[gnu::cold]] [[gnu::noinline]] bool remove_copy(Slot<Words> &slot, uint64_t key) noexcept {
-        const std::optional<bool> is_there = is_in_small(slot, key);
+    [[gnu::cold]] [[gnu::noinline]] bool remove_copy(Slot<Words> &slot, const Spot &spot) noexcept {
+        const std::optional<bool> is_there = is_in_small(slot, spot);
         if (!is_there || !*is_there) {
             return is_there.has_value();
         }
-        const Status status = removed(slot, slot.small, key, slot.small.try_remove(key).status);
+        const Status status = removed(slot, slot.small, spot, slot.small.try_remove(spot.key()).status);
         return status == Status::ok || status == Status::absent;
     }
     // It isn't counted.
@@ -261,59 +265,63 @@ template <size_t Words> class Tiers {
     }
 
     [[gnu::noinline]] Written put_in_two(uint64_t key, const Value &value) noexcept {
+        const Spot spot = between_->lines.of(key);
+        spot.fetch();
         return turns_.repeated([&](Slot<Words> &slot) {
-            const KeyLock::Guard locked = between_->lines.of(key).lock();
-            return locked ? put_locked(slot, key, value) : refused(Status::held);
+            const KeyLock::Guard locked = spot.lock();
+            return locked ? put_locked(slot, spot, value) : refused(Status::held);
         });
     }
-    Written put_locked(Slot<Words> &slot, uint64_t key, const Value &value) noexcept {
+    Written put_locked(Slot<Words> &slot, const Spot &spot, const Value &value) noexcept {
         if (!between_->is_full.load(std::memory_order_relaxed) && !between_->is_small_used.load()) {
-            return put_main(slot, key, value);
+            return put_main(slot, spot, value);
         }
-        const std::optional<bool> in_main = is_in_main(slot, key);
+        const std::optional<bool> in_main = is_in_main(slot, spot);
         if (!in_main) {
             return refused(Status::held);
         }
-        return *in_main ? put_main(slot, key, value) : put_beside_main(slot, key, value);
+        return *in_main ? put_main(slot, spot, value) : put_beside_main(slot, spot, value);
     }
     [[gnu::noinline]] Written put_in_two_if_absent(uint64_t key, const Value &value) noexcept {
         return turns_.repeated([&](Slot<Words> &slot) {
-            return in_place(slot, key, refused(Status::held), [&](Place at) {
-                return at == Place::nowhere ? put_beside_main(slot, key, value) : refused(Status::present);
+            return in_place(slot, key, refused(Status::held), [&](Place at, const Spot &spot) {
+                return at == Place::nowhere ? put_beside_main(slot, spot, value) : refused(Status::present);
             });
         });
     }
     // Puts a key that the main table doesn't have. A young one is put into the small table, whether that has it or not.
-    Written put_beside_main(Slot<Words> &slot, uint64_t key, const Value &value) noexcept {
-        between_->settle(slot.evicted);
-        if (!between_->is_full.load(std::memory_order_relaxed) || between_->lines.of(key).take_note()) {
-            const std::optional<bool> in_small = is_in_small(slot, key);
+    Written put_beside_main(Slot<Words> &slot, const Spot &spot, const Value &value) noexcept {
+        between_->settle(slot.notes);
+        if (!between_->is_full.load(std::memory_order_relaxed) || spot.take_note()) {
+            const std::optional<bool> in_small = is_in_small(slot, spot);
             if (!in_small || !*in_small) {
-                return in_small ? put_main(slot, key, value) : refused(Status::held);
+                return in_small ? put_main(slot, spot, value) : refused(Status::held);
             }
         }
-        const Written put = put_small(slot, key, value);
-        return put.status == Status::no_path || put.status == Status::all_recent ? put_main(slot, key, value) : put;
+        const Written put = put_small(slot, spot, value);
+        return put.status == Status::no_path || put.status == Status::all_recent ? put_main(slot, spot, value) : put;
     }
-    Written put_main(Slot<Words> &slot, uint64_t key, const Value &value) noexcept {
-        const Written put = slot.handle.try_put(key, value);
+    Written put_main(Slot<Words> &slot, const Spot &spot, const Value &value) noexcept {
+        const Written put = slot.handle.try_put(spot.key(), value);
+        if (put.status == Status::ok && !put.renewed) {
+            between_->moves.end(spot.last_move());
+        }
         if (put.evicted) {
             between_->set_full(true);
         }
         return counted(slot, put);
     }
-    Written put_small(Slot<Words> &slot, uint64_t key, const Value &value) noexcept {
+    Written put_small(Slot<Words> &slot, const Spot &spot, const Value &value) noexcept {
         BetweenTables::set(between_->is_small_used, true);
-        const Spot spot = between_->lines.of(key);
         spot.enter();
-        const Written put = slot.small.try_put(key, value);
+        const Written put = slot.small.try_put(spot.key(), value);
         // Otherwise it counts already, or is not there.
         if (put.status != Status::ok || put.renewed) {
             spot.leave();
         }
         if (put.evicted) {
             between_->lines.of(*put.evicted).fetch();
-            slot.evicted = put.evicted;
+            slot.notes.evicted = put.evicted;
         }
         return counted(slot, put);
     }
@@ -323,10 +331,10 @@ template <size_t Words> class Tiers {
     }
 
     // Notes a removal. There is room in the main table if it was there.
-    Status removed(Slot<Words> &slot, const Handle<Words> &handle, uint64_t key, Status status) noexcept {
+    Status removed(Slot<Words> &slot, const Handle<Words> &handle, const Spot &spot, Status status) noexcept {
         if (status == Status::ok) {
             slot.add(-1);
-            &handle == &slot.small ? between_->lines.of(key).leave() : between_->set_full(false);
+            &handle == &slot.small ? spot.leave() : between_->set_full(false);
         }
         return status;
     }
@@ -338,7 +346,7 @@ template <size_t Words> class Tiers {
                 const KeyLock::Guard locked = between_->lines.of(key).lock();
                 return locked ? change(slot, slot.handle, since) : held;
             }
-            return in_place(slot, key, held, [&](Place at) {
+            return in_place(slot, key, held, [&](Place at, const Spot &) {
                 if (at != (is_of_small(since) ? Place::small : Place::main)) {
                     return changed;
                 }

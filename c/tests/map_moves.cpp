@@ -110,6 +110,29 @@ static void a_lookup_finds_a_key_whose_move_began_before() {
     MUST(numbers.find(the_key) == 10 && !act && numbers.where(the_key) == In::main);
 }
 
+// After this thread has missed the key, another one puts it, and it comes into the main table: by a move, or at once since it had left the small one.
+static void a_write_after_a_miss_finds_what_came_meanwhile() {
+    bool (*const writes[])(Numbers &) = {
+        [](Numbers &numbers) { return numbers.put(the_key, 11) == Status::ok && numbers.find(the_key) == 11; },
+        [](Numbers &numbers) { return numbers.insert(the_key, 11) == Status::present && numbers.find(the_key) == 10; },
+        [](Numbers &numbers) { return numbers.erase(the_key) == Status::ok && numbers.find(the_key) == 0; },
+        [](Numbers &numbers) { return numbers.update(the_key, next).value == 11u && numbers.find(the_key) == 11; },
+    };
+    for (const auto &write : writes) {
+        for (const bool had_left : {false, true}) {
+            Numbers numbers;
+            if (had_left) {
+                Numbers::with_young(numbers).evict(the_key);
+                MUST(numbers.put(300, 0) == Status::ok);
+            }
+            MUST(numbers.find(the_key) == 0 && numbers.find(the_key) == 0);
+            std::thread other([&] { MUST(numbers.put(the_key, 10) == Status::ok && (had_left || numbers.find(the_key) == 10)); });
+            other.join();
+            MUST(numbers.where(the_key) == In::main && write(numbers) && numbers.where(the_key) != In::both && numbers.where(the_key) != In::small);
+        }
+    }
+}
+
 // Before each call of the index that a move makes, another thread tries to write the key. It finds it at any time.
 static void no_write_comes_between_the_steps_of_a_move() {
     // The lookup makes two calls, and the move three.
@@ -252,6 +275,7 @@ int main() {
     a_lookup_finds_it_though_a_pass_comes_back_that_knows_of_the_move();
     a_lookup_finds_a_key_that_is_evicted_while_it_moves();
     a_lookup_finds_a_key_whose_move_began_before();
+    a_write_after_a_miss_finds_what_came_meanwhile();
     no_write_comes_between_the_steps_of_a_move();
     a_removal_waits_for_a_key_that_is_evicted_while_it_moves();
     no_move_comes_between_the_steps_of_a_write();

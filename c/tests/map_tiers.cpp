@@ -111,7 +111,8 @@ static void a_peek_finds_a_key_in_both_tables_and_moves_none() {
 // A key for which the filter has a cell with another one. The other key is in the small table.
 static uint64_t with_cell_of_young(Numbers &numbers) {
     uint64_t key = 100000;
-    while (calls_of([&] { MUST(!numbers.contains(key)); }) == 1) {
+    // The first lookup notes what has moved.
+    while (!numbers.contains(key) && calls_of([&] { MUST(!numbers.contains(key)); }) == 1) {
         key++;
     }
     return key;
@@ -121,7 +122,7 @@ static uint64_t with_cell_of_young(Numbers &numbers) {
 static void a_miss_looks_at_each_table_once() {
     Numbers numbers;
     Numbers::with_young(numbers);
-    MUST(calls_of([&] { MUST(numbers.find(7) == 0); }) == 1);
+    MUST(numbers.find(7) == 0 && calls_of([&] { MUST(numbers.find(7) == 0); }) == 1);
     const uint64_t beside = with_cell_of_young(numbers);
     MUST(calls_of([&] { MUST(numbers.find(beside) == 0); }) == 2);
     MUST(numbers.find(the_key) == 10);
@@ -129,6 +130,17 @@ static void a_miss_looks_at_each_table_once() {
     MUST(calls_of([&] { MUST(numbers.find(beside) == 0); }) == 2);
     MUST(calls_of([&] { MUST(numbers.find(beside) == 0); }) == 1);
     MUST(calls_of([&] { MUST(numbers.find(the_key) == 10); }) == 1);
+}
+
+// A put of a key that its thread has missed does not look into the main table again, unless a key of the line has come there meanwhile.
+static void a_put_after_a_miss_looks_into_one_table() {
+    Numbers numbers;
+    Numbers::with_young(numbers);
+    MUST(calls_of([&] { MUST(numbers.put(7, 70) == Status::ok); }) == 2);
+    MUST(numbers.find(8) == 0 && calls_of([&] { MUST(numbers.put(8, 80) == Status::ok); }) == 1);
+    MUST(numbers.find(beside(the_key)) == 0 && numbers.find(the_key) == 10);
+    MUST(calls_of([&] { MUST(numbers.put(beside(the_key), 90) == Status::ok); }) == 2);
+    MUST(numbers.find(7) == 70 && numbers.find(8) == 80 && numbers.find(beside(the_key)) == 90);
 }
 
 static void a_filter_has_a_key_until_it_has_left_as_often_as_it_came() {
@@ -189,12 +201,13 @@ static void what_has_left_the_small_table_is_not_looked_for_there() {
         Numbers numbers;
         Numbers::with_young(numbers);
         way(numbers);
-        MUST(!numbers.contains(beside(the_key))); // It costs more after a key has moved.
-        uint64_t calls = 0;
-        for (uint64_t key = 100000; key < 101000; key++) {
-            calls += calls_of([&] { MUST(!numbers.contains(key)); });
-        }
-        MUST(calls == 1000);
+        const auto miss_all = [&] {
+            for (uint64_t key = 100000; key < 101000; key++) {
+                MUST(!numbers.contains(key));
+            }
+        };
+        miss_all(); // It costs more after a key has moved.
+        MUST(calls_of(miss_all) == 1000);
     }
 }
 
@@ -352,6 +365,7 @@ int main() {
     a_scan_evicts_only_what_was_scanned();
     a_peek_finds_a_key_in_both_tables_and_moves_none();
     a_miss_looks_at_each_table_once();
+    a_put_after_a_miss_looks_into_one_table();
     a_filter_has_a_key_until_it_has_left_as_often_as_it_came();
     a_cell_that_was_full_has_any_key_from_then_on();
     what_has_left_the_small_table_is_not_looked_for_there();

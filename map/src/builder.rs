@@ -122,7 +122,7 @@ impl<K: ?Sized, V, S> Builder<K, V, S> {
     ///
     /// For that a lookup that misses the main table of a map that was full looks into the small one, too, if that may have the key. If it finds the key
     /// there, it moves it: that is a write, for which another entry may be evicted. Each write takes a lock, and a write of a new key looks into the main
-    /// table first.
+    /// table first, unless the same thread has just missed it there.
     ///
     /// ```
     /// use cefrodil_map::Map;

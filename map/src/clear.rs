@@ -3,8 +3,8 @@ use crate::error::ClearError;
 use crate::handle::AnyHandle;
 use crate::key::Key;
 use crate::map::Map;
-use crate::stats::Kind;
 use crate::small_handle::SmallHandle;
+use crate::stats::Kind;
 use crate::wait::LISTS;
 use cefrodil::Removal;
 

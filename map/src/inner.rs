@@ -322,6 +322,9 @@ impl<K: Key + ?Sized, V: Copy, S: BuildHasher> Inner<K, V, S> {
     ) -> Result<Inserted, InsertError> {
         let print = self.print(key);
         let words = self.words(print.dated(self.generation.now()), value, self.deadline(life));
+        if let Some(tiers) = &self.tiers {
+            tiers.expect_put(print.key);
+        }
         self.flights.detach(print);
         let put = match &self.tiers {
             None => self.slots.in_turn(tries, || self.slots.call(|handle| handle.put(print.key, &words))),

@@ -1,28 +1,30 @@
-//! Whether a key has moved from the small table to the main one while a lookup looked into one after the other.
+//! Whether a key has come into the main table since a lookup missed it there.
 use crate::flight::this_thread;
 use std::sync::atomic::{AtomicU64, Ordering::SeqCst};
 
-/// How many moves have ended. Each move writes this, so it has a pair of cache lines of its own.
+/// Numbers of moves: of keys that came into the main table from the small one, or by a put. Threads write this, so it has a pair of cache lines of its
+/// own.
 #[derive(Default)]
 #[repr(align(128))]
 pub(crate) struct Moves {
-    ended: AtomicU64,
+    // The last number that a thread has noted.
+    noted: AtomicU64,
 }
 
-/// The number of the last move of some keys, which have a lock in common: as many had ended with it. 0: none has moved.
+/// The number of the last move of some keys, which have a lock in common. 0: none has moved.
 #[derive(Default)]
 pub(crate) struct LastMove(AtomicU64);
 
 /// The last move is on its way.
 const ON_ITS_WAY: u64 = u64::MAX;
 
-/// A move. It ends when this is dropped.
+/// A move from the small table. It ends when this is dropped.
 pub(crate) struct Moving<'a> {
     moves: &'a Moves,
     last: &'a LastMove,
 }
 
-/// How many moves had ended when a thread noted this. At first it is no thread's.
+/// A number that each move has at most that ended before a thread noted this. At first it is no thread's.
 #[derive(Default)]
 pub(crate) struct Noted {
     moves: u64,
@@ -30,29 +32,39 @@ pub(crate) struct Noted {
 }
 
 impl Moves {
-    /// Before the key is read in the small table, by who has the lock.
+    /// Before the key is read in the small table, by who has the lock. A put has no such step.
     pub fn begin<'a>(&'a self, last: &'a LastMove) -> Moving<'a> {
         last.0.store(ON_ITS_WAY, SeqCst);
         Moving { moves: self, last }
+    }
+
+    /// By who has the lock. The number is greater than all that were noted before.
+    pub fn end(&self, last: &LastMove) {
+        let noted = self.noted.load(SeqCst);
+        last.0.store(noted + 1, SeqCst);
     }
 }
 
 impl Drop for Moving<'_> {
     fn drop(&mut self) {
-        let before = self.moves.ended.fetch_add(1, SeqCst);
-        self.last.0.store(before + 1, SeqCst);
+        self.moves.end(self.last);
     }
 }
 
 impl Noted {
-    /// Whether none of these keys has moved since this thread noted this, and none is on its way. Otherwise it is noted anew. So none moved meanwhile
-    /// if a thread calls this at the end of each lookup.
+    pub fn now(moves: &Moves) -> Noted {
+        let before = moves.noted.fetch_add(1, SeqCst);
+        Noted { moves: before + 1, thread: this_thread() }
+    }
+
+    /// Whether none of these keys has moved since this was noted, and none is on its way.
     #[inline]
-    pub fn none_since(&mut self, moves: &Moves, last: &LastMove) -> bool {
-        if last.0.load(SeqCst) <= self.moves && self.thread == this_thread() {
-            return true;
-        }
-        *self = Noted { moves: moves.ended.load(SeqCst), thread: this_thread() };
-        false
+    pub fn none_since(&self, last: &LastMove) -> bool {
+        last.0.load(SeqCst) <= self.moves
+    }
+
+    #[inline]
+    pub fn is_of_this_thread(&self) -> bool {
+        self.thread == this_thread()
     }
 }

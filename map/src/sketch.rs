@@ -1,9 +1,9 @@
 //! Which keys left a table lately, roughly, in four bits for each of its entries.
 #[cfg(feature = "objects")]
 use crate::spread::{mixed, split};
-use std::sync::atomic::{AtomicU16, Ordering::Relaxed};
 #[cfg(feature = "objects")]
 use std::sync::atomic::AtomicUsize;
+use std::sync::atomic::{AtomicU16, Ordering::Relaxed};
 
 /// Tags of two keys. The next key there is put before them, and the second is driven out. So it forgets keys, and with a chance of 2 in 255 it takes a key
 /// for one that left.

@@ -154,6 +154,12 @@ impl Tiers {
         }
     }
 
+    /// A put of the key is about to begin.
+    #[inline]
+    pub fn expect_put(&self, key: u64) {
+        self.lines.of(key).fetch();
+    }
+
     /// Tries so often. Not a part of its caller, which is shorter then for a map with one table.
     #[inline(never)]
     pub fn put_within(&self, tries: u32, key: u64, words: &Words) -> Result<Put, TurnError<PutError>> {
@@ -260,6 +266,9 @@ impl Tiers {
     }
 
     fn is_in_main(&self, key: u64) -> Option<bool> {
+        if self.small.call(|small| small.begin_write(key, &self.lines)) {
+            return Some(false);
+        }
         let is_there = self.main.call(|handle| handle.has(key))?;
         if is_there && self.has_copies.load(SeqCst) {
             self.remove_copy(key)?;
@@ -297,7 +306,6 @@ impl Tiers {
 
     // Puts a key that the main table doesn't have.
     fn put_beside_main(&self, key: u64, words: &Words) -> Result<Put, TurnError<PutError>> {
-        self.small.call(|small| small.settle(&self.lines));
         let is_full = self.is_full.load(Relaxed);
         let has_left = is_full && self.lines.of(key).take_note();
         let put = self.put_by_age(key, words, is_full && !has_left);
@@ -321,6 +329,9 @@ impl Tiers {
 
     fn put_main(&self, key: u64, words: &Words) -> Result<Put, TurnError<PutError>> {
         let put = self.main.call(|handle| handle.put(key, words))?;
+        if let Put::Stored { .. } = put {
+            self.moves.end(self.lines.of(key).last_move());
+        }
         self.put_into_main(put);
         Ok(put)
     }

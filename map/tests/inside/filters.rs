@@ -2,8 +2,8 @@
 use super::done;
 use super::tiers::{hold_small, open_for, with_young, KEY};
 use crate::filter::Cells;
-use crate::spread::mixed;
 use crate::small_handle::SmallHandle;
+use crate::spread::mixed;
 use crate::Map;
 use std::thread;
 

@@ -96,6 +96,31 @@ fn a_lookup_finds_a_key_that_is_evicted_while_it_moves() {
     drop(go);
 }
 
+// After this thread has missed the key, another one puts it, and it comes into the main table: by a move, or at once since it had left the small one.
+#[test]
+fn a_write_after_a_miss_finds_what_came_meanwhile() {
+    let writes: [(fn(&Numbers) -> bool, Option<u64>); 4] = [
+        (|map| map.insert(&KEY, 11) == Ok(Inserted::Renewed), Some(11)),
+        (|map| map.remove(&KEY) == Ok(Some(10)), None),
+        (|map| map.update(&KEY, |old| old.unwrap() + 1) == Ok(11), Some(11)),
+        (|map| map.get_or_insert_with(&KEY, || 11) == 10, Some(10)),
+    ];
+    for ((write, value), had_left) in writes.into_iter().flat_map(|write| [(write, false), (write, true)]) {
+        let map = open_for(64);
+        if had_left {
+            (0..6).for_each(|number| _ = map.insert(&(KEY + number), 10).unwrap());
+            assert_eq!(place(&map, KEY), (false, false));
+        }
+        (0..2).for_each(|_| assert_eq!(map.get(&KEY), None));
+        let other = map.clone();
+        let put = move || (other.insert(&KEY, 10).is_ok(), had_left || other.get(&KEY) == Some(10));
+        assert_eq!(thread::spawn(put).join().unwrap(), (true, true));
+        assert_eq!(place(&map, KEY), (true, false));
+        assert!(write(&map));
+        assert_eq!((map.get(&KEY), place(&map, KEY)), (value, (value.is_some(), false)));
+    }
+}
+
 // Before each call of the index that a move makes, another thread tries to write the key. It finds it at any time.
 #[test]
 fn no_write_comes_between_the_steps_of_a_move() {

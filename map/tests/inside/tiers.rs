@@ -169,6 +169,21 @@ fn a_miss_looks_at_each_table_once() {
     assert_eq!(calls(|| map.get(&KEY)), (1, Some(10)));
 }
 
+// A put of a key that its thread has missed does not look into the main table again, unless a key of the line has come there meanwhile.
+#[test]
+fn a_put_after_a_miss_looks_into_one_table() {
+    let map = with_young();
+    let others: Vec<u64> = (2..100).filter(|other| beside(&map, *other) != beside(&map, KEY)).take(2).collect();
+    let puts = |key: u64| calls(|| assert!(map.insert(&key, key).is_ok())).0;
+    let usual = puts(others[0]);
+    (0..2).for_each(|_| assert_eq!(map.get(&others[1]), None));
+    assert_eq!(puts(others[1]), usual - 1);
+    let same = beside(&map, KEY);
+    (0..2).for_each(|_| assert_eq!(map.get(&same), None));
+    assert_eq!((map.get(&KEY), puts(same)), (Some(10), usual));
+    assert!([others[0], others[1], same].iter().all(|key| map.get(key) == Some(*key)));
+}
+
 type Write = fn(&Numbers);
 
 // What is in both tables is one entry to all calls.
