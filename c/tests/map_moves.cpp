@@ -119,7 +119,8 @@ static void a_write_after_a_miss_finds_what_came_meanwhile() {
         [](Numbers &numbers) { return numbers.update(the_key, next).value == 11u && numbers.find(the_key) == 11; },
     };
     for (const auto &write : writes) {
-        for (const bool had_left : {false, true}) {
+        for (const int way : {0, 1, 2, 3}) {
+            const bool had_left = way % 2 == 1, looks = way / 2 == 1;
             Numbers numbers;
             if (had_left) {
                 Numbers::with_young(numbers).evict(the_key);
@@ -128,6 +129,8 @@ static void a_write_after_a_miss_finds_what_came_meanwhile() {
             MUST(numbers.find(the_key) == 0 && numbers.find(the_key) == 0);
             std::thread other([&] { MUST(numbers.put(the_key, 10) == Status::ok && (had_left || numbers.find(the_key) == 10)); });
             other.join();
+            // By a lookup this thread knows that something has come.
+            MUST(!looks || numbers.find(beside(the_key)) == 0);
             MUST(numbers.where(the_key) == In::main && write(numbers) && numbers.where(the_key) != In::both && numbers.where(the_key) != In::small);
         }
     }

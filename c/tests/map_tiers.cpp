@@ -189,6 +189,13 @@ static void what_has_left_the_small_table_is_not_looked_for_there() {
         [](Numbers &numbers) { MUST(numbers.find(the_key) == 10); },
         [](Numbers &numbers) { MUST(numbers.erase(the_key) == Status::ok); },
         [](Numbers &numbers) { MUST(numbers.table.clear() == Status::ok); },
+        // Evictions. The last one counts at the next put of a new key.
+        [](Numbers &numbers) {
+            for (uint64_t number = 100; number < 300; number++) {
+                MUST(numbers.put(number * number, 0) == Status::ok);
+            }
+            MUST(numbers.table.clear() == Status::ok && numbers.put(the_key, 11) == Status::ok && numbers.erase(the_key) == Status::ok);
+        },
         [](Numbers &numbers) {
             MUST(numbers.put(the_key, 11) == Status::ok && numbers.update(the_key, same).value == 11u && numbers.erase(the_key) == Status::ok);
         },

@@ -105,7 +105,8 @@ fn a_write_after_a_miss_finds_what_came_meanwhile() {
         (|map| map.update(&KEY, |old| old.unwrap() + 1) == Ok(11), Some(11)),
         (|map| map.get_or_insert_with(&KEY, || 11) == 10, Some(10)),
     ];
-    for ((write, value), had_left) in writes.into_iter().flat_map(|write| [(write, false), (write, true)]) {
+    let ways = [(false, false), (true, false), (false, true), (true, true)];
+    for ((write, value), (had_left, looks)) in writes.into_iter().flat_map(|write| ways.map(|way| (write, way))) {
         let map = open_for(64);
         if had_left {
             (0..6).for_each(|number| _ = map.insert(&(KEY + number), 10).unwrap());
@@ -116,6 +117,10 @@ fn a_write_after_a_miss_finds_what_came_meanwhile() {
         let put = move || (other.insert(&KEY, 10).is_ok(), had_left || other.get(&KEY) == Some(10));
         assert_eq!(thread::spawn(put).join().unwrap(), (true, true));
         assert_eq!(place(&map, KEY), (true, false));
+        if looks {
+            // Now this thread knows that something has come.
+            assert_eq!(map.get(&beside(&map, KEY)), None);
+        }
         assert!(write(&map));
         assert_eq!((map.get(&KEY), place(&map, KEY)), (value, (value.is_some(), false)));
     }
