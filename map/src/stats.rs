@@ -87,11 +87,9 @@ impl Stats {
     /// ```
     #[must_use]
     pub fn hit_rate(&self) -> f64 {
-        if self.hits == 0 {
-            0.0
-        } else {
-            self.hits as f64 / (self.hits + self.misses) as f64
-        }
+        let mut counts = cefrodil::Counts::default();
+        (counts.hits, counts.misses) = (self.hits, self.misses);
+        counts.hit_rate()
     }
 
     pub(crate) fn sum<'a>(all: impl Iterator<Item = &'a Counts>) -> Stats {

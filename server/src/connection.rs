@@ -20,7 +20,7 @@ const LARGE: usize = 1 << 17;
 const SMALL: usize = 1 << 12;
 
 thread_local! {
-    /// Buffers for what is read and for answers. A client has buffers of its own only while bytes wait in them.
+    /// Buffers for what is read and for answers; the latter is empty. A client has buffers of its own only while bytes wait in them.
     static READ: Cell<Vec<u8>> = const { Cell::new(Vec::new()) };
     static ANSWERS: Cell<Vec<u8>> = const { Cell::new(Vec::new()) };
 }
@@ -145,7 +145,9 @@ impl Connection {
             ANSWERS.set(mem::take(&mut self.output));
         } else if self.output.len() < SMALL && self.output.capacity() >= LARGE {
             let small = self.output.as_slice().to_vec();
-            ANSWERS.set(mem::replace(&mut self.output, small));
+            let mut large = mem::replace(&mut self.output, small);
+            large.clear();
+            ANSWERS.set(large);
         }
     }
 

@@ -2,9 +2,11 @@
 mod plain;
 use cefrodild::connection::{Connection, Next};
 use cefrodild::listen::Stream;
+use cefrodild::store::Store;
 use plain::client::{Client, MEGABYTE};
 use std::io::{ErrorKind, Read, Write};
 use std::net::{Shutdown, TcpListener, TcpStream};
+use std::os::unix::net::UnixStream;
 use std::thread::yield_now;
 use std::time::{Duration, Instant};
 
@@ -181,6 +183,37 @@ fn a_client_is_not_idle_while_answers_wait() {
         yield_now();
     }
     assert!(both.connection.is_idle());
+}
+
+/// A client, and the other end of its connection.
+fn pair(store: &Store) -> (Connection, UnixStream) {
+    let (accepted, stream) = UnixStream::pair().expect("there are descriptors");
+    accepted.set_nonblocking(true).and(stream.set_nonblocking(true)).expect("they are sockets");
+    let seat = store.seats.take().expect("a seat is free");
+    (Connection::new(Stream::Unix(mio::net::UnixStream::from_std(accepted)), seat), stream)
+}
+
+/// What is left of a client's answers goes into a small buffer. The thread keeps the large one for the next client.
+#[test]
+fn no_client_gets_an_answer_of_another_one() {
+    let mut client = Client::new(MEGABYTE);
+    client.ask(&format!("set k 0 0 1000\n{}\n", "x".repeat(1_000)));
+    let ask = |(connection, stream): &mut (Connection, UnixStream), command: &[u8]| {
+        stream.write_all(command).expect("it takes a command");
+        connection.read_again();
+        assert!(matches!(connection.turn(&client.store), Ok(Next::Event)));
+    };
+    let (mut slow, mut other) = (pair(&client.store), pair(&client.store));
+    for _ in 0..10_000 {
+        if slow.0.is_idle() {
+            ask(&mut slow, b"get k\r\n");
+        }
+    }
+    assert!(!slow.0.is_idle(), "nobody reads its answers");
+    ask(&mut other, b"mn\r\n");
+    let mut answer = [0; 100];
+    let length = other.1.read(&mut answer).expect("it is answered");
+    assert_eq!(&answer[..length], b"MN\r\n");
 }
 
 #[test]
