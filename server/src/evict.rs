@@ -117,7 +117,8 @@ impl Store {
         false
     }
 
-    /// Adds an entry for an item that was stored, and has replaced none.
+    /// Adds an entry for an item that was stored, and has replaced none. The entry keeps this weight if others replace the item. So what the small
+    /// queue weighs is a guess.
     pub(crate) fn enqueue(&self, entry: Entry, bytes: u64) {
         let line = self.queue.line_of_new(entry.hash);
         self.queue.push(Queued { entry, line, weight: bytes });

@@ -107,8 +107,9 @@ impl About {
 
     /// Notes that it was read.
     pub fn mark_used(&self) {
-        if self.marks.load(Relaxed) & USED == 0 {
-            self.marks.fetch_or(USED | FETCHED, Relaxed);
+        let read = USED | FETCHED;
+        if self.marks.load(Relaxed) & read != read {
+            self.marks.fetch_or(read, Relaxed);
         }
     }
 

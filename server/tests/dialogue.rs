@@ -2,6 +2,7 @@
 mod plain;
 use cefrodild::dialogue::{Dialogue, Turn};
 use plain::client::{Client, MEGABYTE};
+use plain::draw::Draw;
 use std::sync::atomic::Ordering::SeqCst;
 
 #[test]
@@ -321,16 +322,6 @@ fn tokens() {
     assert_eq!(client.ask(&format!("cas a 0 0 1 {}\n2\n", token + 1)), "EXISTS\n");
     assert_eq!(client.ask(&format!("touch a 100\ncas a 0 0 1 {token}\n2\n")), "TOUCHED\nSTORED\n");
     assert_eq!(client.ask(&format!("cas a 0 0 1 {token}\n2\ncas b 0 0 1 1\n2\n")), "EXISTS\nNOT_FOUND\n");
-}
-
-/// Drawn numbers, the same in each run.
-struct Draw(u64);
-
-impl Draw {
-    fn below(&mut self, limit: usize) -> usize {
-        self.0 = self.0.wrapping_mul(6364136223846793005).wrapping_add(1442695040888963407);
-        (self.0 >> 33) as usize % limit
-    }
 }
 
 const PARTS: [&[u8]; 25] = [

@@ -1,6 +1,8 @@
 //! Command lines, as memcached's protocol.txt describes them.
+mod plain;
 use cefrodild::meta::Verb;
 use cefrodild::request::{parse, Change, How, Keys, Order, Request};
+use plain::draw::Draw;
 
 fn read(line: &str) -> Request<'_> {
     parse(line.as_bytes()).0.unwrap_or_else(|why| panic!("{line}: {}", why.text))
@@ -291,13 +293,12 @@ fn no_line_panics() {
         b"C",
         b"N",
     ];
-    let mut seed = 1u64;
+    let mut draw = Draw(1);
     for _ in 0..100_000 {
         let mut line = Vec::new();
         for _ in 0..8 {
-            seed = seed.wrapping_mul(6364136223846793005).wrapping_add(1442695040888963407);
-            line.extend_from_slice(words[(seed >> 33) as usize % words.len()]);
-            line.push(if seed >> 63 == 0 { b' ' } else { b'\t' });
+            line.extend_from_slice(words[draw.below(words.len())]);
+            line.push([b' ', b'\t'][draw.below(2)]);
         }
         let _ = parse(&line);
     }

@@ -194,7 +194,9 @@ fn an_item_notes_the_number_of_its_entry() {
     let number = old.note_number(None).expect("it replaces no other item");
     assert!(old.is_represented_by(number) && !old.is_represented_by(number + 1) && !old.take_used());
     assert_eq!((new.note_number(Some(number)), new.number()), (None, Some(number)));
-    assert!(new.take_used() && !new.was_fetched());
+    assert!(!new.was_fetched(), "to replace an item is a use, and no read");
+    new.mark_used();
+    assert!(new.was_fetched() && new.take_used() && !new.take_used());
 }
 
 #[test]

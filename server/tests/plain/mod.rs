@@ -1,6 +1,7 @@
 //! A plain index for tests, and clients of a store over it.
 #![allow(dead_code, reason = "no test needs all of it")]
 pub mod client;
+pub mod draw;
 
 use cefrodild::index::{Index, Outcome, Refused, Seen, Stamp, Token};
 use cefrodild::item::{Item, NewItem};
