@@ -327,7 +327,7 @@ impl<K: Key + ?Sized, V: Copy, S: BuildHasher> Inner<K, V, S> {
         }
         self.flights.detach(print);
         let put = match &self.tiers {
-            None => self.slots.in_turn(tries, || self.slots.call(|handle| handle.put(print.key, &words))),
+            None => self.slots.in_turn(tries, || self.slots.call(|handle| handle.put(print.key, &words)).map(Inserted::of)),
             Some(tiers) => tiers.put_within(tries, print.key, &words),
         };
         match put {

@@ -36,9 +36,10 @@ struct KeyLine {
 
 const _: () = assert!(size_of::<KeyLine>() == 64);
 
-/// A key's place in its line.
+/// A key, and its place in its line.
 #[derive(Clone, Copy)]
 pub(crate) struct Spot<'a> {
+    pub key: u64,
     line: &'a KeyLine,
     // The bits of the key that choose a place within the line.
     mixed: u64,
@@ -56,7 +57,7 @@ impl KeyLines {
     #[inline]
     pub fn of(&self, key: u64) -> Spot<'_> {
         let (line, mixed) = split(self.lines.len(), mixed(key));
-        Spot { line: &self.lines[line], mixed, rows: self.rows }
+        Spot { key, line: &self.lines[line], mixed, rows: self.rows }
     }
 
     /// The locks of all keys.

@@ -6,6 +6,7 @@ use crate::key::Key;
 use crate::print::Print;
 use crate::stats::Stats;
 use crate::Builder;
+use cefrodil::Put;
 use std::borrow::Borrow;
 use std::collections::hash_map::RandomState;
 use std::fmt::{self, Debug, Formatter};
@@ -58,6 +59,16 @@ pub enum Inserted {
     Renewed,
     /// The key is new, and the entry of another key was evicted for it.
     Evicted,
+}
+
+impl Inserted {
+    pub(crate) fn of(put: Put) -> Inserted {
+        match put {
+            Put::Stored { evicted: None, .. } => Inserted::New,
+            Put::Stored { evicted: Some(_), .. } => Inserted::Evicted,
+            _ => Inserted::Renewed,
+        }
+    }
 }
 
 // The bounds are those of the calls: so the compiler says of a type that is no key what to do.

@@ -6,7 +6,7 @@ use crate::map::Inserted;
 use crate::stalls::Stalls;
 use crate::stats::{Counts, Kind, Stats};
 use crate::wait::{self, SLEEPS_FROM};
-use cefrodil::{Put, TurnError};
+use cefrodil::TurnError;
 use std::cell::{Cell, RefCell, RefMut};
 use std::collections::HashMap;
 use std::hash::{BuildHasherDefault, Hasher};
@@ -105,18 +105,13 @@ impl<H: 'static> Slots<H> {
         }
     }
 
-    /// Counts a put.
-    pub fn count_put(self: &Arc<Self>, put: Put) -> Inserted {
-        let inserted = match put {
-            Put::Stored { evicted: None, .. } => Inserted::New,
-            Put::Stored { evicted: Some(_), .. } => Inserted::Evicted,
-            _ => Inserted::Renewed,
-        };
-        self.count(if let Inserted::Renewed = inserted { Kind::Renewed } else { Kind::Added });
-        if let Inserted::Evicted = inserted {
+    /// Counts a put. Returns what it did.
+    pub fn count_put(self: &Arc<Self>, did: Inserted) -> Inserted {
+        self.count(if let Inserted::Renewed = did { Kind::Renewed } else { Kind::Added });
+        if let Inserted::Evicted = did {
             self.count(Kind::Evicted);
         }
-        inserted
+        did
     }
 
     pub fn stats(&self) -> Stats {

@@ -3,7 +3,8 @@
 //!
 //! All writes of a key have its lock. Lookups have none: they look into the main table first. SAFETY.md says why that suffices.
 use crate::handle::AnyHandle;
-use crate::key_lines::KeyLines;
+use crate::key_lines::{KeyLines, Spot};
+use crate::map::Inserted;
 use crate::moves::Moves;
 use crate::slots::Slots;
 use crate::small_handle::SmallHandle;
@@ -35,7 +36,7 @@ pub(crate) enum Miss {
     Yes,
     /// A key has moved meanwhile, perhaps this one. Then it is in the main table.
     Moved,
-    /// The small table has the key, or the lookup was busy.
+    /// The small table may have the key.
     No,
 }
 
@@ -85,27 +86,19 @@ impl Tiers {
             return Miss::Yes;
         }
         match self.small.own() {
-            Some((mut small, _)) => small.miss(key, self.lines.of(key), &self.moves),
-            None => self.miss_shared(key),
+            Some((mut small, _)) => small.miss(self.lines.of(key), &self.moves),
+            None => Miss::No,
         }
     }
 
-    // Another thread may have noted a rest in the shared handle after this one had looked into the main table.
-    #[cold]
-    fn miss_shared(&self, key: u64) -> Miss {
-        match self.small.call(|small| small.handle.has(key)) {
-            Some(false) => Miss::Moved,
-            _ => Miss::No,
-        }
-    }
-
-    /// Looks such a key up, if it is no miss.
+    /// Looks such a key up in the small table, if it may be there.
     pub fn look_small(&self, key: u64) -> Reply<MOST> {
-        match self.small.call(|small| small.handle.get_or_turn(key)) {
+        let (reply, is_miss) = self.small.call(|small| small.look(self.lines.of(key), &self.moves));
+        match reply {
             Reply::Found { value, at, since } => Reply::Found { value, at, since: since | OF_SMALL },
             // It may have moved.
-            Reply::Absent { .. } => self.main.call(|handle| handle.get_or_turn(key)),
-            Reply::Busy => Reply::Busy,
+            Reply::Absent { .. } if !is_miss => self.main.call(|handle| handle.get_or_turn(key)),
+            reply => reply,
         }
     }
 
@@ -131,7 +124,8 @@ impl Tiers {
         let Reply::Found { value, since, .. } = self.small.call(|small| small.handle.get_or_turn(key)) else { return };
         let is_new = match self.main.call(|handle| handle.put_if_absent(key, &value)) {
             Ok(put) => {
-                if self.put_into_main(put) {
+                if let Put::Stored { evicted: Some(_), .. } = put {
+                    set(&self.is_full, true);
                     self.main.count(Kind::Evicted);
                 }
                 true
@@ -142,7 +136,7 @@ impl Tiers {
         };
         let taken = in_turn(tries, || self.small.call(|small| small.handle.take_if(key, since)));
         if taken.is_ok() {
-            self.lines.of(key).leave();
+            spot.leave();
         } else {
             set(&self.has_copies, true);
         }
@@ -162,27 +156,29 @@ impl Tiers {
 
     /// Tries so often. Not a part of its caller, which is shorter then for a map with one table.
     #[inline(never)]
-    pub fn put_within(&self, tries: u32, key: u64, words: &Words) -> Result<Put, TurnError<PutError>> {
-        self.main.in_turn(tries, || self.put(key, words))
+    pub fn put_within(&self, tries: u32, key: u64, words: &Words) -> Result<Inserted, TurnError<PutError>> {
+        let spot = self.lines.of(key);
+        self.main.in_turn(tries, || self.put(spot, words))
     }
 
-    fn put(&self, key: u64, words: &Words) -> Result<Put, TurnError<PutError>> {
-        let _locked = self.lines.of(key).lock().ok_or(TurnError::Held)?;
+    fn put(&self, spot: Spot, words: &Words) -> Result<Inserted, TurnError<PutError>> {
+        let _locked = spot.lock().ok_or(TurnError::Held)?;
         if !self.is_full.load(Relaxed) && !self.is_small_used() {
-            return self.put_main(key, words);
+            return self.put_main(spot, words);
         }
-        if self.is_in_main(key).ok_or(TurnError::Held)? {
-            self.put_main(key, words)
+        if self.is_in_main(spot).ok_or(TurnError::Held)? {
+            self.put_main(spot, words)
         } else {
-            self.put_beside_main(key, words)
+            self.put_beside_main(spot, words)
         }
     }
 
-    pub fn put_if_absent(&self, key: u64, words: &Words) -> Result<Put, TurnError<PutIfAbsentError>> {
-        let _locked = self.lines.of(key).lock().ok_or(TurnError::Held)?;
-        match self.place(key).ok_or(TurnError::Held)? {
+    pub fn put_if_absent(&self, key: u64, words: &Words) -> Result<Inserted, TurnError<PutIfAbsentError>> {
+        let spot = self.lines.of(key);
+        let _locked = spot.lock().ok_or(TurnError::Held)?;
+        match self.place(spot).ok_or(TurnError::Held)? {
             Place::Main | Place::Small => Err(TurnError::Call(PutIfAbsentError::Present { since: 0 })),
-            Place::Nowhere => self.put_beside_main(key, words).map_err(|why| match why {
+            Place::Nowhere => self.put_beside_main(spot, words).map_err(|why| match why {
                 TurnError::Held => TurnError::Held,
                 TurnError::Call(why) => TurnError::Call(PutIfAbsentError::Put(why)),
             }),
@@ -218,11 +214,12 @@ impl Tiers {
         in_main: impl FnOnce(&mut AnyHandle) -> Result<u64, TurnError<PutIfError>>,
         in_small: impl FnOnce(&mut AnyHandle) -> Result<u64, TurnError<PutIfError>>,
     ) -> Result<u64, TurnError<PutIfError>> {
-        let _locked = self.lines.of(key).lock().ok_or(TurnError::Held)?;
+        let spot = self.lines.of(key);
+        let _locked = spot.lock().ok_or(TurnError::Held)?;
         if since & OF_SMALL == 0 && !self.has_copies.load(SeqCst) {
             return self.main.call(in_main);
         }
-        match self.place(key).ok_or(TurnError::Held)? {
+        match self.place(spot).ok_or(TurnError::Held)? {
             Place::Main if since & OF_SMALL == 0 => self.main.call(in_main),
             Place::Small if since & OF_SMALL != 0 => self.small.call(|small| in_small(&mut small.handle)),
             _ => Err(TurnError::Call(PutIfError::Changed { since: 0 })),
@@ -232,8 +229,9 @@ impl Tiers {
     /// Whether no table has the key. A lookup may miss it while it moves, if the small table evicts it meanwhile. So a write asks this, too. `None`:
     /// other threads disturbed this.
     pub fn lacks(&self, key: u64) -> Option<bool> {
-        let _locked = self.lines.of(key).lock()?;
-        self.place(key).map(|place| matches!(place, Place::Nowhere))
+        let spot = self.lines.of(key);
+        let _locked = spot.lock()?;
+        self.place(spot).map(|place| matches!(place, Place::Nowhere))
     }
 
     /// Waits until the moves have ended that have begun before. A lock is tried so often.
@@ -243,9 +241,10 @@ impl Tiers {
 
     /// Removes the key from both tables.
     pub fn remove(&self, key: u64) -> Result<Removal, TurnError<Spent>> {
-        let _locked = self.lines.of(key).lock().ok_or(TurnError::Held)?;
-        match self.place(key).ok_or(TurnError::Held)? {
-            Place::Small => self.remove_young(key),
+        let spot = self.lines.of(key);
+        let _locked = spot.lock().ok_or(TurnError::Held)?;
+        match self.place(spot).ok_or(TurnError::Held)? {
+            Place::Small => self.remove_young(spot),
             Place::Main | Place::Nowhere => {
                 set(&self.is_full, false);
                 self.main.call(|handle| handle.remove(key))
@@ -255,102 +254,94 @@ impl Tiers {
 
     // Where the key is, for who has its lock: here and below. If it is in the main table, the small one has it no more. `None`: other threads
     // disturbed this.
-    fn place(&self, key: u64) -> Option<Place> {
-        Some(if self.is_in_main(key)? {
+    fn place(&self, spot: Spot) -> Option<Place> {
+        Some(if self.is_in_main(spot)? {
             Place::Main
-        } else if self.is_in_small(key)? {
+        } else if self.is_in_small(spot)? {
             Place::Small
         } else {
             Place::Nowhere
         })
     }
 
-    fn is_in_main(&self, key: u64) -> Option<bool> {
-        if self.small.call(|small| small.begin_write(key, &self.lines)) {
+    fn is_in_main(&self, spot: Spot) -> Option<bool> {
+        if self.small.call(|small| small.begin_write(spot, &self.lines)) {
             return Some(false);
         }
-        let is_there = self.main.call(|handle| handle.has(key))?;
+        let is_there = self.main.call(|handle| handle.has(spot.key))?;
         if is_there && self.has_copies.load(SeqCst) {
-            self.remove_copy(key)?;
+            self.remove_copy(spot)?;
         }
         Some(is_there)
     }
 
     // Removes the key from the small table, if a move could not take it out.
     #[cold]
-    fn remove_copy(&self, key: u64) -> Option<()> {
-        if !self.is_in_small(key)? {
+    fn remove_copy(&self, spot: Spot) -> Option<()> {
+        if !self.is_in_small(spot)? {
             return Some(());
         }
-        if let Removal::Removed { .. } = self.remove_young(key).ok()? {
+        if let Removal::Removed { .. } = self.remove_young(spot).ok()? {
             self.main.count(Kind::Removed);
         }
         Some(())
     }
 
-    fn remove_young(&self, key: u64) -> Result<Removal, TurnError<Spent>> {
-        let removal = self.small.call(|small| small.handle.remove(key))?;
+    fn remove_young(&self, spot: Spot) -> Result<Removal, TurnError<Spent>> {
+        let removal = self.small.call(|small| small.handle.remove(spot.key))?;
         if let Removal::Removed { .. } = removal {
-            self.lines.of(key).leave();
+            spot.leave();
         }
         Ok(removal)
     }
 
-    fn is_in_small(&self, key: u64) -> Option<bool> {
-        if self.lines.of(key).may_be_young() {
-            self.small.call(|small| small.handle.has(key))
+    fn is_in_small(&self, spot: Spot) -> Option<bool> {
+        if spot.may_be_young() {
+            self.small.call(|small| small.handle.has(spot.key))
         } else {
             Some(false)
         }
     }
 
     // Puts a key that the main table doesn't have.
-    fn put_beside_main(&self, key: u64, words: &Words) -> Result<Put, TurnError<PutError>> {
+    fn put_beside_main(&self, spot: Spot, words: &Words) -> Result<Inserted, TurnError<PutError>> {
         let is_full = self.is_full.load(Relaxed);
-        let has_left = is_full && self.lines.of(key).take_note();
-        let put = self.put_by_age(key, words, is_full && !has_left);
+        let has_left = is_full && spot.take_note();
+        let put = self.put_by_age(spot, words, is_full && !has_left);
         if has_left && put.is_err() {
             // For the next try.
-            self.lines.of(key).note();
+            spot.note();
         }
         put
     }
 
     // A young key is put into the small table, whether that has it or not.
-    fn put_by_age(&self, key: u64, words: &Words, is_young: bool) -> Result<Put, TurnError<PutError>> {
-        if !is_young && !self.is_in_small(key).ok_or(TurnError::Held)? {
-            return self.put_main(key, words);
+    fn put_by_age(&self, spot: Spot, words: &Words, is_young: bool) -> Result<Inserted, TurnError<PutError>> {
+        if !is_young && !self.is_in_small(spot).ok_or(TurnError::Held)? {
+            return self.put_main(spot, words);
         }
-        match self.put_small(key, words) {
-            Err(TurnError::Call(PutError::NoPath | PutError::AllRecent)) => self.put_main(key, words),
+        match self.put_small(spot, words) {
+            Err(TurnError::Call(PutError::NoPath | PutError::AllRecent)) => self.put_main(spot, words),
             put => put,
         }
     }
 
-    fn put_main(&self, key: u64, words: &Words) -> Result<Put, TurnError<PutError>> {
-        let put = self.main.call(|handle| handle.put(key, words))?;
-        if let Put::Stored { .. } = put {
-            self.moves.end(self.lines.of(key).last_move());
+    fn put_main(&self, spot: Spot, words: &Words) -> Result<Inserted, TurnError<PutError>> {
+        let did = Inserted::of(self.main.call(|handle| handle.put(spot.key, words))?);
+        if did != Inserted::Renewed {
+            self.moves.end(spot.last_move());
         }
-        self.put_into_main(put);
-        Ok(put)
-    }
-
-    // Notes what a put into the main table did. Returns whether it evicted a key.
-    fn put_into_main(&self, put: Put) -> bool {
-        let Put::Stored { evicted, .. } = put else { return false };
-        if evicted.is_some() {
+        if did == Inserted::Evicted {
             set(&self.is_full, true);
         }
-        evicted.is_some()
+        Ok(did)
     }
 
-    fn put_small(&self, key: u64, words: &Words) -> Result<Put, TurnError<PutError>> {
+    fn put_small(&self, spot: Spot, words: &Words) -> Result<Inserted, TurnError<PutError>> {
         set(&self.is_small_used, true);
-        let spot = self.lines.of(key);
         spot.enter();
-        let put = self.small.call(|small| small.put(key, words, &self.lines));
-        if !matches!(put, Ok(Put::Stored { .. })) {
+        let put = self.small.call(|small| small.put(spot, words, &self.lines));
+        if !matches!(put, Ok(Inserted::New | Inserted::Evicted)) {
             // It counts already, or is not there.
             spot.leave();
         }

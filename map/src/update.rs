@@ -2,7 +2,7 @@
 use crate::error::{InsertError, UpdateError};
 use crate::inner::{Found, Inner};
 use crate::key::Key;
-use crate::map::Map;
+use crate::map::{Inserted, Map};
 use crate::print::Print;
 use crate::stats::Kind;
 use crate::wait::LOOKS;
@@ -178,7 +178,7 @@ impl<K: Key + ?Sized, V: Copy, S: BuildHasher> Inner<K, V, S> {
     fn put_absent(&self, print: Print, words: &Words, tries: u32) -> Result<bool, InsertError> {
         let put = self.slots.in_turn(tries, || match &self.tiers {
             Some(tiers) => tiers.put_if_absent(print.key, words),
-            None => self.slots.call(|handle| handle.put_if_absent(print.key, words)),
+            None => self.slots.call(|handle| handle.put_if_absent(print.key, words)).map(Inserted::of),
         });
         match put {
             Ok(put) => {

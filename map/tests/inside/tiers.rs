@@ -3,9 +3,7 @@ use super::one_shard;
 use super::turns::{before_calls, calls, Turn};
 use crate::handle::AnyHandle;
 use crate::small_handle::SmallHandle;
-use crate::tiers::OF_SMALL;
 use crate::{InsertError, Inserted, Map, RemoveError, UpdateError};
-use cefrodil::Reply;
 use std::collections::HashMap;
 use std::hash::{BuildHasherDefault, Hasher};
 use std::ptr;
@@ -44,8 +42,8 @@ pub fn with_young() -> Numbers {
 // Whether the main table has the key, and whether the small one has it.
 pub fn place(map: &Numbers, key: u64) -> (bool, bool) {
     let (key, tiers) = (map.inner.print(&key).key, map.inner.tiers.as_ref().unwrap());
-    let in_main = matches!(map.inner.slots.call(|handle| handle.get_or_turn(key)), Reply::Found { .. });
-    (in_main, matches!(tiers.look_small(key), Reply::Found { since, .. } if since & OF_SMALL != 0))
+    let (in_main, in_small) = (map.inner.slots.call(|handle| handle.has(key)), tiers.small().call(|small| small.handle.has(key)));
+    (in_main.unwrap(), in_small.unwrap())
 }
 
 /// Another key, whose line between the tables is the same.
