@@ -64,7 +64,7 @@ template <class Model> struct TiersOf : rl::test_suite<Model, 3> {
             RL_ASSERT(counted.fetch_sub(1, all) > 0);                 //| self.lines.of(key).leave();
         }
     }
-    bool may_be_young() { return counted.load(all) != 0; }            //| if self.lines.of(key).may_be_young() {
+    bool may_be_young() { return counted.load(all) != 0; }            //| if spot.may_be_young() {
     // From the small table. If the main table has the key, there is a value all the time.
     void evict() {
         if (main.load(all) == none) {
@@ -84,9 +84,9 @@ template <class Model> struct TiersOf : rl::test_suite<Model, 3> {
         leave(was_there);                                             //| spot.leave();
     }
     void put_into_main(int words) {
-        const bool is_new = main.exchange(words, all) == none;        //| let put = self.main.call(|handle| handle.put(key, words))?;
+        const bool is_new = main.exchange(words, all) == none;        //| let did = Inserted::of(self.main.call(|handle| handle.put(spot.key, words))?);
         if (is_new && words != none && !explored::without("number of a put")) {
-            model().end();                                            //| self.moves.end(self.lines.of(key).last_move());
+            model().end();                                            //| self.moves.end(spot.last_move());
         }
     }
     void put_if_absent(int words) {
@@ -98,13 +98,13 @@ template <class Model> struct TiersOf : rl::test_suite<Model, 3> {
     }
     template <class Reader> void write(int words, const Reader &reader) {
         const explored::Mutex::Off off("lock of a write");
-        const Guard guard(key_lock);                                  //| let _locked = self.lines.of(key).lock().ok_or(TurnError::Held)?;
-        const bool is_missed = reader.still_misses(model());          //| if self.small.call(|small| small.begin_write(key, &self.lines)) {
-        const bool in_main = !is_missed && main.load(all) != none;    //| let is_there = self.main.call(|handle| handle.has(key))?;
+        const Guard guard(key_lock);                                  //| let _locked = spot.lock().ok_or(TurnError::Held)?;
+        const bool is_missed = reader.still_misses(model());          //| if small.begin_write(spot, &self.lines) {
+        const bool in_main = !is_missed && main.load(all) != none;    //| let is_there = self.main.call(|handle| handle.has(spot.key))?;
         const bool may_be_small = !in_main || copies.load(all) != 0;  //| if is_there && self.has_copies.load(SeqCst) {
-        const bool in_small = may_be_small && may_be_young() && small.load(all) != none; //| self.small.call(|small| small.handle.has(key))
+        const bool in_small = may_be_small && may_be_young() && small.load(all) != none; //| small.handle.has(spot.key)
         if (in_main && in_small && !explored::without("removal of the copy")) {
-            leave(small.exchange(none, all) != none);                 //| let removal = self.small.call(|small| small.handle.remove(key))?;
+            leave(small.exchange(none, all) != none);                 //| let removal = small.handle.remove(spot.key)?;
         }
         // A key that no table has goes to either one.
         if (in_main || (!in_small && rl::rand(2) == 0)) {
@@ -119,7 +119,7 @@ template <class Model> struct TiersOf : rl::test_suite<Model, 3> {
         leaves.store(1, all);
         const bool is_absent = main.load(all) == none && small.load(all) == none && main.load(all) == none;
         if (!is_absent || !explored::without("lock of a removal that finds nothing")) {
-            write(none, reader); //| let _locked = self.lines.of(key).lock()?;
+            write(none, reader); //| let _locked = spot.lock()?;
         }
     }
 
@@ -191,10 +191,12 @@ template <class Model> struct TiersOf : rl::test_suite<Model, 3> {
 // Besides, the steps of a lookup in the small table are there, and the count after an eviction, which waits for the next write by the handle.
 //| in map/src/small_handle.rs
 //| self.settle(lines);
-//| if spot.may_be_young() && self.handle.has(key) != Some(false) {
-//| if self.noted.none_since(spot.last_move()) && self.noted.is_of_this_thread() {
-//| (self.noted, self.missed) = (Noted::now(moves), None);
-//| self.missed == Some(key) && self.noted.none_since(lines.of(key).last_move())
+//| if spot.may_be_young() {
+//| let reply = self.handle.get_or_turn(spot.key);
+//| let is_sure = self.noted.none_since(spot.last_move()) && self.noted.is_of_this_thread();
+//| self.noted = Noted::now(moves);
+//| self.missed = is_sure.then_some(spot.key);
+//| self.missed == Some(spot.key) && self.noted.none_since(spot.last_move())
 struct RustTiers : TiersOf<RustTiers> {
     static constexpr std::array<std::string_view, 14> steps{steps_of_both[0], steps_of_both[1],  steps_of_both[2],  steps_of_both[3],  steps_of_both[4],
                                                             steps_of_both[5], steps_of_both[6],  steps_of_both[7],  steps_of_both[8],  steps_of_both[9],

@@ -26,6 +26,8 @@ static void a_lookup_finds_a_key_that_moves_meanwhile() {
             Numbers::with_young(numbers);
             before_call(row.calls, [&] { MUST(numbers.find(the_key) == 10); });
             MUST(row.look(numbers) == 10 && !act);
+            // That was no miss to be kept in mind.
+            MUST(numbers.put(the_key, 11) == Status::ok && numbers.find(the_key) == 11);
         }
     }
 }
@@ -134,6 +136,19 @@ static void a_write_after_a_miss_finds_what_came_meanwhile() {
             MUST(numbers.where(the_key) == In::main && write(numbers) && numbers.where(the_key) != In::both && numbers.where(the_key) != In::small);
         }
     }
+}
+
+// The same, if the key came to a free place of the main table, and another key evicts one since.
+static void a_write_after_a_miss_finds_what_came_to_a_free_place() {
+    Numbers numbers;
+    MUST(numbers.put(2, 0) == Status::ok && numbers.find(the_key) == 0 && numbers.find(the_key) == 0);
+    std::thread other([&] {
+        for (uint64_t key = first_old; numbers.erase(key) != Status::ok; key++) {
+        }
+        MUST(numbers.put(the_key, 10) == Status::ok && numbers.put(3, 0) == Status::ok && numbers.where(3) == In::main);
+    });
+    other.join();
+    MUST(numbers.where(the_key) == In::main && numbers.put(the_key, 11) == Status::ok && numbers.find(the_key) == 11);
 }
 
 // Before each call of the index that a move makes, another thread tries to write the key. It finds it at any time.
@@ -279,6 +294,7 @@ int main() {
     a_lookup_finds_a_key_that_is_evicted_while_it_moves();
     a_lookup_finds_a_key_whose_move_began_before();
     a_write_after_a_miss_finds_what_came_meanwhile();
+    a_write_after_a_miss_finds_what_came_to_a_free_place();
     no_write_comes_between_the_steps_of_a_move();
     a_removal_waits_for_a_key_that_is_evicted_while_it_moves();
     no_move_comes_between_the_steps_of_a_write();

@@ -8,7 +8,7 @@ use crate::key::Key;
 use crate::map::Inserted;
 use crate::print::{Print, Printer};
 use crate::slots::Slots;
-use crate::stats::Kind;
+use crate::stats::{Counts, Kind};
 use crate::tiers::{Miss, Tiers, OF_SMALL};
 use crate::wait::LOOKS;
 use crate::words::{check, deadline, Entry, Layout, Seen, Words};
@@ -198,7 +198,7 @@ impl<K: Key + ?Sized, V: Copy, S: BuildHasher> Inner<K, V, S> {
                 counts.add_alone(Kind::Miss);
                 told(Ok(None))
             }
-            Seen::Absent => told(self.get_young(print, tries)),
+            Seen::Absent => told(self.get_young(print, tries, counts)),
             other => told(self.get_again(print, other, tries)),
         })
     }
@@ -220,10 +220,10 @@ impl<K: Key + ?Sized, V: Copy, S: BuildHasher> Inner<K, V, S> {
     // What the small table has of a key that the main one didn't have.
     #[cold]
     #[inline(never)]
-    fn get_young(&self, print: Print, tries: u32) -> Result<Option<V>, GetError> {
+    fn get_young(&self, print: Print, tries: u32, counts: &Counts) -> Result<Option<V>, GetError> {
         match self.miss(print) {
             Miss::Yes => {
-                self.slots.count(Kind::Miss);
+                counts.add_alone(Kind::Miss);
                 Ok(None)
             }
             miss => self.used(print, self.look_after(print, miss, tries), tries),

@@ -166,23 +166,25 @@ impl Tiers {
         if !self.is_full.load(Relaxed) && !self.is_small_used() {
             return self.put_main(spot, words);
         }
-        if self.is_in_main(spot).ok_or(TurnError::Held)? {
-            self.put_main(spot, words)
-        } else {
-            self.put_beside_main(spot, words)
-        }
+        self.small.call(|small| {
+            if self.is_in_main(small, spot).ok_or(TurnError::Held)? {
+                self.put_main(spot, words)
+            } else {
+                self.put_beside_main(small, spot, words)
+            }
+        })
     }
 
     pub fn put_if_absent(&self, key: u64, words: &Words) -> Result<Inserted, TurnError<PutIfAbsentError>> {
         let spot = self.lines.of(key);
         let _locked = spot.lock().ok_or(TurnError::Held)?;
-        match self.place(spot).ok_or(TurnError::Held)? {
+        self.small.call(|small| match self.place(small, spot).ok_or(TurnError::Held)? {
             Place::Main | Place::Small => Err(TurnError::Call(PutIfAbsentError::Present { since: 0 })),
-            Place::Nowhere => self.put_beside_main(spot, words).map_err(|why| match why {
+            Place::Nowhere => self.put_beside_main(small, spot, words).map_err(|why| match why {
                 TurnError::Held => TurnError::Held,
                 TurnError::Call(why) => TurnError::Call(PutIfAbsentError::Put(why)),
             }),
-        }
+        })
     }
 
     /// `since` is of `look_small`, or of the main table.
@@ -219,7 +221,7 @@ impl Tiers {
         if since & OF_SMALL == 0 && !self.has_copies.load(SeqCst) {
             return self.main.call(in_main);
         }
-        match self.place(spot).ok_or(TurnError::Held)? {
+        match self.small.call(|small| self.place(small, spot)).ok_or(TurnError::Held)? {
             Place::Main if since & OF_SMALL == 0 => self.main.call(in_main),
             Place::Small if since & OF_SMALL != 0 => self.small.call(|small| in_small(&mut small.handle)),
             _ => Err(TurnError::Call(PutIfError::Changed { since: 0 })),
@@ -231,7 +233,7 @@ impl Tiers {
     pub fn lacks(&self, key: u64) -> Option<bool> {
         let spot = self.lines.of(key);
         let _locked = spot.lock()?;
-        self.place(spot).map(|place| matches!(place, Place::Nowhere))
+        self.small.call(|small| self.place(small, spot)).map(|place| matches!(place, Place::Nowhere))
     }
 
     /// Waits until the moves have ended that have begun before. A lock is tried so often.
@@ -243,71 +245,71 @@ impl Tiers {
     pub fn remove(&self, key: u64) -> Result<Removal, TurnError<Spent>> {
         let spot = self.lines.of(key);
         let _locked = spot.lock().ok_or(TurnError::Held)?;
-        match self.place(spot).ok_or(TurnError::Held)? {
-            Place::Small => self.remove_young(spot),
+        self.small.call(|small| match self.place(small, spot).ok_or(TurnError::Held)? {
+            Place::Small => Self::remove_young(small, spot),
             Place::Main | Place::Nowhere => {
                 set(&self.is_full, false);
                 self.main.call(|handle| handle.remove(key))
             }
-        }
+        })
     }
 
     // Where the key is, for who has its lock: here and below. If it is in the main table, the small one has it no more. `None`: other threads
     // disturbed this.
-    fn place(&self, spot: Spot) -> Option<Place> {
-        Some(if self.is_in_main(spot)? {
+    fn place(&self, small: &mut SmallHandle, spot: Spot) -> Option<Place> {
+        Some(if self.is_in_main(small, spot)? {
             Place::Main
-        } else if self.is_in_small(spot)? {
+        } else if Self::is_in_small(small, spot)? {
             Place::Small
         } else {
             Place::Nowhere
         })
     }
 
-    fn is_in_main(&self, spot: Spot) -> Option<bool> {
-        if self.small.call(|small| small.begin_write(spot, &self.lines)) {
+    fn is_in_main(&self, small: &mut SmallHandle, spot: Spot) -> Option<bool> {
+        if small.begin_write(spot, &self.lines) {
             return Some(false);
         }
         let is_there = self.main.call(|handle| handle.has(spot.key))?;
         if is_there && self.has_copies.load(SeqCst) {
-            self.remove_copy(spot)?;
+            self.remove_copy(small, spot)?;
         }
         Some(is_there)
     }
 
     // Removes the key from the small table, if a move could not take it out.
     #[cold]
-    fn remove_copy(&self, spot: Spot) -> Option<()> {
-        if !self.is_in_small(spot)? {
+    fn remove_copy(&self, small: &mut SmallHandle, spot: Spot) -> Option<()> {
+        if !Self::is_in_small(small, spot)? {
             return Some(());
         }
-        if let Removal::Removed { .. } = self.remove_young(spot).ok()? {
+        if let Removal::Removed { .. } = Self::remove_young(small, spot).ok()? {
             self.main.count(Kind::Removed);
         }
         Some(())
     }
 
-    fn remove_young(&self, spot: Spot) -> Result<Removal, TurnError<Spent>> {
-        let removal = self.small.call(|small| small.handle.remove(spot.key))?;
+    fn remove_young(small: &mut SmallHandle, spot: Spot) -> Result<Removal, TurnError<Spent>> {
+        let removal = small.handle.remove(spot.key)?;
         if let Removal::Removed { .. } = removal {
             spot.leave();
         }
         Ok(removal)
     }
 
-    fn is_in_small(&self, spot: Spot) -> Option<bool> {
+    fn is_in_small(small: &mut SmallHandle, spot: Spot) -> Option<bool> {
         if spot.may_be_young() {
-            self.small.call(|small| small.handle.has(spot.key))
+            small.handle.has(spot.key)
         } else {
             Some(false)
         }
     }
 
     // Puts a key that the main table doesn't have.
-    fn put_beside_main(&self, spot: Spot, words: &Words) -> Result<Inserted, TurnError<PutError>> {
+    fn put_beside_main(&self, small: &mut SmallHandle, spot: Spot, words: &Words) -> Result<Inserted, TurnError<PutError>> {
         let is_full = self.is_full.load(Relaxed);
         let has_left = is_full && spot.take_note();
-        let put = self.put_by_age(spot, words, is_full && !has_left);
+        let put = self.put_by_age(small, spot, words, is_full && !has_left);
         if has_left && put.is_err() {
             // For the next try.
             spot.note();
@@ -316,11 +318,17 @@ impl Tiers {
     }
 
     // A young key is put into the small table, whether that has it or not.
-    fn put_by_age(&self, spot: Spot, words: &Words, is_young: bool) -> Result<Inserted, TurnError<PutError>> {
-        if !is_young && !self.is_in_small(spot).ok_or(TurnError::Held)? {
+    fn put_by_age(
+        &self,
+        small: &mut SmallHandle,
+        spot: Spot,
+        words: &Words,
+        is_young: bool,
+    ) -> Result<Inserted, TurnError<PutError>> {
+        if !is_young && !Self::is_in_small(small, spot).ok_or(TurnError::Held)? {
             return self.put_main(spot, words);
         }
-        match self.put_small(spot, words) {
+        match self.put_small(small, spot, words) {
             Err(TurnError::Call(PutError::NoPath | PutError::AllRecent)) => self.put_main(spot, words),
             put => put,
         }
@@ -337,10 +345,10 @@ impl Tiers {
         Ok(did)
     }
 
-    fn put_small(&self, spot: Spot, words: &Words) -> Result<Inserted, TurnError<PutError>> {
+    fn put_small(&self, small: &mut SmallHandle, spot: Spot, words: &Words) -> Result<Inserted, TurnError<PutError>> {
         set(&self.is_small_used, true);
         spot.enter();
-        let put = self.small.call(|small| small.put(spot, words, &self.lines));
+        let put = small.put(spot, words, &self.lines);
         if !matches!(put, Ok(Inserted::New | Inserted::Evicted)) {
             // It counts already, or is not there.
             spot.leave();

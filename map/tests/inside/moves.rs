@@ -29,6 +29,8 @@ fn a_lookup_finds_a_key_that_moves_meanwhile() {
             assert_eq!(thread::spawn(move || other.get(&KEY)).join().unwrap(), Some(10));
         });
         assert_eq!(calls(|| look(&map)).1, Some(10), "look {number}");
+        // That was no miss to be kept in mind.
+        assert_eq!((map.insert(&KEY, 11).is_ok(), map.get(&KEY)), (true, Some(11)), "look {number}");
     }
 }
 
@@ -124,6 +126,22 @@ fn a_write_after_a_miss_finds_what_came_meanwhile() {
         assert!(write(&map));
         assert_eq!((map.get(&KEY), place(&map, KEY)), (value, (value.is_some(), false)));
     }
+}
+
+// The same, if the key came to a free place of the main table, and another key evicts one since.
+#[test]
+fn a_write_after_a_miss_finds_what_came_to_a_free_place() {
+    let map = open_for(64);
+    map.insert(&2, 0).unwrap();
+    (0..2).for_each(|_| assert_eq!(map.get(&KEY), None));
+    let other = map.clone();
+    let put = move || {
+        assert!((1_000..1_037).any(|key| other.remove(&key) == Ok(Some(0))));
+        (other.insert(&KEY, 10), other.insert(&3, 0))
+    };
+    assert_eq!(thread::spawn(put).join().unwrap(), (Ok(Inserted::New), Ok(Inserted::Evicted)));
+    assert_eq!(place(&map, KEY), (true, false));
+    assert_eq!((map.insert(&KEY, 11), map.get(&KEY)), (Ok(Inserted::Renewed), Some(11)));
 }
 
 // Before each call of the index that a move makes, another thread tries to write the key. It finds it at any time.
