@@ -88,6 +88,10 @@ impl AnyHandle {
     }
 
     pub fn get_or_turn(&mut self, key: u64) -> Reply<MOST> {
+        #[cfg(test)]
+        if is_to_be_busy() {
+            return Reply::Busy;
+        }
         any!(self, handle => wide_reply(handle.get_or_turn(key)))
     }
 
@@ -165,4 +169,17 @@ fn wide_replies<const WIDTH: usize>(handle: &mut Handle<WIDTH>, keys: &[u64], re
 fn wide_replaced<const WIDTH: usize>(replaced: Replaced<WIDTH>) -> Replaced<MOST> {
     let Replaced { at, old: Entry { key, value, since } } = replaced;
     Replaced { at, old: Entry { key, value: wide(&value), since } }
+}
+
+#[cfg(test)]
+fn is_to_be_busy() -> bool {
+    let lookups = BUSY_AFTER.get();
+    BUSY_AFTER.set(lookups.and_then(|lookups| lookups.checked_sub(1)));
+    lookups == Some(0)
+}
+
+#[cfg(test)]
+thread_local! {
+    /// After how many calls of `get_or_turn` one of this thread is busy.
+    pub(crate) static BUSY_AFTER: std::cell::Cell<Option<u32>> = const { std::cell::Cell::new(None) };
 }

@@ -14,6 +14,7 @@ use crate::wait::LOOKS;
 use crate::words::{check, deadline, Entry, Layout, Seen, Words};
 use cefrodil::{PutIfError, Reply, TurnError};
 use std::hash::BuildHasher;
+use std::mem;
 use std::sync::Arc;
 use std::time::Duration;
 
@@ -114,7 +115,13 @@ impl<K: Key + ?Sized, V: Copy, S: BuildHasher> Inner<K, V, S> {
     // Looks in the small table for a key that the main table didn't have.
     fn look_after(&self, print: Print, miss: Miss, tries: u32) -> Option<Found<V>> {
         match (&self.tiers, miss) {
-            (Some(tiers), Miss::No) => self.slots.within(tries, || self.found(print, Seen::of(&mut tiers.look_small(print.key)))),
+            (Some(tiers), Miss::No) => {
+                let mut is_first = true;
+                self.slots.within(tries, || {
+                    let mut reply = tiers.look_small(print.key, mem::take(&mut is_first));
+                    self.found(print, Seen::of(&mut reply))
+                })
+            }
             (Some(_), Miss::Moved) => self.look_again(print, tries),
             _ => Some(Found::Absent),
         }

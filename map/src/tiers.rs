@@ -91,9 +91,16 @@ impl Tiers {
         }
     }
 
-    /// Looks such a key up in the small table, if it may be there.
-    pub fn look_small(&self, key: u64) -> Reply<MOST> {
-        let (reply, is_miss) = self.small.call(|small| small.look(self.lines.of(key), &self.moves));
+    /// Looks such a key up in the small table, if it may be there. `is_first`: so far only the main table was looked at. Later a miss there says nothing
+    /// of the time after it.
+    pub fn look_small(&self, key: u64, is_first: bool) -> Reply<MOST> {
+        let (reply, is_miss) = self.small.call(|small| {
+            if is_first {
+                small.look(self.lines.of(key), &self.moves)
+            } else {
+                (small.handle.get_or_turn(key), false)
+            }
+        });
         match reply {
             Reply::Found { value, at, since } => Reply::Found { value, at, since: since | OF_SMALL },
             // It may have moved.

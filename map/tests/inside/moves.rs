@@ -1,6 +1,7 @@
 //! A move from the small table to the main one crosses no write, and hides no key.
 use super::tiers::{beside, hold_small, open_for, place, with_young, Numbers, KEY};
 use super::turns::{before_calls, calls};
+use crate::handle::BUSY_AFTER;
 use crate::inner::Found;
 use crate::tiers::OF_SMALL;
 use crate::{ClearError, InsertError, Inserted, RemoveError, UpdateError};
@@ -31,6 +32,21 @@ fn a_lookup_finds_a_key_that_moves_meanwhile() {
         assert_eq!(calls(|| look(&map)).1, Some(10), "look {number}");
         // That was no miss to be kept in mind.
         assert_eq!((map.insert(&KEY, 11).is_ok(), map.get(&KEY)), (true, Some(11)), "look {number}");
+    }
+}
+
+// The same, right before this thread looks into the small one. One of its next lookups is busy.
+#[test]
+fn a_busy_lookup_finds_a_key_that_moves_meanwhile() {
+    for lookups in 0..2 {
+        let map = with_young();
+        let other = map.clone();
+        before_calls(2, 1, move || {
+            let other = other.clone();
+            assert_eq!(thread::spawn(move || other.get(&KEY)).join().unwrap(), Some(10));
+            BUSY_AFTER.set(Some(lookups));
+        });
+        assert_eq!((calls(|| map.get(&KEY)).1, BUSY_AFTER.get()), (Some(10), None), "after {lookups} lookups");
     }
 }
 
