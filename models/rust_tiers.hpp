@@ -138,7 +138,7 @@ template <class Model> struct TiersOf : rl::test_suite<Model, 3> {
             misses = tiers.none_since(noted);
             const bool is_sure = misses || explored::without("another look into the main one");
             misses ? void() : tiers.note(noted);
-            return is_sure ? none : tiers.main.load(all);
+            return is_sure ? none : tiers.look_again(*this);
         }
         // The end of a lookup of another key, of the same line.
         void miss_another(Model &tiers) {
@@ -198,9 +198,10 @@ template <class Model> struct TiersOf : rl::test_suite<Model, 3> {
 //| self.missed = is_sure.then_some(spot.key);
 //| self.missed == Some(spot.key) && self.noted.none_since(spot.last_move())
 struct RustTiers : TiersOf<RustTiers> {
-    static constexpr std::array<std::string_view, 14> steps{steps_of_both[0], steps_of_both[1],  steps_of_both[2],  steps_of_both[3],  steps_of_both[4],
-                                                            steps_of_both[5], steps_of_both[6],  steps_of_both[7],  steps_of_both[8],  steps_of_both[9],
-                                                            steps_of_both[10], steps_of_both[11], "number of a move", "mark until the number"};
+    static constexpr std::array<std::string_view, 15> steps{steps_of_both[0],  steps_of_both[1],  steps_of_both[2], steps_of_both[3],   steps_of_both[4],
+                                                            steps_of_both[5],  steps_of_both[6],  steps_of_both[7], steps_of_both[8],   steps_of_both[9],
+                                                            steps_of_both[10], steps_of_both[11], "number of a move", "mark until the number",
+                                                            "main table after a busy lookup"};
 
     using Noted = int;
     static constexpr int on_its_way = 1000; //| in map/src/moves.rs
@@ -216,6 +217,17 @@ struct RustTiers : TiersOf<RustTiers> {
     }
     bool none_since(Noted noted) const { return last.load(all) <= noted; } //| last.0.load(SeqCst) <= self.moves
     void note(Noted &noted) { noted = greatest.fetch_add(1, all) + 1; } //| let before = moves.noted.fetch_add(1, SeqCst);
+    // The main table has the last word, also if a look there was busy.
+    //| in map/src/tiers.rs
+    int look_again(const Reader &reader) {
+        if (rl::rand(2) == 0) {
+            const int words = small.load(all);                        //| (small.handle.get_or_turn(key), false)
+            if (words != none || (explored::without("main table after a busy lookup") && none_since(reader.noted))) {
+                return words;
+            }
+        }
+        return main.load(all);                                        //| Reply::Absent { .. } if !is_miss => self.main.call(|handle| handle.get_or_turn(key)),
+    }
 };
 
 #endif

@@ -91,8 +91,8 @@ impl Tiers {
         }
     }
 
-    /// Looks such a key up in the small table, if it may be there. `is_first`: so far only the main table was looked at. Later a miss there says nothing
-    /// of the time after it.
+    /// Looks such a key up in the small table, if it may be there, and again in the main one, unless it is sure that it isn't there. That is sure only
+    /// at the first try (`is_first`), right after a look into the main table.
     pub fn look_small(&self, key: u64, is_first: bool) -> Reply<MOST> {
         let (reply, is_miss) = self.small.call(|small| {
             if is_first {
