@@ -51,7 +51,7 @@ struct CxxTiers : TiersOf<CxxTiers> {
     void end() { moves.end(last); }
     bool none_since(Noted noted) const { return Moves::none_since(noted, last); }
     void note(Noted &noted) { noted = moves.note(); }
-    // As long as it is busy.
+    // It looks there until it is not busy.
     int look_again(const Reader &) { return main.load(all); }
 };
 

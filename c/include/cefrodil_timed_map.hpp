@@ -52,8 +52,8 @@ class Timed {
     // Those of what replaces an entry with such ends, in its generation.
     Ends renewed(const Ends &old, const Life &life) const noexcept { return {life ? deadline(life) : old[0], idle_deadline(old[1])}; }
     bool have_passed(const Ends &ends) const noexcept { return clock_.has_passed(std::min(ends[0], ends[1])); }
-    // Whether they are those of an entry of this generation. Generations with the same last bits are not told apart: each 2^32nd one, or with a time to
-    // idle more than one for each 512 ns of it.
+    // Whether they are those of an entry of this generation. Generations are told apart by their last bits: 2^32 in a row or, with a time to idle, at
+    // least one for each 512 ns of it.
     bool are_of(const Ends &ends, uint64_t generation) const noexcept { return ((ends[1] ^ generation) & last_bits_) == 0; }
     // Whether the time to idle is to begin anew in the entry.
     bool is_due(const Ends &ends) const noexcept { return clock_.has_idle() && ends[1] < clock_.idle_deadline() - clock_.idle_time() / 16; }

@@ -338,7 +338,10 @@ impl<K: Key + ?Sized, V: Copy, S: BuildHasher> Inner<K, V, S> {
             Some(tiers) => tiers.put_within(tries, print.key, &words),
         };
         match put {
-            Ok(put) => Ok(self.slots.count_put(put)),
+            Ok(did) => {
+                self.slots.count_put(did);
+                Ok(did)
+            }
             Err(why) => Err(self.refused(InsertError::of(why))),
         }
     }

@@ -105,13 +105,12 @@ impl<H: 'static> Slots<H> {
         }
     }
 
-    /// Counts a put. Returns what it did.
-    pub fn count_put(self: &Arc<Self>, did: Inserted) -> Inserted {
+    /// Counts a put that did this.
+    pub fn count_put(self: &Arc<Self>, did: Inserted) {
         self.count(if let Inserted::Renewed = did { Kind::Renewed } else { Kind::Added });
         if let Inserted::Evicted = did {
             self.count(Kind::Evicted);
         }
-        did
     }
 
     pub fn stats(&self) -> Stats {

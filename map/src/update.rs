@@ -181,8 +181,8 @@ impl<K: Key + ?Sized, V: Copy, S: BuildHasher> Inner<K, V, S> {
             None => self.slots.call(|handle| handle.put_if_absent(print.key, words)).map(Inserted::of),
         });
         match put {
-            Ok(put) => {
-                self.slots.count_put(put);
+            Ok(did) => {
+                self.slots.count_put(did);
                 Ok(true)
             }
             Err(TurnError::Call(PutIfAbsentError::Present { .. })) => Ok(false),

@@ -2,7 +2,8 @@
 mod plain;
 use cefrodild::connection::Connection;
 use cefrodild::listen::Stream;
-use cefrodild::worker::Worker;
+use cefrodild::store::Store;
+use cefrodild::worker::{Inbox, Worker};
 use plain::client::{Client, MEGABYTE};
 use plain::draw::Draw;
 use std::io::{self, ErrorKind, Read, Write};
@@ -107,18 +108,34 @@ fn narrow_pair() -> (UnixStream, UnixStream) {
     (end, other)
 }
 
+/// A client of the worker whose inbox this is.
+fn connected(store: &Store, inbox: &Inbox, number: usize) -> Slow {
+    let (end, stream) = narrow_pair();
+    let seat = store.seats.take().expect("a seat is free");
+    inbox.hand(Connection::new(Stream::Unix(mio::net::UnixStream::from_std(end)), seat)).expect("the worker takes it");
+    Slow::new(number, stream)
+}
+
+/// Sends and reads what is left.
+fn finish(clients: &mut [Slow]) {
+    let mut last = Instant::now();
+    while clients.iter().any(|client| !client.answers.is_empty()) {
+        for client in &mut *clients {
+            client.send(usize::MAX);
+            if client.read(MEGABYTE) != 0 {
+                last = Instant::now();
+            }
+        }
+        assert!(last.elapsed() < LIMIT, "the worker is silent");
+        yield_now();
+    }
+}
+
 #[test]
 fn slow_readers_are_answered_what_they_asked() {
     let store = Client::new(64 * MEGABYTE).store;
     let (worker, inbox) = Worker::new(Arc::clone(&store)).expect("there are descriptors");
-    let mut clients: Vec<_> = (0..CLIENTS)
-        .map(|number| {
-            let (end, stream) = narrow_pair();
-            let seat = store.seats.take().expect("a seat is free");
-            inbox.hand(Connection::new(Stream::Unix(mio::net::UnixStream::from_std(end)), seat)).expect("the worker takes it");
-            Slow::new(number, stream)
-        })
-        .collect();
+    let mut clients: Vec<_> = (0..CLIENTS).map(|number| connected(&store, &inbox, number)).collect();
     spawn(|| worker.run(0));
     let draw = &mut Draw(1);
     for _ in 0..STEPS {
@@ -129,15 +146,5 @@ fn slow_readers_are_answered_what_they_asked() {
         client.send(1 + draw.below(10_000));
         client.read(100 + draw.below(50_000));
     }
-    let mut last = Instant::now();
-    while clients.iter().any(|client| !client.answers.is_empty()) {
-        for client in &mut clients {
-            client.send(usize::MAX);
-            if client.read(MEGABYTE) != 0 {
-                last = Instant::now();
-            }
-        }
-        assert!(last.elapsed() < LIMIT, "the worker is silent");
-        yield_now();
-    }
+    finish(&mut clients);
 }

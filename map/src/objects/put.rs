@@ -322,7 +322,8 @@ impl<O: Held, S> ObjectInner<O, S> {
     }
 
     fn replaced(&self, Replaced { at, old }: Replaced<1>) -> Done {
-        let put = Put { did: self.slots.count_put(Inserted::Renewed), at };
+        self.slots.count_put(Inserted::Renewed);
+        let put = Put { did: Inserted::Renewed, at };
         Done { put, old: Some(Gone::of(old, Reason::Replaced)), queued: None }
     }
 
@@ -342,7 +343,8 @@ impl<O: Held, S> ObjectInner<O, S> {
     }
 
     fn swapped(&self, Swapped { put, old }: Swapped<1>) -> Done {
-        let (at, did) = (put.at(), self.slots.count_put(Inserted::of(put)));
+        let (at, did) = (put.at(), Inserted::of(put));
+        self.slots.count_put(did);
         let reason = if let Inserted::Evicted = did { Reason::Evicted } else { Reason::Replaced };
         Done { put: Put { did, at }, old: old.map(|old| Gone::of(old, reason)), queued: None }
     }
