@@ -1,6 +1,6 @@
 /* Handles that a forked child has from its parent. The parent's other threads are not in the child. So its copy of a cache may have stopped in the
  * middle of a change, its pages may be of different moments, and a turn may be held for ever. By such a handle each call does nothing and returns
- * CEFRODIL_CLOSED. To close it only empties it: the copy stays until the child ends. Handles that the child has opened are its own.
+ * CEFRODIL_CLOSED. To close it only empties it: the copy is kept until the child ends. Handles that the child has opened are its own.
  *
  * c/build gives the cache's own calls other names: cefrodil_get is proved_cefrodil_get, and so on. */
 #define CEFRODIL_NO_MACROS
@@ -9,6 +9,8 @@
 /* memory.c has others in their place. The toolchain's own memory doesn't know of processes: over it a child calls as its parent does. */
 bool is_of_this_process(const void *at) __attribute__((weak));
 bool is_of_this_process(const void *at) { return at != NULL; }
+void keep_for_parent(void *at) __attribute__((weak));
+void keep_for_parent(void *at) { (void)at; }
 extern bool has_been_forked __attribute__((weak, visibility("hidden")));
 bool has_been_forked = false;
 
@@ -24,6 +26,7 @@ cefrodil_status cefrodil_close(cefrodil_handle *handle) {
     if (!has_been_forked || own(handle) == handle) {
         return proved_cefrodil_close(handle);
     }
+    keep_for_parent(handle->at_);
     *handle = cefrodil_empty();
     return CEFRODIL_CLOSED;
 }

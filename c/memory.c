@@ -11,7 +11,8 @@
  * is freed with its last block. Any thread may allocate and free, and so may another copy of these functions in the same program, since
  * libraries that were built apart may pass a handle on.
  *
- * A process may fork at any time: its child allocates and frees as it does. A small block knows in which process it was allocated.
+ * A process may fork at any time: its child allocates and frees as it does. A small block knows in which process it was allocated. What a child
+ * closes of its parent's stays in memory, in a list, so that no leak checker reports it.
  *
  * What the toolchain asks of them (its crate `libc`, src/heap.rt): `align` divides 16 and `size` is below 2^63. A block that is returned has
  * `size` bytes, aligned to `align`, which nothing else uses until it is given back. A block that grows or shrinks keeps its first `kept`
@@ -36,6 +37,7 @@ struct block rattle_alloc(size_t size, size_t align);
 struct block rattle_realloc(void *at, size_t kept, size_t size, size_t align);
 void rattle_dealloc(void *at);
 bool is_of_this_process(const void *at);
+void keep_for_parent(void *at);
 extern bool has_been_forked __attribute__((visibility("hidden")));
 
 enum { LINE = 64, APART = 2 * LINE, BEHIND = 56, PLACED = 4096, CUT = 128 << 10, HUGE_PAGE = 2 << 20, REGION = 32 << 20 };
@@ -58,21 +60,22 @@ struct region {
 static struct region *open_region;
 static pthread_mutex_t lock = PTHREAD_MUTEX_INITIALIZER;
 
-/* This process, and whether another one was forked to make it. A program that forks without calling the handlers, by a system call of its own, has
- * a child that takes itself for its parent. */
-static pid_t process;
+/* This process: its number, and above 32 bits how many forks led to it from the one that loaded these functions. Two processes may have one number,
+ * each in a namespace of its own. A program that forks without calling the handlers, by a system call of its own, has a child that takes itself
+ * for its parent. */
+static int64_t process;
 bool has_been_forked;
 
 static void before_fork(void) { pthread_mutex_lock(&lock); }
 static void after_fork(void) { pthread_mutex_unlock(&lock); }
 static void in_child(void) {
-    process = getpid();
+    process = ((process >> 32) + 1) << 32 | (uint32_t)getpid();
     has_been_forked = true;
     pthread_mutex_unlock(&lock);
 }
 
 __attribute__((constructor)) static void handle_forks(void) {
-    process = getpid();
+    process = (uint32_t)getpid();
     (void)pthread_atfork(before_fork, after_fork, in_child);
 }
 
@@ -93,7 +96,7 @@ static char *aligned(char *block, size_t align) { return block + (align - (uintp
 static size_t whole(size_t size) { return size < 16 ? 16 : size; }
 
 /* A small block. It shares no cache line, and no pair of lines, since a processor loads both. So there are bytes of its own before and after it.
- * Two words before it is the process that it is of. */
+ * Two words before it is the process that it is of, and before that the copy of these functions that counted the forks. */
 static void *alone(size_t size) {
     char *block = malloc(APART + sizeof(void *) + size + APART);
     if (block == NULL) {
@@ -101,12 +104,29 @@ static void *alone(size_t size) {
     }
     char *at = block + APART + sizeof(void *);
     ((void **)at)[-1] = block;
-    ((intptr_t *)at)[-2] = process;
+    ((int64_t *)at)[-2] = process;
+    ((int64_t **)at)[-3] = &process;
     return at;
 }
 
-/* Whether this process allocated a small block, and not one from which it was forked. */
-bool is_of_this_process(const void *at) { return !is_placed(at) || ((const intptr_t *)at)[-2] == process; }
+/* Whether this process allocated a small block, and not one from which it was forked. Another copy counts its own forks, so of its blocks only the
+ * process's number says so. */
+bool is_of_this_process(const void *at) {
+    if (!is_placed(at)) {
+        return true;
+    }
+    const int64_t by = ((const int64_t *)at)[-2];
+    return ((int64_t *const *)at)[-3] == &process ? by == process : (uint32_t)by == (uint32_t)process;
+}
+
+/* Lists a small block of the parent that the child has closed. The word for it lies before those of the block. */
+void keep_for_parent(void *at) {
+    static void *_Atomic kept;
+    void **next = &((void **)at)[-4];
+    *next = atomic_load(&kept);
+    while (!atomic_compare_exchange_weak(&kept, next, at)) {
+    }
+}
 
 /* If the system has no huge pages, the pages stay as they are. */
 static void ask_for_huge_pages(char *first, size_t size) { (void)madvise(first, size / HUGE_PAGE * HUGE_PAGE, MADV_HUGEPAGE); }

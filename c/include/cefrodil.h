@@ -332,7 +332,7 @@ CEFRODIL_CALL cefrodil_status cefrodil_capacity(cefrodil_handle *handle, uint64_
 /* Lists each key with its value. A handle that doesn't hold the turns tries once for the turn of each shard in order, so it lists each
  * shard at a moment of its own. An entry is its key, then the words of its value, as cefrodil_open_with takes it. Other handles may look
  * up meanwhile. This call takes memory for the whole list, and frees it. To ask for the number of entries, pass 0 as `entry_words`: then
- * it counts as cefrodil_len does, and takes no memory.
+ * it counts as cefrodil_len does, and takes no memory. With CEFRODIL_NO_MACROS it makes the list all the same.
  * OK: the first `count` entries of `entries` are written. BAD_COUNT: there are `count` entries, and `entry_words` is less than
  * `count` times (1 + the words of a value). HELD: a try did not win. CLOSED, NO_MEMORY. Unless OK, `entries` is unchanged. With
  * other statuses than OK and BAD_COUNT, `count` is unchanged too. */

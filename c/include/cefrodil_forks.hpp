@@ -1,10 +1,12 @@
 // What a forked child does with the maps of its parent, for cefrodil_map.hpp. The parent's other threads are not in the child. So locks may be held
-// there for ever, and a cache may have stopped in the middle of a change. The child finds each map closed, and never touches what is left of it.
+// there for ever, and a cache may have stopped in the middle of a change. The child finds each map closed, and never touches what is left of it. It
+// keeps that in a list, so that no leak checker reports it.
 #ifndef CEFRODIL_FORKS_HPP
 #define CEFRODIL_FORKS_HPP
 
 #include <memory>
 #include <mutex>
+#include <new>
 #include <pthread.h>
 #include <sys/types.h>
 #include <unistd.h>
@@ -29,16 +31,25 @@ class Ownings {
         is_watched_ = is_watched_ || pthread_atfork(before_fork, after_fork, in_child) == 0;
         return is_watched_;
     }
+    // How many forks led to this process from the one that loaded the library, as far as they were watched.
+    unsigned long forks() const noexcept { return forks_; }
     std::mutex lock{};
     Owned *first = nullptr;
 
   private:
+    // What the parent owned.
+    struct Kept {
+        void *at;
+        Kept *next;
+    };
     constexpr Ownings() noexcept = default;
     static void before_fork() { of_library().lock.lock(); }
     static void after_fork() { of_library().lock.unlock(); }
     static void in_child();
 
     bool is_watched_ = false;
+    unsigned long forks_ = 0;
+    Kept *kept_ = nullptr;
 };
 
 // A pointer to what one process owns. A forked child finds null here.
@@ -96,8 +107,11 @@ class Owned {
 
 inline void Ownings::in_child() {
     Ownings &ownings = of_library();
+    ownings.forks_++;
     for (Owned *each = std::exchange(ownings.first, nullptr); each != nullptr; each = each->next_) {
-        each->at_ = nullptr;
+        void *const at = std::exchange(each->at_, nullptr);
+        Kept *const kept = new (std::nothrow) Kept{at, ownings.kept_};
+        ownings.kept_ = kept != nullptr ? kept : ownings.kept_;
     }
     ownings.lock.unlock();
 }
@@ -124,12 +138,17 @@ template <class T> class OwnedPointer : Owned {
     bool reset() noexcept { return std::unique_ptr<T>(static_cast<T *>(release())) != nullptr; }
 };
 
-// The process that made an object. Its forked child has a copy of the object, whose lock another thread may have held.
+// The process that made an object. Its forked child has a copy of the object, whose lock another thread may have held. Both may have one number, each
+// in a namespace of its own.
 class Maker {
   public:
-    bool is_this_process() const noexcept { return process_ == getpid(); }
+    Maker() noexcept { static_cast<void>(ownings_.watch()); }
+    bool is_this_process() const noexcept { return forks_ == ownings_.forks() && process_ == getpid(); }
 
   private:
+    // Of the library that made it: each library counts for itself.
+    Ownings &ownings_ = Ownings::of_library();
+    unsigned long forks_ = ownings_.forks();
     pid_t process_ = getpid();
 };
 

@@ -1,11 +1,17 @@
 /* The memory of the archive by itself: each block has room, is where it should be, and keeps its bytes while it grows and shrinks. Threads
  * may do so at once. What malloc refuses is reported, and changes nothing. All memory is given back. Only huge pages of a block or region are
- * requested. */
+ * requested. A forked child knows its parent's blocks, also if both have one number. */
 #define _GNU_SOURCE
+#define getpid number_of_each_process
 #include "counted_malloc.h"
 #include "must.h"
+#include <sys/wait.h>
+#include <unistd.h>
 
 enum { BLOCKS = 64 };
+
+/* So it is with the first processes of several namespaces. */
+pid_t number_of_each_process(void) { return 1; }
 
 /* A block with the byte that it is full of. */
 struct full {
@@ -219,6 +225,26 @@ static void holes_are_cut_again(void) {
     MUST(in_use == before);
 }
 
+/* A block that is a line longer than the hole is not cut there, and the larger of two holes stays. */
+static void blocks_longer_than_a_hole(void) {
+    struct full first, hole, last, longer, smaller, end;
+    make(&first, 200000, 8);
+    make(&hole, 300000, 8);
+    make(&last, 200000, 8);
+    make(&smaller, 150000, 8);
+    make(&end, 150000, 8);
+    rattle_dealloc(hole.at);
+    rattle_dealloc(smaller.at);
+    make(&longer, 300104, 8);
+    make(&smaller, 280000, 8);
+    MUST(smaller.at == hole.at && holds(&last, last.size) && holds(&longer, longer.size) && holds(&end, end.size));
+    rattle_dealloc(first.at);
+    rattle_dealloc(last.at);
+    rattle_dealloc(longer.at);
+    rattle_dealloc(smaller.at);
+    rattle_dealloc(end.at);
+}
+
 /* A block of 128 KB to 2 MB is cut from a region, which is freed with it. Any other has a block of malloc by itself. */
 static void sizes_of_blocks_of_regions(void) {
     const struct {
@@ -334,6 +360,54 @@ static void blocks_of_another_copy(void) {
     MUST(in_use == before);
 }
 
+/* The other copy gives back the last block of a region that has a hole. What is cut then shares no bytes. */
+static void hole_of_an_empty_region(void) {
+    struct full first, hole, last, longer, next;
+    const long before = in_use;
+    make(&first, 200000, 8);
+    make(&hole, 300000, 8);
+    make(&last, 200000, 8);
+    rattle_dealloc(hole.at);
+    rattle_dealloc(first.at);
+    as_the_other_copy();
+    rattle_dealloc(last.at);
+    as_the_other_copy();
+    make(&longer, 900000, 8);
+    make(&next, 250000, 8);
+    MUST(holds(&longer, longer.size) && holds(&next, next.size));
+    rattle_dealloc(longer.at);
+    rattle_dealloc(next.at);
+    MUST(in_use == before);
+}
+
+static void knows_its_blocks(struct full of_parent[2]) {
+    struct full own;
+    make(&own, 100, 8);
+    bool is_right = is_of_this_process(own.at) && !is_of_this_process(of_parent[0].at) && !is_of_this_process(of_parent[1].at);
+    keep_for_parent(of_parent[0].at);
+    keep_for_parent(of_parent[1].at);
+    _exit(is_right && holds(&of_parent[0], 100) && holds(&of_parent[1], 100) ? 0 : 1);
+}
+
+/* A child has the number of its parent. Its own blocks are its own, and no others. */
+static void blocks_of_a_parent(void) {
+    struct full fulls[2];
+    int status = -1;
+    make(&fulls[0], 100, 8);
+    make(&fulls[1], 100, 8);
+    MUST(is_of_this_process(fulls[0].at));
+    const pid_t child = fork();
+    if (child == 0) {
+        knows_its_blocks(fulls);
+    }
+    MUST(waitpid(child, &status, 0) == child && status == 0 && is_of_this_process(fulls[0].at));
+    /* Of another copy's blocks the process's number says so. */
+    ((void **)fulls[0].at)[-3] = NULL;
+    MUST(is_of_this_process(fulls[0].at));
+    rattle_dealloc(fulls[0].at);
+    rattle_dealloc(fulls[1].at);
+}
+
 static void refused(void) {
     const size_t sizes[] = {1, 8, 5000, 1 << 20, 3 << 20};
     for (size_t from = 0; from < 5; from++) {
@@ -366,12 +440,15 @@ int main(void) {
     threads_at_once();
     regions_go_with_their_blocks();
     holes_are_cut_again();
+    blocks_longer_than_a_hole();
     sizes_of_blocks_of_regions();
     huge_pages_of_large_blocks();
     huge_pages_of_regions();
     full_regions();
     blocks_without_regions();
     blocks_of_another_copy();
+    hole_of_an_empty_region();
+    blocks_of_a_parent();
     refused();
     return outcome("blocks");
 }
