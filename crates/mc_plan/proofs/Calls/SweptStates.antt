@@ -6,7 +6,7 @@ use Rattle.std.specs.Option.{IsSome}
 use Rattle.mc_words.specs.declared.shape.Shape.{Shape}
 use Rattle.mc_words.specs.Shapes.{IsShape}
 use Rattle.mc_words.specs.Standing.{HasFree}
-use Rattle.mc_theory.specs.Acts.{IsAllowed, MayFrom}
+use Rattle.mc_theory.specs.Acts.{IsAllowed, IsAllowedByClock, MayFrom}
 use Rattle.mc_theory.specs.Effects.{after_act}
 use Rattle.mc_theory.specs.Lists.{Made, AreAllowed, after_all}
 use Rattle.mc_theory.specs.Phases.{Phase, Quiet}
@@ -160,28 +160,31 @@ swept_cleared V sh s items hand [] i sweeps found = absurd (cc)
 swept_cleared V sh s items hand (r ∷ rs) i sweeps found = last_cleared V sh s items hand r rs sweeps ∙ found
 
 -- ---- which acts of the hand are allowed
--- the hand reads its item, between two deeds and while no item is free
-is_allowed : (V : ℕ) (sh : Shape) (s : State V) (i : ℕ) → s.phase ≡ Quiet → (HasFree sh s.words → ⊥) → i ≡ s.hand → IsAllowed sh s (Hand i)
-is_allowed V sh s i quiet full at = subst (λ (p : Phase). MayFrom V sh s.words s.hand s.cleared p (Hand i)) (sym quiet) (full, at)
+-- the hand reads an item between two deeds
+is_allowed : (V : ℕ) (sh : Shape) (s : State V) (i : ℕ) → s.phase ≡ Quiet → i < sh.items → IsAllowed sh s (Hand i)
+is_allowed V sh s i quiet inside = subst (λ (p : Phase). MayFrom V sh s.words s.hand s.cleared p (Hand i)) (sym quiet) inside
 
--- each turn of a sweep is allowed while nothing runs and no item is free
-are_allowed : (V : ℕ) (sh : Shape) (s : State V) (hand : ℕ) (rs : List Swept) → s.phase ≡ Quiet → (HasFree sh s.words → ⊥) → s.hand ≡ hand → IsSweep sh.items hand rs → hand < sh.items → AreAllowed sh s (hand_acts rs)
-are_allowed V sh s hand [] quiet full at sweeps below = tt
-are_allowed V sh s hand (r ∷ rs) quiet full at sweeps below =
+-- each turn of a sweep is allowed while nothing runs
+are_allowed : (V : ℕ) (sh : Shape) (s : State V) (hand : ℕ) (rs : List Swept) → s.phase ≡ Quiet → IsSweep sh.items hand rs → hand < sh.items → AreAllowed sh s (hand_acts rs)
+are_allowed V sh s hand [] quiet sweeps below = tt
+are_allowed V sh s hand (r ∷ rs) quiet sweeps below =
     let first = sweep_first sh.items hand r rs sweeps below in (
-      is_allowed V sh s r.item quiet full (first ∙ sym at),
-      are_allowed V sh (after_act sh s (Hand r.item) r.bit) ((hand + 1) % sh.items) rs quiet full (ap (λ (i : ℕ). (i + 1) % sh.items) first) (sweep_tail sh.items hand r rs sweeps) (mod-lt (hand + 1) (omega arith)),
+      is_allowed V sh s r.item quiet (omega (arith, first, below)),
+      are_allowed V sh (after_act sh s (Hand r.item) r.bit) ((hand + 1) % sh.items) rs quiet (sweep_tail sh.items hand r rs sweeps) (mod-lt (hand + 1) (omega arith)),
     )
 
-pub sweep_allowed : (V : ℕ) (sh : Shape) (s : State V) (hand : ℕ) (rs : List Swept) → IsQuiet V sh s → (HasFree sh s.words → ⊥) → s.hand ≡ hand → IsSweep sh.items hand rs → hand < sh.items → AreAllowed sh s (hand_acts rs)
-sweep_allowed V sh s hand rs quiet full at sweeps below = are_allowed V sh s hand rs quiet.quiet full at sweeps below
+pub sweep_allowed : (V : ℕ) (sh : Shape) (s : State V) (hand : ℕ) (rs : List Swept) → IsQuiet V sh s → IsSweep sh.items hand rs → hand < sh.items → AreAllowed sh s (hand_acts rs)
+sweep_allowed V sh s hand rs quiet sweeps below = are_allowed V sh s hand rs quiet.quiet sweeps below
 
--- the next act of the hand is allowed too
+-- the next act of the hand is allowed too, and keeps CLOCK's order while no item is free
 pub hand_next : (V : ℕ) (sh : Shape) (s : State V) (hand : ℕ) (rs : List Swept) (i : ℕ) → IsQuiet V sh s → (HasFree sh s.words → ⊥) → s.hand ≡ hand → IsSweep sh.items hand rs → hand < sh.items
-    → i ≡ (hand + length rs) % sh.items → IsAllowed sh (after_all sh s (hand_acts rs)) (Hand i)
+    → i ≡ (hand + length rs) % sh.items → IsAllowedByClock sh (after_all sh s (hand_acts rs)) (Hand i)
 hand_next V sh s hand rs i quiet full at sweeps below next =
     let still = swept_still V sh s rs in
-    is_allowed V sh (after_all sh s (hand_acts rs)) i (still.phase ∙ quiet.quiet) (λ free. full (subst (HasFree sh) still.words free)) (next ∙ sym (swept_hand V sh s hand rs at sweeps below))
+    let inside : i < sh.items = subst (λ (x : ℕ). x < sh.items) (sym next) (mod-lt (hand + length rs) (omega (arith, below))) in (
+      is_allowed V sh (after_all sh s (hand_acts rs)) i (still.phase ∙ quiet.quiet) inside,
+      (λ free. full (subst (HasFree sh) still.words free), next ∙ sym (swept_hand V sh s hand rs at sweeps below)),
+    )
 
 -- the hand leaves a quiet state quiet
 pub sweep_quiet : (V : ℕ) (sh : Shape) (s : State V) (rs : List Swept) → IsQuiet V sh s → IsShape sh → AreAllowed sh s (hand_acts rs) → IsQuiet V sh (after_all sh s (hand_acts rs))

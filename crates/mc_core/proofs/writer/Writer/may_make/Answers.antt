@@ -1,4 +1,4 @@
-use Rattle.mc_core.proofs.writer.Writer.allows.Goals as goal
+use Rattle.mc_core.proofs.writer.Writer.may_make.Goals as goal
 use Rattle.std.proofs.Common.{take, rules}
 use Rattle.mc_core.specs.Inside.Writers.{shape_of_writer, words_of_writer, payload_in}
 use Rattle.mc_core.specs.declared.progress.Progress.TheVariants as progress
