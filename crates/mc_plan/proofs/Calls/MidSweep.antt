@@ -35,7 +35,7 @@ module _ (V : ℕ) (b : Books) (waiting : Waiting V) (call : Call) (s : State V)
 
   -- the readings are allowed one after the other
   pub hands_may : AreAllowed (shape_of b.checked) s (hand_acts rs)
-  hands_may = sweep_allowed V (shape_of b.checked) s s.hand rs on.waits.known.quiet on.has.sweeps on.has.start
+  hands_may = sweep_allowed V (shape_of b.checked) s rs on.waits.known.quiet on.has.sweeps.searches
 
   -- the hand reads at most twice as many bits as there are items, round from its item
   pub hand_may : (i : ℕ) → next_item waiting.sweep ≡ Some i → IsAllowedByClock (shape_of b.checked) (state_after_sweep V (shape_of b.checked) s rs) (Hand i)

@@ -3,7 +3,7 @@ use Rattle.std.proofs.lemmas.Bool.{cases_lt}
 use Rattle.std.proofs.lemmas.List.{nil_from_length}
 use Rattle.std.specs.BinaryHeap.{heap_items}
 use Rattle.mc_search.proofs.TakenItems.{fresh_free, none_free, returned_free}
-use Rattle.mc_search.proofs.free.FreeItems.is_empty.Goals as goal
+use Rattle.mc_search.proofs.free.FreeList.is_empty.Goals as goal
 
 pub returns-then-self : goal.returns-then-self
 returns-then-self c =

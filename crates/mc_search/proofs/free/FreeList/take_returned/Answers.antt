@@ -1,6 +1,6 @@
 use Rattle.std.proofs.Common.{arith, refl}
 use Rattle.mc_search.proofs.TakenItems.{popped_kept, popped_free, popped_takes, popped_least}
-use Rattle.mc_search.proofs.free.FreeItems.take_returned.Goals as goal
+use Rattle.mc_search.proofs.free.FreeList.take_returned.Goals as goal
 
 pub returns-clause-kept : goal.returns-clause-kept
 returns-clause-kept c =

@@ -1,6 +1,6 @@
 use Rattle.std.proofs.Common.{arith}
 use Rattle.mc_search.proofs.TakenItems.{returned_below, returned_many}
-use Rattle.mc_search.proofs.free.FreeItems.used.Goals as goal
+use Rattle.mc_search.proofs.free.FreeList.used.Goals as goal
 
 pub overflow_sub-result : goal.overflow_sub-result
 overflow_sub-result c =

@@ -1,7 +1,7 @@
 use Rattle.std.proofs.Common.{arith, refl}
 use Rattle.std.proofs.lemmas.Bool.{false≢true}
 use Rattle.mc_search.proofs.TakenItems.{gives_room, given_kept, given_gives}
-use Rattle.mc_search.proofs.free.FreeItems.give.Goals as goal
+use Rattle.mc_search.proofs.free.FreeList.give.Goals as goal
 
 pub unreachable-requires : goal.unreachable-requires
 unreachable-requires c =

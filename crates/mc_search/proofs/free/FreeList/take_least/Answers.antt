@@ -2,7 +2,7 @@ use Rattle.std.proofs.Common.{arith, refl}
 use Rattle.std.proofs.lemmas.List.{nil_from_length}
 use Rattle.std.specs.BinaryHeap.{heap_items}
 use Rattle.mc_search.proofs.TakenItems.{fresh_free, fresh_takes}
-use Rattle.mc_search.proofs.free.FreeItems.take_least.Goals as goal
+use Rattle.mc_search.proofs.free.FreeList.take_least.Goals as goal
 
 pub returns-clause-free : goal.returns-clause-free
 returns-clause-free c = fresh_free c.args.self.now _ (omega arith) (omega (arith, c.requires.within, c.if-self.false))
