@@ -7,7 +7,7 @@ use Rattle.mc_words.specs.Checks.{shape_of}
 use Rattle.mc_words.specs.declared.checked.Checked.{Checked}
 use Rattle.mc_theory.specs.Lists.{Made, IsLawful, state_of}
 use Rattle.mc_words.specs.declared.shape.Shape.{Shape}
-use Rattle.mc_theory.specs.Acts.{MayFrom, IsAllowed}
+use Rattle.mc_theory.specs.Acts.{MayFrom, IsAllowed, IsAllowedByClock}
 use Rattle.mc_theory.specs.Effects.{phase_after, version_steps_after, after_act}
 use Rattle.mc_theory.specs.Inner.{StateHolds, StateCounted}
 use Rattle.mc_theory.specs.Phases.{Phase, Quiet, close_owed}
@@ -41,15 +41,15 @@ pub hand_of : {V : ℕ} (parts : Parts V) (seen : traces.Trace V) → StandFor {
 hand_of {V} parts seen s = subst (λ (y : State V). y.hand < (shape_of_parts {V = V} parts).items) (sym s.shows.state) (state_hand V (shape_of_parts {V = V} parts) seen.acts parts.writer.table.checked.sound)
 
 -- an allowed act is on the bit of an item
-pub reads_in : (V : ℕ) (sh : Shape) (w : List ℕ) (hand : ℕ) (cleared : Option ℕ) (p : Phase) (a : Act) → hand < sh.items → MayFrom V sh w hand cleared p a → ReadsIn sh.items a
-reads_in V sh w hand cleared Quiet (Hand i) l may = omega (arith, may.1, l)
-reads_in V sh w hand cleared Quiet (Mark i) l may = may
-reads_in V sh w hand cleared p (Open k d) l may = tt
-reads_in V sh w hand cleared p (Slot q x) l may = tt
-reads_in V sh w hand cleared p (Item i j x) l may = tt
-reads_in V sh w hand cleared p Moment l may = tt
-reads_in V sh w hand cleared p Close l may = tt
-reads_in V sh w hand cleared _ _ l may = absurd may
+pub reads_in : (V : ℕ) (sh : Shape) (w : List ℕ) (hand : ℕ) (cleared : Option ℕ) (p : Phase) (a : Act) → MayFrom V sh w hand cleared p a → ReadsIn sh.items a
+reads_in V sh w hand cleared Quiet (Hand i) may = may
+reads_in V sh w hand cleared Quiet (Mark i) may = may
+reads_in V sh w hand cleared p (Open k d) may = tt
+reads_in V sh w hand cleared p (Slot q x) may = tt
+reads_in V sh w hand cleared p (Item i j x) may = tt
+reads_in V sh w hand cleared p Moment may = tt
+reads_in V sh w hand cleared p Close may = tt
+reads_in V sh w hand cleared _ _ may = absurd may
 
 -- a result that is no error is a success
 pub ok_of : {A E : Type 0} (r : Result A E) (P : Type 0) → is_err r ≡ false → OnOk r P → P
@@ -99,14 +99,14 @@ stand_kept {V} old new seen s kept same = record {
 }
 
 -- an allowed moment is refused if the history has no room left
-pub memory_wanting : {V : ℕ} (old new : Parts V) (a : Act) → a ≡ Moment → IsAllowed (shape_of_parts {V = V} old) (state_in {V = V} old.writer) a → old.events < 2 ^ 64 - 1 → KeepsWriter {V = V} old.writer new.writer → view_of {V = V} new ≡ view_of {V = V} old → room_of {V = V} old.writer ≡ 0 →
+pub memory_wanting : {V : ℕ} (old new : Parts V) (a : Act) → a ≡ Moment → IsAllowedByClock (shape_of_parts {V = V} old) (state_in {V = V} old.writer) a → old.events < 2 ^ 64 - 1 → KeepsWriter {V = V} old.writer new.writer → view_of {V = V} new ≡ view_of {V = V} old → room_of {V = V} old.writer ≡ 0 →
     PartsRefuse {V = V} old new (Write a) unlawful.NoMemory
 memory_wanting {V} old new a is may within kept same none = record {
   kept = same;
   full = λ wanting. none;
   refused = λ seen s.
       let sh = shape_of_parts {V = V} old in
-      let allowed = subst (λ (b : Act). IsAllowed sh (state_of V sh seen.acts) b) is (subst (λ (y : State V). IsAllowed sh y a) s.shows.state may) in
+      let allowed = subst (λ (b : Act). IsAllowedByClock sh (state_of V sh seen.acts) b) is (subst (λ (y : State V). IsAllowedByClock sh y a) s.shows.state may) in
       subst (λ (b : Act). traces.RefusesEvent {V = V} sh seen (Write b) unlawful.NoMemory) (sym is) (allowed, (omega (arith, within, s.shows.events), tt));
   stays = λ seen s. stand_kept old new seen s kept same;
 }

@@ -1,7 +1,7 @@
 -- From the parts of a world to the world: it is as some events leave it.
 use Rattle.std.proofs.Common.{ℕ, Bool, true, false, ◌≡◌, ◌+◌, List, [], ◌∷◌, ◌++◌, refl, sym, ◌∙◌, ap, subst, inl, inr, arith}
 use Rattle.std.specs.Prelude.{All, Result, Ok, Err, IfOk, IfErr, OnOk}
-use Rattle.mc_theory.specs.Acts.{IsAllowed}
+use Rattle.mc_theory.specs.Acts.{IsAllowedByClock}
 use Rattle.mc_theory.specs.Lists.{state_of}
 use Rattle.mc_theory.specs.States.{State}
 use Rattle.mc_theory.specs.declared.act.Act.{Act}
@@ -80,7 +80,7 @@ counted_after {V} old new e (Ok out) reached made =
 counted_after old new e (Err why) reached made = made
 
 -- an act that is allowed and passes no limit is refused only without memory, and only if it counts a change
-refused_act : (V : ℕ) (sh : Shape) (w : Trace V) (a : Act) (why : Unlawful) → traces.RefusesEvent {V = V} sh w (Write a) why → IsAllowed sh (state_of V sh w.acts) a → IsWithin {V = V} sh w (Write a) → (why ≡ unlawful.NoMemory) × (a ≡ act.Moment)
+refused_act : (V : ℕ) (sh : Shape) (w : Trace V) (a : Act) (why : Unlawful) → traces.RefusesEvent {V = V} sh w (Write a) why → IsAllowedByClock sh (state_of V sh w.acts) a → IsWithin {V = V} sh w (Write a) → (why ≡ unlawful.NoMemory) × (a ≡ act.Moment)
 refused_act V sh w a unlawful.NotLawful h may within = absurd (h may)
 refused_act V sh w a unlawful.Limit h may within = absurd (h.1 within)
 refused_act V sh w act.Moment unlawful.NoMemory h may within = (refl, refl)
@@ -100,7 +100,7 @@ lawful_after {V} old new e (Err why) reached refused a is may =
     let sh = shape_of_parts {V = V} old in
     let shows = reached.stand.shows in
     let why_not = subst (λ (d : Event). traces.RefusesEvent {V = V} sh reached.seen d why) is (refused.refused reached.seen reached.stand) in
-    let allowed = subst (λ (s : State V). IsAllowed sh s a) shows.state may.0 in
+    let allowed = subst (λ (s : State V). IsAllowedByClock sh s a) shows.state may.0 in
     let has = subst (λ (s : State V). HasVersionSteps sh.limit s.version_steps a) shows.state may.1 in
     refused_act V sh reached.seen a why why_not allowed (omega (arith, may.2, shows.events), has)
 

@@ -2,7 +2,7 @@
 use Rattle.std.specs.Prelude.{ℕ, ◌≡◌, ◌-◌, ◌^◌, ◌<◌, ◌↔◌, List, ◌++◌, Option, Some, None, IsSome, slice_get, unwrap_or}
 use Rattle.mc_words.specs.declared.history.Reply.{Reply}
 use Rattle.mc_words.specs.declared.shape.Shape.{Shape}
-use Rattle.mc_theory.specs.Acts.{IsAllowed}
+use Rattle.mc_theory.specs.Acts.{IsAllowedByClock}
 use Rattle.mc_theory.specs.Effects.{after_act}
 use Rattle.mc_theory.specs.Lists.{IsLawful, state_of}
 use Rattle.mc_theory.specs.Lookups.{IsLookup}
@@ -48,7 +48,7 @@ pub record Shows {V : ℕ} (shown : WorldView V) (seen : traces.Trace V) : Type 
 
 -- the act is allowed now, and passes no limit
 abbrev pub MayAct : {V : ℕ} → WorldView V → Act → Type 0
-MayAct s a = IsAllowed s.shape s.state a × HasVersionSteps s.shape.limit s.state.version_steps a × (s.events < 2 ^ 64 - 1)
+MayAct s a = IsAllowedByClock s.shape s.state a × HasVersionSteps s.shape.limit s.state.version_steps a × (s.events < 2 ^ 64 - 1)
 
 -- the state of the writer after an event
 abbrev pub state_after : {V : ℕ} → WorldView V → Event → State V

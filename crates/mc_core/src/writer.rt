@@ -30,7 +30,7 @@ pub(crate) struct Writer<const V: usize> {
 }
 
 impl<const V: usize> Writer<V> {
-    ghost use Rattle.mc_theory.specs.Acts.{IsAllowed};
+    ghost use Rattle.mc_theory.specs.Acts.{IsAllowed, IsAllowedByClock};
     ghost use Rattle.std.specs.Prelude.{◌^◌, IfOk, OnOk, OnErr};
     ghost use Rattle.mc_words.specs.Checks.{shape_of};
     ghost use Rattle.mc_words.specs.Places.{IsWidth};
@@ -56,8 +56,17 @@ impl<const V: usize> Writer<V> {
         })
     }
 
-    /// Whether the act is allowed now.
+    /// Whether the act is allowed now, in CLOCK's order.
     pub(crate) fn allows(&self, act: Act) -> bool
+        requires holds { StateHolds (shape_of_writer {V = V} self.now) (state_in {V = V} self.now) }
+        requires used { UsedWell {V = V} self.now.table }
+        ensures { IsTrue result ↔ IsAllowedByClock (shape_of_writer {V = V} self.now) (state_in {V = V} self.now) act }
+    {
+        self.may_make(act) && self.keeps_clock(act)
+    }
+
+    /// Whether the act is allowed now, in whatever order the hand goes.
+    fn may_make(&self, act: Act) -> bool
         requires holds { StateHolds (shape_of_writer {V = V} self.now) (state_in {V = V} self.now) }
         requires used { UsedWell {V = V} self.now.table }
         ensures { IsTrue result ↔ IsAllowed (shape_of_writer {V = V} self.now) (state_in {V = V} self.now) act }

@@ -12,3 +12,4 @@ pub mod ActKinds
 pub mod EndOnce
 pub mod DueActs
 pub mod UsedItems
+pub mod Evictions

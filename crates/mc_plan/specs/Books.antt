@@ -12,7 +12,7 @@ use Rattle.mc_plan.specs.declared.answer.Answer.{Answer}
 use Rattle.mc_plan.specs.declared.books.Books.{Books}
 use Rattle.mc_search.specs.declared.room.Room.{Room}
 use Rattle.mc_plan.specs.declared.waiting.Waiting.{Waiting}
-use Rattle.mc_search.specs.Free.{IsConsistent, IsFreeIn}
+use Rattle.mc_search.specs.Items.{IsConsistent, IsFreeIn}
 use Rattle.mc_plan.specs.Laws.{IsValue}
 use Rattle.mc_plan.specs.Making.{IsQuiet, as_made, state_after_acts}
 use Rattle.mc_search.specs.Paths.{IsLeastPath, path_of_room}
@@ -29,7 +29,7 @@ pub record AreBooksOf (V : ℕ) (books : Books) (s : State V) : Type 0 where
   pub limit : s.version_steps ≤ (shape_of books.checked).limit
   pub finder : books.far.value.finder ≡ shape_of books.checked
   pub kept : IsConsistent books.free
-  pub items : books.free.items ≡ (shape_of books.checked).items
+  pub items : books.free.list.items ≡ (shape_of books.checked).items
   pub free : (i : ℕ) → IsFreeIn books.free i → IsFree (shape_of books.checked) s.words i
   pub named : (i : ℕ) → i < (shape_of books.checked).items → (IsFreeIn books.free i → ⊥) → (q : ℕ) × NamesItem (shape_of books.checked) s.words q i
 

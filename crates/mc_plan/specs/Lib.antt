@@ -13,4 +13,5 @@ pub mod Clerks
 pub mod Ends
 pub mod Loads
 pub mod Due
+pub mod Evicting
 pub mod Inside

@@ -6,6 +6,7 @@ ghost use Rattle.mc_words.specs.KeyParts.{HasParts};
 ghost use Rattle.mc_words.specs.Places.{IsWidth};
 ghost use Rattle.mc_theory.specs.States.{State, opening};
 
+mod evicting;
 mod inserting;
 
 use crate::answer::{IfError, PutError, Spent};

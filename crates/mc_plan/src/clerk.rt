@@ -2,7 +2,7 @@
 ghost use Rattle.std.specs.Prelude.{◌≡◌, ◌+◌, ◌*◌, ◌<◌, ◌≤◌, ◌++◌, [], ◌∷◌, ◌↔◌, List, Some, None, IfOk, IfSome, IfNone, IsSome};
 ghost use Rattle.mc_words.specs.Checks.{shape_of};
 ghost use Rattle.mc_words.specs.Places.{IsWidth};
-ghost use Rattle.mc_theory.specs.Acts.{IsAllowed};
+ghost use Rattle.mc_theory.specs.Acts.{IsAllowedByClock};
 ghost use Rattle.mc_theory.specs.Lists.{Made, after_all};
 ghost use Rattle.mc_theory.specs.States.{State, opening};
 ghost use Rattle.mc_theory.specs.Traces.{HasVersionSteps};
@@ -73,7 +73,10 @@ impl<const V: usize> Clerk<V> {
         self.made = 0;
         self.stage = match start_put::<V, P>(&mut self.books, peek, &mut self.plan, key, &value) {
             Start::Planned(answer) => Stage::Planned(Answer::Put(answer)),
-            Start::Waits(room) => Stage::Sweeping(Waiting::new(&self.books, key, value, room)),
+            Start::Waits(room) => {
+                let mixed = self.books.checked.parts(key).mixed;
+                Stage::Sweeping(Waiting::new(&self.books, key, mixed, value, room))
+            }
         };
     }
 
@@ -132,7 +135,7 @@ impl<const V: usize> Clerk<V> {
     pub fn next(&self) -> Option<Act>
         ensures value { result ≡ next_act self.now }
         ensures allowed { (call : Call) (s : State V) (acts : List Made) → IsOn V self.now call s acts →
-            IfSome result (λ a. IsAllowed (shape_of_clerk self.now) (after_all (shape_of_clerk self.now) s acts) a ×
+            IfSome result (λ a. IsAllowedByClock (shape_of_clerk self.now) (after_all (shape_of_clerk self.now) s acts) a ×
             HasVersionSteps (shape_of_clerk self.now).limit
             (after_all (shape_of_clerk self.now) s acts).version_steps a) }
     {

@@ -126,7 +126,7 @@ fn start_insert<const V: usize, P: Peek>(
     let Some(room) = books.room::<V, P>(peek, parts) else {
         return Start::Planned(Err(PutError::NoPath));
     };
-    match books.insert::<V, P>(peek, room, at) {
+    match books.insert::<V, P>(peek, parts.mixed, room, at) {
         Some(storing) => {
             add_storing(books, plan, key, value, storing);
             Start::Planned(Ok(books.told(storing, None)))

@@ -9,7 +9,7 @@ use Rattle.mc_words.specs.declared.history.Reply.TheVariants.{Found, Absent}
 use Rattle.mc_words.specs.declared.shape.Shape.{Shape}
 use Rattle.mc_theory.proofs.Lists.Fronts.{after_all-append, state_push}
 use Rattle.mc_core.proofs.WorldSteps.{reached_append}
-use Rattle.mc_theory.specs.Acts.{IsAllowed, MayFrom}
+use Rattle.mc_theory.specs.Acts.{IsAllowed, IsAllowedByClock, MayFrom}
 use Rattle.mc_theory.specs.Effects.{after_act}
 use Rattle.mc_theory.specs.Lists.{Made, after_all, state_of}
 use Rattle.mc_theory.specs.Phases.{Phase, Quiet, deed_key}
@@ -113,12 +113,12 @@ call_is_over V old new most p w call world clerk knows =
 -- ---- what a call needs of the world
 -- the clerk's next act may be made
 pub may_act : (V : ℕ) (player : Player V) (most : ℕ) (p : Pending V) (w : Trace V) (a : Act) → IsInCall V player most p w
-    → IsAllowed (clerks.shape_of_clerk player.clerk) (after_all (clerks.shape_of_clerk player.clerk) p.from p.acts) a → HasVersionSteps (clerks.shape_of_clerk player.clerk).limit (after_all (clerks.shape_of_clerk player.clerk) p.from p.acts).version_steps a
+    → IsAllowedByClock (clerks.shape_of_clerk player.clerk) (after_all (clerks.shape_of_clerk player.clerk) p.from p.acts) a → HasVersionSteps (clerks.shape_of_clerk player.clerk).limit (after_all (clerks.shape_of_clerk player.clerk) p.from p.acts).version_steps a
     → most < 2 ^ 64 - 1 → MayAct {V = V} player.world a
 may_act V player most p w a call allowed changes room =
     let sh = shape_of_player player in
     let now : after_all sh p.from p.acts ≡ player.world.state = call.now ∙ sym call.at.world.state in
-    let allowed_now = subst (λ (s : State V). IsAllowed sh s a) now (subst (λ (y : Shape). IsAllowed y (after_all y p.from p.acts) a) call.at.shape allowed) in
+    let allowed_now = subst (λ (s : State V). IsAllowedByClock sh s a) now (subst (λ (y : Shape). IsAllowedByClock y (after_all y p.from p.acts) a) call.at.shape allowed) in
     let changes_now = subst (λ (s : State V). HasVersionSteps sh.limit s.version_steps a) now (subst (λ (y : Shape). HasVersionSteps y.limit (after_all y p.from p.acts).version_steps a) call.at.shape changes) in
     (allowed_now, changes_now, omega (arith, call.at.world.events, call.at.events, room))
 
@@ -141,7 +141,7 @@ may_mark V player most i w idle room inside =
     let s : State V = state_of V sh w.acts in
     let quiet : s.phase ≡ Quiet = idle.knows.books.quiet.quiet in
     let allowed : IsAllowed sh s (Mark i) = subst (λ (p : Phase). MayFrom V sh s.words s.hand s.cleared p (Mark i)) (sym quiet) inside in
-    (subst (λ (y : State V). IsAllowed sh y (Mark i)) (sym idle.at.world.state) allowed, tt, omega (arith, idle.at.world.events, idle.at.events, room))
+    ((subst (λ (y : State V). IsAllowed sh y (Mark i)) (sym idle.at.world.state) allowed, tt), tt, omega (arith, idle.at.world.events, idle.at.events, room))
 
 -- and it changes nothing else
 pub marked : (V : ℕ) (old new : Player V) (most i : ℕ) (w x : Trace V) → IsIdle V old most w → shape_of_player new ≡ shape_of_player old → new.clerk ≡ old.clerk → Shows {V = V} new.world x

@@ -8,3 +8,6 @@ pub mod SweepReadings
 pub mod CutChains
 pub mod TakenItems
 pub mod EntryLists
+pub mod ItemBits
+pub mod Pickings
+pub mod TiedItems

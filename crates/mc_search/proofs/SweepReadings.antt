@@ -5,7 +5,7 @@ use Rattle.std.proofs.lemmas.Bool.{cases_lt, eqb-false, false≢true}
 use Rattle.std.proofs.lemmas.List.{get_or_push, get_or_append_left, length_push}
 use Rattle.std.specs.Option.{is_some}
 use Rattle.mc_search.specs.declared.sweep.Sweep.{Sweep}
-use Rattle.mc_search.specs.Sweeps.{Swept, HasSwept, IsSweep, victim_of, next_from, next_item}
+use Rattle.mc_search.specs.Sweeps.{Swept, HasSwept, IsSearch, IsSweep, victim_of, next_from, next_item}
 
 -- what a next item says of the sweep
 pub next_parts : (v : Option ℕ) (left hand i : ℕ) → next_from v left hand ≡ Some i → (v ≡ None) × (0 < left) × (i ≡ hand)
@@ -33,21 +33,36 @@ victim_push (x ∷ rs) r none =
     ap (λ b. cond b (Some x.item) (victim_of (rs ++ r ∷ []))) first.0 ∙ victim_push rs r first.1
 
 -- one reading more, while there is no victim
+-- of whatever item it is
+pub search_push : (items : ℕ) (rs : List Swept) (r : Swept) → IsSearch items rs → victim_of rs ≡ None → length rs < 2 * items → r.item < items → IsSearch items (rs ++ r ∷ [])
+search_push items rs r searches none below inside =
+    let many = length_push rs r in
+    record {
+      inside = λ n d l. elim (cases_lt n (length rs)) [
+        | inl before ↦ subst (λ (x : Swept). x.item < items) (sym (get_or_append_left rs (r ∷ []) d n before)) (searches.inside n d before)
+        | inr past ↦
+            let last : length rs ≡ n = omega arith in
+            subst (λ (x : Swept). x.item < items) (sym (get_or_push rs r d n last)) inside
+      ];
+      most = omega arith;
+      marked = λ n d l e.
+          let before : n < length rs = omega arith in
+          all_marked rs none n d before (sym (ap (λ (x : Swept). x.bit) (get_or_append_left rs (r ∷ []) d n before)) ∙ e);
+    }
+
+-- of the item at the hand
 pub sweep_push : (items hand : ℕ) (rs : List Swept) (bit : ℕ) → IsSweep items hand rs → victim_of rs ≡ None → length rs < 2 * items → IsSweep items hand (rs ++ record { item = (hand + length rs) % items; bit = bit } ∷ [])
 sweep_push items hand rs bit sweeps none below =
     let r : Swept = record { item = (hand + length rs) % items; bit = bit } in
     let many = length_push rs r in
     record {
+      searches = search_push items rs r sweeps.searches none below (mod-lt (hand + length rs) (omega (arith, below)));
       round = λ n d l. elim (cases_lt n (length rs)) [
         | inl before ↦ ap (λ (x : Swept). x.item) (get_or_append_left rs (r ∷ []) d n before) ∙ sweeps.round n d before
         | inr past ↦
             let last : length rs ≡ n = omega arith in
             ap (λ (x : Swept). x.item) (get_or_push rs r d n last) ∙ ap (λ (m : ℕ). (hand + m) % items) last
       ];
-      most = omega arith;
-      marked = λ n d l e.
-          let before : n < length rs = omega arith in
-          all_marked rs none n d before (sym (ap (λ (x : Swept). x.bit) (get_or_append_left rs (r ∷ []) d n before)) ∙ e);
     }
 
 pub swept_next : (sweep new : Sweep) (items hand : ℕ) (rs : List Swept) (i bit : ℕ) → HasSwept sweep items hand rs → next_item sweep ≡ Some i

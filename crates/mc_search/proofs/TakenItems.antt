@@ -13,8 +13,8 @@ use Rattle.std.specs.List.Sorted.{IsPermutation}
 use Rattle.std.specs.Ordering.{nat_cmp}
 use Rattle.std.specs.declared.cmp.Ordering.{Ordering}
 use Rattle.std.specs.declared.cmp.Reverse.{Reverse}
-use Rattle.mc_search.specs.declared.free.FreeItems.{FreeItems}
-use Rattle.mc_search.specs.Free.{returned_items, IsFreeIn, Fresh, Returned, IsConsistent, TakesFree, GivesBack}
+use Rattle.mc_search.specs.declared.free.FreeList.{FreeList}
+use Rattle.mc_search.specs.Free.{returned_items, IsInList, Fresh, Returned, IsFreeList, TakesListed, GivesListed}
 
 abbrev numbers : List (Reverse ℕ) → List ℕ
 numbers xs = map (λ (r : Reverse ℕ). r.0) xs
@@ -52,7 +52,7 @@ bounded x [] b = tt
 bounded x (y ∷ ys) b = (grind arith, bounded x ys b.1)
 
 -- ---- the least item is taken from those that were given back
-module _ (f g : FreeItems) (x : Reverse ℕ) (kept : IsConsistent f) (items : g.items ≡ f.items) (fresh : g.fresh ≡ f.fresh) (perm : IsPermutation (heap_items f.returned) (x ∷ heap_items g.returned)) where
+module _ (f g : FreeList) (x : Reverse ℕ) (kept : IsFreeList f) (items : g.items ≡ f.items) (fresh : g.fresh ≡ f.fresh) (perm : IsPermutation (heap_items f.returned) (x ∷ heap_items g.returned)) where
   perm_of : IsPermutation (returned_items f) (x.0 ∷ returned_items g)
   perm_of = IsPermutation-map (λ (r : Reverse ℕ). r.0) (heap_items f.returned) (x ∷ heap_items g.returned) perm
 
@@ -65,7 +65,7 @@ module _ (f g : FreeItems) (x : Reverse ℕ) (kept : IsConsistent f) (items : g.
   was_below : x.0 < f.fresh
   was_below = below_of 0 0 (omega arith)
 
-  pub popped_kept : IsHeap order (heap_items g.returned) → g.items ≤ heap_capacity g.returned → IsConsistent g
+  pub popped_kept : IsHeap order (heap_items g.returned) → g.items ≤ heap_capacity g.returned → IsFreeList g
   popped_kept ordered room = record {
     ordered = ordered;
     within = omega (arith, kept.within);
@@ -74,25 +74,25 @@ module _ (f g : FreeItems) (x : Reverse ℕ) (kept : IsConsistent f) (items : g.
     room = room;
   }
 
-  pub popped_free : IsFreeIn f x.0
+  pub popped_free : IsInList f x.0
   popped_free = Returned (Contains-permutation (x.0 ∷ returned_items g) (returned_items f) x.0 (IsPermutation-sym _ _ perm_of) (0, omega arith, refl))
 
-  still : (j : ℕ) → IsFreeIn g j → IsFreeIn f j
+  still : (j : ℕ) → IsInList g j → IsInList f j
   still j (Fresh above l) = Fresh (omega arith) (omega arith)
   still j (Returned c) = Returned (Contains-permutation (x.0 ∷ returned_items g) (returned_items f) j (IsPermutation-sym _ _ perm_of) (Contains-append_right (x.0 ∷ []) (returned_items g) j c))
 
-  gone : IsFreeIn g x.0 → ⊥
+  gone : IsInList g x.0 → ⊥
   gone (Fresh above l) = let b = was_below in absurd (omega arith)
   gone (Returned c) = not_again x.0 (returned_items g) distinct_of c
 
-  left : (j : ℕ) → j ≢ x.0 → IsFreeIn f j → IsFreeIn g j
+  left : (j : ℕ) → j ≢ x.0 → IsInList f j → IsInList g j
   left j ne (Fresh above l) = Fresh (omega arith) (omega arith)
   left j ne (Returned c) = Returned (one_of x.0 (returned_items g) j (Contains-permutation (returned_items f) (x.0 ∷ returned_items g) j perm_of c) ne)
 
-  pub popped_takes : TakesFree f g x.0
+  pub popped_takes : TakesListed f g x.0
   popped_takes = record { taken = gone; free = still; others = left }
 
-  pub popped_least : IsUpperBound order x (heap_items f.returned) → (j : ℕ) → IsFreeIn f j → x.0 ≤ j
+  pub popped_least : IsUpperBound order x (heap_items f.returned) → (j : ℕ) → IsInList f j → x.0 ≤ j
   popped_least top j (Fresh above l) = let b = was_below in omega arith
   popped_least top j (Returned c) = All-contains (λ i. x.0 ≤ i) (returned_items f) j (All-from_recursion (λ i. x.0 ≤ i) (returned_items f) (bounded x (heap_items f.returned) top)) c
 
@@ -101,33 +101,33 @@ absent_from_none : (j : ℕ) (ns : List ℕ) → ns ≡ [] → Contains ns j →
 absent_from_none j ns e c = let l : c.0 < length ns = c.1 in omega (arith, ap length e, l)
 
 -- ---- nothing was given back, and the first fresh item is taken
-module _ (f g : FreeItems) (kept : IsConsistent f) (items : g.items ≡ f.items) (fresh : g.fresh ≡ f.fresh + 1) (same : heap_items g.returned ≡ heap_items f.returned) (none : heap_items f.returned ≡ []) (some : f.fresh < f.items) where
+module _ (f g : FreeList) (kept : IsFreeList f) (items : g.items ≡ f.items) (fresh : g.fresh ≡ f.fresh + 1) (same : heap_items g.returned ≡ heap_items f.returned) (none : heap_items f.returned ≡ []) (some : f.fresh < f.items) where
   nothing_back : (j : ℕ) → Contains (returned_items f) j → ⊥
   nothing_back j = absent_from_none j (returned_items f) (ap numbers none)
 
   nothing_now : (j : ℕ) → Contains (returned_items g) j → ⊥
   nothing_now j = absent_from_none j (returned_items g) (ap numbers (same ∙ none))
 
-  fresh_gone : IsFreeIn g f.fresh → ⊥
+  fresh_gone : IsInList g f.fresh → ⊥
   fresh_gone (Fresh above l) = absurd (omega arith)
   fresh_gone (Returned c) = nothing_now f.fresh c
 
-  fresh_still : (j : ℕ) → IsFreeIn g j → IsFreeIn f j
+  fresh_still : (j : ℕ) → IsInList g j → IsInList f j
   fresh_still j (Fresh above l) = Fresh (omega arith) (omega arith)
   fresh_still j (Returned c) = absurd (nothing_now j c)
 
-  fresh_left : (j : ℕ) → j ≢ f.fresh → IsFreeIn f j → IsFreeIn g j
+  fresh_left : (j : ℕ) → j ≢ f.fresh → IsInList f j → IsInList g j
   fresh_left j ne (Fresh above l) = Fresh (omega arith) (omega arith)
   fresh_left j ne (Returned c) = absurd (nothing_back j c)
 
-  pub fresh_takes : (i : ℕ) → i ≡ f.fresh → TakesFree f g i
-  fresh_takes i e = subst (λ (n : ℕ). TakesFree f g n) (sym e) (record { taken = fresh_gone; free = fresh_still; others = fresh_left })
+  pub fresh_takes : (i : ℕ) → i ≡ f.fresh → TakesListed f g i
+  fresh_takes i e = subst (λ (n : ℕ). TakesListed f g n) (sym e) (record { taken = fresh_gone; free = fresh_still; others = fresh_left })
 
-pub fresh_free : (f : FreeItems) (i : ℕ) → i ≡ f.fresh → f.fresh < f.items → IsFreeIn f i
+pub fresh_free : (f : FreeList) (i : ℕ) → i ≡ f.fresh → f.fresh < f.items → IsInList f i
 fresh_free f i e some = Fresh (omega arith) (omega arith)
 
 -- ---- whether an item is free
-pub none_free : (f : FreeItems) → f.items ≤ f.fresh → heap_items f.returned ≡ [] → (i : ℕ) → IsFreeIn f i → ⊥
+pub none_free : (f : FreeList) → f.items ≤ f.fresh → heap_items f.returned ≡ [] → (i : ℕ) → IsInList f i → ⊥
 none_free f full none i (Fresh above l) = absurd (omega arith)
 none_free f full none i (Returned c) = absent_from_none i (returned_items f) (ap numbers none) c
 
@@ -135,11 +135,11 @@ first_number : (rs : List (Reverse ℕ)) → 0 < length rs → (i : ℕ) × Cont
 first_number [] some = absurd (omega arith)
 first_number (r ∷ rs) some = (r.0, (0, omega arith, refl))
 
-pub returned_free : (f : FreeItems) → 0 < length (heap_items f.returned) → (i : ℕ) × IsFreeIn f i
+pub returned_free : (f : FreeList) → 0 < length (heap_items f.returned) → (i : ℕ) × IsInList f i
 returned_free f some = let first = first_number (heap_items f.returned) some in (first.0, Returned first.1)
 
 -- ---- an item is given back
-module _ (f : FreeItems) (item : ℕ) (kept : IsConsistent f) (in_items : item < f.items) (taken : IsFreeIn f item → ⊥) where
+module _ (f : FreeList) (item : ℕ) (kept : IsFreeList f) (in_items : item < f.items) (taken : IsInList f item → ⊥) where
   given_below : item < f.fresh
   given_below = elim (cases_lt item f.fresh) [ inl below ↦ below | inr above ↦ absurd (taken (Fresh (omega arith) in_items)) ]
 
@@ -155,11 +155,11 @@ module _ (f : FreeItems) (item : ℕ) (kept : IsConsistent f) (in_items : item <
       let many = length-le_from_distinct_below (item ∷ returned_items f) f.fresh given_distinct (λ q t. All-contains (λ i. i < f.fresh) (item ∷ returned_items f) q given_all (Contains-from_any (λ x y e. eqb-true x y e) q (item ∷ returned_items f) t)) in
       omega (arith, many, kept.within, kept.room, length-map (heap_items f.returned) (λ (r : Reverse ℕ). r.0))
 
-  module _ (g : FreeItems) (items : g.items ≡ f.items) (fresh : g.fresh ≡ f.fresh) (perm : IsPermutation (record { 0 = item } ∷ heap_items f.returned) (heap_items g.returned)) where
+  module _ (g : FreeList) (items : g.items ≡ f.items) (fresh : g.fresh ≡ f.fresh) (perm : IsPermutation (record { 0 = item } ∷ heap_items f.returned) (heap_items g.returned)) where
     given_perm : IsPermutation (item ∷ returned_items f) (returned_items g)
     given_perm = IsPermutation-map (λ (r : Reverse ℕ). r.0) (record { 0 = item } ∷ heap_items f.returned) (heap_items g.returned) perm
 
-    pub given_kept : IsHeap order (heap_items g.returned) → g.items ≤ heap_capacity g.returned → IsConsistent g
+    pub given_kept : IsHeap order (heap_items g.returned) → g.items ≤ heap_capacity g.returned → IsFreeList g
     given_kept ordered room = record {
       ordered = ordered;
       within = omega (arith, kept.within);
@@ -168,15 +168,15 @@ module _ (f : FreeItems) (item : ℕ) (kept : IsConsistent f) (in_items : item <
       room = room;
     }
 
-    stays : (j : ℕ) → IsFreeIn f j → IsFreeIn g j
+    stays : (j : ℕ) → IsInList f j → IsInList g j
     stays j (Fresh above l) = Fresh (omega arith) (omega arith)
     stays j (Returned c) = Returned (Contains-permutation (item ∷ returned_items f) (returned_items g) j given_perm (Contains-append_right (item ∷ []) (returned_items f) j c))
 
-    no_other : (j : ℕ) → j ≢ item → IsFreeIn g j → IsFreeIn f j
+    no_other : (j : ℕ) → j ≢ item → IsInList g j → IsInList f j
     no_other j ne (Fresh above l) = Fresh (omega arith) (omega arith)
     no_other j ne (Returned c) = Returned (one_of item (returned_items f) j (Contains-permutation (returned_items g) (item ∷ returned_items f) j (IsPermutation-sym _ _ given_perm) c) ne)
 
-    pub given_gives : GivesBack f g item
+    pub given_gives : GivesListed f g item
     given_gives = record {
       given = Returned (Contains-permutation (item ∷ returned_items f) (returned_items g) item given_perm (0, omega arith, refl));
       free = stays;
@@ -184,7 +184,7 @@ module _ (f : FreeItems) (item : ℕ) (kept : IsConsistent f) (in_items : item <
     }
 
 -- ---- a new list
-pub new_kept : (f : FreeItems) → IsHeap order (heap_items f.returned) → heap_items f.returned ≡ [] → f.fresh ≡ 0 → f.items ≤ heap_capacity f.returned → IsConsistent f
+pub new_kept : (f : FreeList) → IsHeap order (heap_items f.returned) → heap_items f.returned ≡ [] → f.fresh ≡ 0 → f.items ≤ heap_capacity f.returned → IsFreeList f
 unfolding IsDistinct
 new_kept f ordered none fresh room = record {
   ordered = ordered;
@@ -195,15 +195,15 @@ new_kept f ordered none fresh room = record {
 }
 
 -- a free item is one of the table
-pub free_below : (f : FreeItems) (i : ℕ) → IsConsistent f → IsFreeIn f i → i < f.items
+pub free_below : (f : FreeList) (i : ℕ) → IsFreeList f → IsInList f i → i < f.items
 free_below f i kept (Fresh above l) = l
 free_below f i kept (Returned c) = let b = All-contains (λ j. j < f.fresh) (returned_items f) i kept.below c in omega (arith, kept.within, b)
 
 -- ---- how many items are in use
 -- no more were given back than were taken
-pub returned_below : (f : FreeItems) → IsConsistent f → length (returned_items f) ≤ f.fresh
+pub returned_below : (f : FreeList) → IsFreeList f → length (returned_items f) ≤ f.fresh
 returned_below f kept =
     length-le_from_distinct_below (returned_items f) f.fresh kept.distinct (λ q t. All-contains (λ i. i < f.fresh) (returned_items f) q kept.below (Contains-from_any (λ x y e. eqb-true x y e) q (returned_items f) t))
 
-pub returned_many : (f : FreeItems) → length (returned_items f) ≡ length (heap_items f.returned)
+pub returned_many : (f : FreeList) → length (returned_items f) ≡ length (heap_items f.returned)
 returned_many f = length-map (heap_items f.returned) (λ (r : Reverse ℕ). r.0)

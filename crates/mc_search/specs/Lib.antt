@@ -6,3 +6,7 @@ pub mod Free
 pub mod Sweeps
 pub mod Inside
 pub mod Entries
+pub mod ItemSets
+pub mod Choices
+pub mod Picks
+pub mod Items

@@ -22,11 +22,16 @@ GoesRound items hand rs = (n : ℕ) (d : Swept) → n < length rs → (slice_ind
 abbrev pub AreMarked : List Swept → Type 0
 AreMarked rs = (n : ℕ) (d : Swept) → n + 1 < length rs → (slice_index_or rs n d).bit ≢ 0
 
--- the readings of a sweep from the hand on: at most twice as many as there are items
-pub record IsSweep (items hand : ℕ) (rs : List Swept) : Type 0 where
-  pub round : GoesRound items hand rs
+-- the readings of a search, in whatever order: each is of an item, and they are at most twice as many as there are items
+pub record IsSearch (items : ℕ) (rs : List Swept) : Type 0 where
+  pub inside : (n : ℕ) (d : Swept) → n < length rs → (slice_index_or rs n d).item < items
   pub most : length rs ≤ 2 * items
   pub marked : AreMarked rs
+
+-- the readings of a sweep, which is CLOCK's search: they go round from the hand on
+pub record IsSweep (items hand : ℕ) (rs : List Swept) : Type 0 where
+  pub searches : IsSearch items rs
+  pub round : GoesRound items hand rs
 
 -- the item whose bit was clear
 abbrev pub victim_of : List Swept → Option ℕ

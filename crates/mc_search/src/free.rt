@@ -7,7 +7,7 @@ use std::collections::BinaryHeap;
 
 /// The items that no slot names. Its memory is taken once.
 #[derive(Drop)]
-pub struct FreeItems {
+pub struct FreeList {
     items: u32,
     /// The items from this one on were never taken.
     fresh: u32,
@@ -15,18 +15,18 @@ pub struct FreeItems {
     returned: BinaryHeap<Reverse<u32>>,
 }
 
-impl FreeItems {
-    ghost use Rattle.mc_search.specs.Free.{IsConsistent, IsFreeIn, TakesFree, GivesBack, returned_items};
+impl FreeList {
+    ghost use Rattle.mc_search.specs.Free.{IsFreeList, IsInList, TakesListed, GivesListed, returned_items};
     ghost use Rattle.std.specs.BinaryHeap.{heap_len};
 
     /// All items of a table.
-    pub fn new(alloc: Global, items: u32) -> Result<FreeItems, AllocError>
-        ensures kept { IfOk result IsConsistent }
+    pub fn new(alloc: Global, items: u32) -> Result<FreeList, AllocError>
+        ensures kept { IfOk result IsFreeList }
         ensures items { IfOk result (λ f. f.items ≡ items) }
-        ensures all { IfOk result (λ f. (i : ℕ) → i < items → IsFreeIn f i) }
+        ensures all { IfOk result (λ f. (i : ℕ) → i < items → IsInList f i) }
     {
         let returned = BinaryHeap::with_capacity(alloc, items as usize)?;
-        Ok(FreeItems {
+        Ok(FreeList {
             items,
             fresh: 0,
             returned,
@@ -36,15 +36,15 @@ impl FreeItems {
     /// Whether no item is free.
     #[inline(always)]
     pub fn is_empty(&self) -> bool
-        requires { IsConsistent self.now }
-        ensures { IsTrue result ↔ ((i : ℕ) → IsFreeIn self.now i → ⊥) }
+        requires { IsFreeList self.now }
+        ensures { IsTrue result ↔ ((i : ℕ) → IsInList self.now i → ⊥) }
     {
         self.fresh == self.items && self.returned.is_empty()
     }
 
     /// How many items are not free.
     pub fn used(&self) -> usize
-        requires { IsConsistent self.now }
+        requires { IsFreeList self.now }
         ensures { result + length (returned_items self.now) ≡ self.now.fresh }
     {
         self.fresh as usize - self.returned.len()
@@ -53,13 +53,13 @@ impl FreeItems {
     // Takes the least of the items that were given back. It is a call of its own, as most tables give none back between two puts.
     #[inline(never)]
     fn take_returned(&mut self) -> u32
-        requires kept { IsConsistent self.old }
+        requires kept { IsFreeList self.old }
         requires some { 0 < heap_len self.old.returned }
-        ensures kept { IsConsistent self.new }
+        ensures kept { IsFreeList self.new }
         ensures items { self.new.items ≡ self.old.items }
-        ensures free { IsFreeIn self.old result }
-        ensures takes { TakesFree self.old self.new result }
-        ensures least { (j : ℕ) → IsFreeIn self.old j → result ≤ j }
+        ensures free { IsInList self.old result }
+        ensures takes { TakesListed self.old self.new result }
+        ensures least { (j : ℕ) → IsInList self.old j → result ≤ j }
     {
         let Some(item) = self.returned.pop() else {
             unreachable!();
@@ -70,14 +70,14 @@ impl FreeItems {
     /// Takes the least free item.
     #[inline(always)]
     pub fn take_least(&mut self) -> Option<u32>
-        requires { IsConsistent self.old }
-        ensures kept { IsConsistent self.new }
+        requires { IsFreeList self.old }
+        ensures kept { IsFreeList self.new }
         ensures items { self.new.items ≡ self.old.items }
-        ensures free { IfSome result (IsFreeIn self.old) }
-        ensures takes { IfSome result (TakesFree self.old self.new) }
-        ensures least { IfSome result (λ i. (j : ℕ) → IsFreeIn self.old j → i ≤ j) }
-        ensures none { IfNone result ((j : ℕ) → IsFreeIn self.old j → ⊥) }
-        ensures same { IfNone result ((j : ℕ) → IsFreeIn self.new j → ⊥) }
+        ensures free { IfSome result (IsInList self.old) }
+        ensures takes { IfSome result (TakesListed self.old self.new) }
+        ensures least { IfSome result (λ i. (j : ℕ) → IsInList self.old j → i ≤ j) }
+        ensures none { IfNone result ((j : ℕ) → IsInList self.old j → ⊥) }
+        ensures same { IfNone result ((j : ℕ) → IsInList self.new j → ⊥) }
     {
         if !self.returned.is_empty() {
             return Some(self.take_returned());
@@ -91,12 +91,12 @@ impl FreeItems {
 
     /// Gives an item back. Condition: it is one of the items, and isn't free.
     pub fn give(&mut self, item: u32)
-        requires kept { IsConsistent self.old }
+        requires kept { IsFreeList self.old }
         requires in_items { item < self.old.items }
-        requires taken { IsFreeIn self.old item → ⊥ }
-        ensures kept { IsConsistent self.new }
+        requires taken { IsInList self.old item → ⊥ }
+        ensures kept { IsFreeList self.new }
         ensures items { self.new.items ≡ self.old.items }
-        ensures gives { GivesBack self.old self.new item }
+        ensures gives { GivesListed self.old self.new item }
     {
         match self.returned.push(Reverse(item)) {
             Ok(()) => {}

@@ -1,7 +1,8 @@
 //! Where a key is, and how to make room for one more.
 //!
 //! `find` gives a key's slot and item, and a `Finder` a least path of displacements to an empty slot, breadth first. A
-//! `Sweep` is CLOCK's hand on its way round the items, and `FreeItems` keeps those that no slot names. The words of the
+//! `Sweep` is CLOCK's hand on its way round the items, and `FreeItems` keeps those that no slot names. A `Choice` may keep
+//! the others, each of them new or proven, and a `Pick` is its search for one that gives way. No cache has a choice yet. The words of the
 //! table are read through `Peek`, so the same code serves a list of words, a world and shared words.
 //!
 //! ```text
@@ -13,11 +14,15 @@
 #![tactic(auto)]
 
 mod bucket;
+mod choice;
 mod finder;
 mod finding;
 mod free;
+mod item_set;
+mod items;
 mod listed;
 mod path;
+mod pick;
 mod queue;
 mod reading;
 mod room;
@@ -26,13 +31,15 @@ mod sweep;
 mod word;
 
 pub use bucket::{is_large, touch_bucket};
+pub use choice::Choice;
 pub use finder::Finder;
 pub use finding::{find, find_by, place_of};
-pub use free::FreeItems;
+pub use items::FreeItems;
 pub use listed::entries;
 pub use mc_theory::Peek;
 pub use mc_words::NoMemory;
 pub use path::Path;
+pub use pick::Pick;
 pub use reading::{Held, held_at, read};
 pub use room::{OneMove, Room, find_hole, find_move};
 pub use sweep::Sweep;

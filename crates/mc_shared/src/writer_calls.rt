@@ -2,7 +2,7 @@
 ghost use Rattle.std.specs.Prelude.{◌≡◌, ◌^◌, ◌<◌, slice_index};
 ghost use Rattle.mc_words.specs.KeyParts.{HasParts};
 ghost use Rattle.mc_words.specs.Places.{IsWidth, item_place, word_count};
-ghost use Rattle.mc_theory.specs.Acts.{IsAllowed};
+ghost use Rattle.mc_theory.specs.Acts.{IsAllowed, IsAllowedByClock};
 ghost use Rattle.mc_theory.specs.Lists.{state_of};
 ghost use Rattle.mc_theory.specs.Traces.{HasVersionSteps};
 ghost use Rattle.mc_theory.specs.declared.act.Act.TheVariants.{Open, Slot, Item, Moment, Close, Hand, Mark};
@@ -165,7 +165,7 @@ pub fn set_mark_unless_set<const V: usize>(cells: &Cells<V>, writer: &mut Writer
     set_mark_unless_set_as_writer::<Brand>(&cells.ruled, &mut writer.seat, i, place, bit);
 }
 
-/// Reads the recency bit of the item at the hand, and clears it: one `fetch_and`.
+/// Reads the recency bit of an item, and clears it: one `fetch_and`.
 /// Condition: the seat is that of these words, and the act is allowed now.
 pub fn turn_hand<const V: usize>(cells: &Cells<V>, writer: &mut WriterSeat, i: u32) -> u64
     requires of { writer.old.of ≡ cells.now }
@@ -216,10 +216,11 @@ fn running_deed<const V: usize>(cells: &Cells<V>, writer: &mut WriterSeat) -> Ru
 
 /// Makes one act. Returns the bit that the hand read, or 0. A close first looks for the version that is odd: who makes many deeds calls
 /// `open_deed` and `close_deed`.
-/// Condition: the seat is that of these words, the act is allowed now, and an opening leaves room for its close within the limit.
+/// Condition: the seat is that of these words, the act is allowed now and keeps CLOCK's order, and an opening leaves room for its close within
+/// the limit.
 pub fn perform<const V: usize>(cells: &Cells<V>, writer: &mut WriterSeat, act: Act) -> u64
     requires of { writer.old.of ≡ cells.now }
-    requires allowed { IsAllowed cells.now.layout.shape (state_of V cells.now.layout.shape writer.old.acts) act }
+    requires allowed { IsAllowedByClock cells.now.layout.shape (state_of V cells.now.layout.shape writer.old.acts) act }
     requires limit { HasVersionSteps cells.now.layout.shape.limit (state_of V cells.now.layout.shape writer.old.acts).version_steps act }
     ensures acted { HasActed writer.old writer.new act result }
     ensures bit { IsStored act → result ≡ 0 }

@@ -26,7 +26,7 @@ IsStampAt V w j x = j ≡ payload V → x ≡ moment w + 1
 -- which act may come next in each phase
 abbrev pub MayFrom : ℕ → Shape → List ℕ → ℕ → Option ℕ → Phase → Act → Type 0
 MayFrom V sh w hand cleared Quiet (Open k d) = (k < 2 ^ 64) × MayOpen V sh w cleared k d
-MayFrom V sh w hand cleared Quiet (Hand i) = (HasFree sh w → ⊥) × (i ≡ hand)
+MayFrom V sh w hand cleared Quiet (Hand i) = i < sh.items
 MayFrom V sh w hand cleared Quiet (Mark i) = i < sh.items
 MayFrom V sh w hand cleared (Filling k) (Item i j x) = (i < sh.items) × IsFree sh w i × (j ≡ 0) × (x ≡ k)
 MayFrom V sh w hand cleared (Keyed k i xs) (Item g j x) = (g ≡ i) × (j ≡ length xs + 1) × (j ≤ payload V) × (x < 2 ^ 64) × IsStampAt V w j x
@@ -44,3 +44,12 @@ MayFrom V sh w hand cleared _ _ = ⊥
 -- the act is allowed in the state
 abbrev pub IsAllowed : {V : ℕ} → Shape → State V → Act → Type 0
 IsAllowed {V} sh s a = MayFrom V sh s.words s.hand s.cleared s.phase a
+
+-- CLOCK's order: the hand turns only while no item is free, and goes round the items one after the other
+abbrev pub KeepsClock : {V : ℕ} → Shape → State V → Act → Type 0
+KeepsClock sh s (Hand i) = (HasFree sh s.words → ⊥) × (i ≡ s.hand)
+KeepsClock sh s _ = Unit {0}
+
+-- the act is allowed in the state, and keeps CLOCK's order
+abbrev pub IsAllowedByClock : {V : ℕ} → Shape → State V → Act → Type 0
+IsAllowedByClock sh s a = IsAllowed sh s a × KeepsClock sh s a

@@ -4,7 +4,7 @@ use Rattle.mc_words.specs.History.{IsTrueAnswer}
 use Rattle.mc_words.specs.Shapes.{IsShape}
 use Rattle.mc_words.specs.declared.history.Reply.{Reply}
 use Rattle.mc_words.specs.declared.shape.Shape.{Shape}
-use Rattle.mc_theory.specs.Acts.{IsAllowed}
+use Rattle.mc_theory.specs.Acts.{IsAllowedByClock}
 use Rattle.mc_theory.specs.Lists.{Made, IsLawful, state_of, front}
 use Rattle.mc_theory.specs.Lookups.{IsLookup}
 use Rattle.mc_theory.specs.Plain.{IsBetween, events_made}
@@ -71,7 +71,7 @@ given_of bit _ = stepped.Nothing
 
 -- the event is lawful, whatever was counted
 abbrev pub IsLawfulNow : {V : ℕ} → Shape → Trace V → Event → Type 0
-IsLawfulNow {V} sh w (Write a) = IsAllowed sh (state_of V sh w.acts) a
+IsLawfulNow {V} sh w (Write a) = IsAllowedByClock sh (state_of V sh w.acts) a
 IsLawfulNow sh w (Begin r k) = (slice_get w.readers r ≡ Some None) × (k < 2 ^ 64)
 IsLawfulNow sh w (Read r) = (run : OpenLookup) × (slice_get w.readers r ≡ Some (Some run))
 
@@ -87,7 +87,7 @@ IsWithin sh w _ = w.events < 2 ^ 64 - 1
 
 -- why an event is refused
 abbrev pub RefusesEvent : {V : ℕ} → Shape → Trace V → Event → Unlawful → Type 0
-RefusesEvent {V} sh w (Write a) unlawful.NotLawful = IsAllowed sh (state_of V sh w.acts) a → ⊥
+RefusesEvent {V} sh w (Write a) unlawful.NotLawful = IsAllowedByClock sh (state_of V sh w.acts) a → ⊥
 RefusesEvent sh w (Read r) unlawful.NotLawful = slice_get w.readers r ≡ Some None
 RefusesEvent sh w (Begin r k) unlawful.NoReader = length w.readers ≤ r
 RefusesEvent sh w (Read r) unlawful.NoReader = length w.readers ≤ r
@@ -135,7 +135,7 @@ ContinuesRead V sh w r run reading x =
 -- the event leads from one trace to the other
 abbrev pub Steps : (V : ℕ) → Shape → Trace V → Event → Trace V → Type 0
 Steps V sh w (Write a) x =
-    IsAllowed sh (state_of V sh w.acts) a × IsWithin sh w (Write a) ×
+    IsAllowedByClock sh (state_of V sh w.acts) a × IsWithin sh w (Write a) ×
     (x ≡ record w { acts = w.acts ++ record { act = a; bit = bit_of w.bits a } ∷ []; bits = bits_after w.bits a; events = w.events + 1 })
 Steps V sh w (Begin r k) x =
     (slice_get w.readers r ≡ Some None) × (k < 2 ^ 64) × IsWithin sh w (Begin r k) ×

@@ -86,6 +86,7 @@ impl Checked {
             first,
             second: self.alt(first, tag),
             stripe,
+            mixed: self.shape.mix.mix(key),
         }
     }
 

@@ -84,7 +84,7 @@ impl<'a, const V: usize> Pen<'a, V> {
         ensures waits { IfNone result (Waits V books.new key value.now (state_at V self.old) room) }
         ensures shape { books.new.checked ≡ books.old.checked }
     {
-        match books.insert::<V, Pen<V>>(self, room, at) {
+        match books.insert::<V, Pen<V>>(self, parts.mixed, room, at) {
             Some(storing) => {
                 self.make_storing(books, key, parts, value, storing);
                 Some(books.told(storing, None))
@@ -93,12 +93,13 @@ impl<'a, const V: usize> Pen<'a, V> {
         }
     }
 
-    /// Chooses the key whose item the put takes when no item is free: the hand advances.
+    /// Chooses the key whose item the put takes when no item is free: the hand advances. `mixed` is the put's key, mixed.
     #[inline(always)]
     pub(crate) fn choose(
         &mut self,
         books: &mut Books,
         key: u64,
+        mixed: u64,
         value: &[u64; V],
         room: Room,
     ) -> Result<Replacement, PutError>
@@ -110,7 +111,7 @@ impl<'a, const V: usize> Pen<'a, V> {
         ensures refused { IfErr result (λ why. HasCalled V self.old.cells.now.layout.shape (PutCall key value.now) self.old.seat.now self.new.seat.now (answer.Put (Err why)) ×
             IsRested V books.new self.new.seat.now) }
     {
-        let mut waiting = Waiting::new(books, key, *value, room);
+        let mut waiting = Waiting::new(books, key, mixed, *value, room);
         self.turn_round(&mut waiting);
         books.finish::<V, Pen<V>>(self, &waiting)
     }
@@ -155,7 +156,7 @@ impl<'a, const V: usize> Pen<'a, V> {
         ensures called { HasCalled V self.old.cells.now.layout.shape (PutCall key value.now) self.old.seat.now self.new.seat.now (answer.Put result) }
         ensures rested { IsRested V books.new self.new.seat.now }
     {
-        match self.choose(books, key, value, room) {
+        match self.choose(books, key, parts.mixed, value, room) {
             Ok(taken) => Ok(self.take_item(books, key, parts, value, taken)),
             Err(why) => Err(why),
         }

@@ -4,10 +4,10 @@ ghost use Rattle.mc_words.specs.Keys.{tag_of, alternate, slot_word, IsBucketOf};
 ghost use Rattle.mc_words.specs.Chains.{IsHole};
 ghost use Rattle.mc_words.specs.Places.{IsPlace, payload, slot, slot_number};
 ghost use Rattle.mc_words.specs.Standing.{Stands, IsAbsent, IsPresent, HasFree};
-ghost use Rattle.mc_theory.specs.Acts.{IsStampAt, MayFrom, MayOpen};
+ghost use Rattle.mc_theory.specs.Acts.{IsStampAt, KeepsClock, MayFrom, MayOpen};
 ghost use Rattle.mc_theory.specs.Phases.{Quiet, Filling, Keyed, Renewing, Removing, Moving, Moved};
 ghost use Rattle.mc_core.specs.Inside.Tables.{StandsAt};
-ghost use Rattle.mc_core.specs.Inside.Writers.{shape_of_writer, words_of_writer, payload_in, UsedWell, StandsWell, IsFreeItem};
+ghost use Rattle.mc_core.specs.Inside.Writers.{shape_of_writer, state_in, words_of_writer, payload_in, UsedWell, StandsWell, IsFreeItem};
 
 use crate::writer::Writer;
 use mc_theory::{Act, Deed};
@@ -100,9 +100,19 @@ impl<const V: usize> Writer<V> {
     {
         match act {
             Act::Open(key, deed) => self.may_open(key, deed),
-            Act::Hand(i) => !self.has_free() && i == self.hand,
-            Act::Mark(i) => i < self.table.checked.shape().items,
+            Act::Hand(i) | Act::Mark(i) => i < self.table.checked.shape().items,
             _ => false,
+        }
+    }
+
+    /// Whether the act keeps CLOCK's order: the hand turns only while no item is free, and goes round the items.
+    pub(crate) fn keeps_clock(&self, act: Act) -> bool
+        requires { UsedWell {V = V} self.now.table }
+        ensures { IsTrue result ↔ KeepsClock (shape_of_writer {V = V} self.now) (state_in {V = V} self.now) act }
+    {
+        match act {
+            Act::Hand(i) => !self.has_free() && i == self.hand,
+            _ => true,
         }
     }
 

@@ -27,12 +27,14 @@ use Rattle.mc_plan.specs.declared.answer.PutError.TheVariants as why
 use Rattle.mc_plan.specs.declared.answer.Remove.TheVariants as remove
 use Rattle.mc_plan.specs.declared.books.Books.{Books}
 use Rattle.mc_plan.specs.declared.far.Far.{Far}
-use Rattle.mc_search.specs.declared.free.FreeItems.{FreeItems}
+use Rattle.mc_search.specs.Free.{IsInList}
+use Rattle.mc_search.specs.declared.free.FreeList.{FreeList}
+use Rattle.mc_search.specs.declared.items.FreeItems.{FreeItems}
 use Rattle.mc_search.specs.declared.path.Path.{Path}
 use Rattle.mc_plan.specs.WholeCalls.{Call, PutCall, RemoveCall, Means, Marks, MarksLast, AreOfDeeds, quiet_of}
 use Rattle.mc_plan.specs.Books.{AreBooksOf, HasRoom, IsLackingKey, IsPlanned}
 use Rattle.mc_plan.specs.Deciding.{IsWithoutPath}
-use Rattle.mc_search.specs.Free.{IsConsistent, IsFreeIn, TakesFree, GivesBack}
+use Rattle.mc_search.specs.Items.{IsConsistent, IsFreeIn, TakesFree, GivesBack}
 use Rattle.mc_plan.specs.Laws.{IsValue}
 use Rattle.mc_plan.specs.Making.{IsQuiet, state_after_acts}
 use Rattle.mc_search.specs.Kept.{KeepsSlots}
@@ -92,21 +94,21 @@ next_word V b s at old l =
 
 -- ---- the books after a plan
 -- the state after it, with its version changes counted
-record Ends (V : ℕ) (b : Books) (s t : State V) (steps : ℕ) : Type 0 where
-  quiet : IsQuiet V (shape_of b.checked) t
-  version_steps : t.version_steps ≡ s.version_steps + steps
-  hand : t.hand ≡ s.hand
-  limit : s.version_steps + steps ≤ (shape_of b.checked).limit
+pub record Ends (V : ℕ) (b : Books) (s t : State V) (steps : ℕ) : Type 0 where
+  pub quiet : IsQuiet V (shape_of b.checked) t
+  pub version_steps : t.version_steps ≡ s.version_steps + steps
+  pub hand : t.hand ≡ s.hand
+  pub limit : s.version_steps + steps ≤ (shape_of b.checked).limit
 
 -- the free items of the state after it
-record FreeAfter (V : ℕ) (b : Books) (free : FreeItems) (w : List ℕ) : Type 0 where
-  kept : IsConsistent free
-  items : free.items ≡ b.free.items
-  frees : (i : ℕ) → IsFreeIn free i → IsFree (shape_of b.checked) w i
-  named : (i : ℕ) → i < (shape_of b.checked).items → (IsFreeIn free i → ⊥) → (q : ℕ) × NamesItem (shape_of b.checked) w q i
+pub record FreeAfter (V : ℕ) (b : Books) (free : FreeItems) (w : List ℕ) : Type 0 where
+  pub kept : IsConsistent free
+  pub items : free.list.items ≡ b.free.list.items
+  pub frees : (i : ℕ) → IsFreeIn free i → IsFree (shape_of b.checked) w i
+  pub named : (i : ℕ) → i < (shape_of b.checked).items → (IsFreeIn free i → ⊥) → (q : ℕ) × NamesItem (shape_of b.checked) w q i
 
 -- books are right after a plan whose free items and version steps they took over
-books_after : (V : ℕ) (b : Books) (s t : State V) (steps : ℕ) (free : FreeItems) → AreBooksOf V b s → Ends V b s t steps → FreeAfter V b free t.words → AreBooksOf V (record b { free = free; version_steps = b.version_steps + steps }) t
+pub books_after : (V : ℕ) (b : Books) (s t : State V) (steps : ℕ) (free : FreeItems) → AreBooksOf V b s → Ends V b s t steps → FreeAfter V b free t.words → AreBooksOf V (record b { free = free; version_steps = b.version_steps + steps }) t
 books_after V b s t steps free old ends after = record {
   width = old.width;
   quiet = ends.quiet;
@@ -162,7 +164,7 @@ renewal_planned V b k v i at s q shape key value old stands unspent limit is =
     (λ w acts m. m)
 
 -- ---- a removal
-free_given : (V : ℕ) (b : Books) (s : State V) (x : List ℕ) (free : FreeItems) (i : ℕ) → AreBooksOf V b s → IsConsistent free → free.items ≡ b.free.items → GivesBack b.free free i → GivesItem (shape_of b.checked) s.words x i → FreeAfter V b free x
+pub free_given : (V : ℕ) (b : Books) (s : State V) (x : List ℕ) (free : FreeItems) (i : ℕ) → AreBooksOf V b s → IsConsistent free → free.list.items ≡ b.free.list.items → GivesBack b.free free i → GivesItem (shape_of b.checked) s.words x i → FreeAfter V b free x
 free_given V b s x free i old kept items gives given = record {
   kept = kept;
   items = items;
@@ -178,7 +180,7 @@ free_given V b s x free i old kept items gives given = record {
 -- a key that stands somewhere is removed from there
 pub removal_planned : (V : ℕ) (b : Books) (k i at : ℕ) (p : Place) (free : FreeItems) (s : State V) → IsShape (shape_of b.checked) → IsWord k → AreBooksOf V b s → p.slot < 4 → Stands V (shape_of b.checked) s.words k (slot_number p) i
     → (RemoveIsSpent (shape_of b.checked) (quiet_of s) → ⊥) → s.version_steps + 2 ≤ (shape_of b.checked).limit → at ≡ moment s.words + 1
-    → IsConsistent free → free.items ≡ b.free.items → GivesBack b.free free i
+    → IsConsistent free → free.list.items ≡ b.free.list.items → GivesBack b.free free i
     → IsPlanned V (record b { free = free; version_steps = b.version_steps + 2 }) (remove_acts k p) (RemoveCall k) s s (answer.Remove (Ok (remove.Removed at)))
 removal_planned V b k i at p free s shape key old below stands unspent limit is kept items gives =
     let sh = shape_of b.checked in
@@ -203,7 +205,7 @@ removal_planned V b k i at p free s shape key old below stands unspent limit is 
     }
 
 -- ---- a put of a new key
-free_taken : (V : ℕ) (b : Books) (s : State V) (x : List ℕ) (free : FreeItems) (i : ℕ) → AreBooksOf V b s → IsConsistent free → free.items ≡ b.free.items → TakesFree b.free free i → TakesItem (shape_of b.checked) s.words x i → FreeAfter V b free x
+free_taken : (V : ℕ) (b : Books) (s : State V) (x : List ℕ) (free : FreeItems) (i : ℕ) → AreBooksOf V b s → IsConsistent free → free.list.items ≡ b.free.list.items → TakesFree b.free free i → TakesItem (shape_of b.checked) s.words x i → FreeAfter V b free x
 free_taken V b s x free i old kept items takes taken = record {
   kept = kept;
   items = items;
@@ -225,7 +227,7 @@ least_length sh w k path least = record { places = path.places.items; hole = pat
 pub stored_planned : (V : ℕ) (b : Books) (k : ℕ) (v : List ℕ) (i at : ℕ) (path : Path) (free : FreeItems) (s : State V) → IsShape (shape_of b.checked) → IsWord k → IsValue V v → AreBooksOf V b s
     → IsAbsent V (shape_of b.checked) s.words k → IsLeastPath (shape_of b.checked) s.words k path → AreKeys V (shape_of b.checked) s.words path.places.items → i < (shape_of b.checked).items
     → (PutIsSpent (shape_of b.checked) (quiet_of s) → ⊥) → at ≡ moment s.words + 1
-    → IsFreeIn b.free i → IsConsistent free → free.items ≡ b.free.items → TakesFree b.free free i
+    → IsFreeIn b.free i → IsConsistent free → free.list.items ≡ b.free.list.items → TakesFree b.free free i
     → IsPlanned V (record b { free = free; version_steps = b.version_steps + (2 * length path.places.items + 2) }) (put_acts V (shape_of b.checked) s.words k v at i path.places.items path.hole ++ Mark i ∷ []) (PutCall k v) s s (answer.Put (Ok (put.Stored at (length path.places.items) None)))
 stored_planned V b k v i at path free s shape key value old absent least keys in_items unspent is was kept items takes =
     let sh = shape_of b.checked in
@@ -285,7 +287,7 @@ pub listed_planned : (V : ℕ) (b : Books) (far : Far) (plan : List Act) (call :
 listed_planned V b far plan call s m told same p = record { allowed = p.allowed; means = p.means; marks = p.marks; ends = books_listed V b far (state_after_acts V (shape_of b.checked) m plan) p.ends same }
 
 -- books with another list of the same free items
-pub books_still : (V : ℕ) (b : Books) (s : State V) (free : FreeItems) → AreBooksOf V b s → IsConsistent free → free.items ≡ b.free.items → ((j : ℕ) → IsFreeIn b.free j → ⊥) → ((j : ℕ) → IsFreeIn free j → ⊥) → AreBooksOf V (record b { free = free }) s
+pub books_still : (V : ℕ) (b : Books) (s : State V) (free : FreeItems) → AreBooksOf V b s → IsConsistent free → free.list.items ≡ b.free.list.items → ((j : ℕ) → IsFreeIn b.free j → ⊥) → ((j : ℕ) → IsFreeIn free j → ⊥) → AreBooksOf V (record b { free = free }) s
 books_still V b s free old kept items none still = record {
   width = old.width;
   quiet = old.quiet;
@@ -298,6 +300,22 @@ books_still V b s free old kept items none still = record {
   items = items ∙ old.items;
   free = λ i f. absurd (still i f);
   named = λ i l f. old.named i l (none i);
+}
+
+-- books of the same list of free items, whatever is known of the others
+pub books_kept : (V : ℕ) (b : Books) (s : State V) (free : FreeItems) → AreBooksOf V b s → IsConsistent free → free.list ≡ b.free.list → AreBooksOf V (record b { free = free }) s
+books_kept V b s free old kept same = record {
+  width = old.width;
+  quiet = old.quiet;
+  hand = old.hand;
+  stands = old.stands;
+  version_steps = old.version_steps;
+  limit = old.limit;
+  finder = old.finder;
+  kept = kept;
+  items = ap (λ (l : FreeList). l.items) same ∙ old.items;
+  free = λ i f. old.free i (subst (λ (l : FreeList). IsInList l i) same f);
+  named = λ i l f. old.named i l (λ g. f (subst (λ (x : FreeList). IsInList x i) (sym same) g));
 }
 
 -- if no chain is short enough, the path is refused
@@ -375,7 +393,7 @@ opening_changes : (V : ℕ) (sh : Shape) → (opening V sh).version_steps ≡ 0
 unfolding opening
 opening_changes V sh = refl
 
-pub new_books : (V : ℕ) (b : Books) → IsWidth V → b.far.value.finder ≡ shape_of b.checked → b.hand ≡ 0 → b.version_steps ≡ 0 → IsConsistent b.free → b.free.items ≡ (shape_of b.checked).items → ((i : ℕ) → i < (shape_of b.checked).items → IsFreeIn b.free i) → AreBooksOf V b (opening V (shape_of b.checked))
+pub new_books : (V : ℕ) (b : Books) → IsWidth V → b.far.value.finder ≡ shape_of b.checked → b.hand ≡ 0 → b.version_steps ≡ 0 → IsConsistent b.free → b.free.list.items ≡ (shape_of b.checked).items → ((i : ℕ) → i < (shape_of b.checked).items → IsFreeIn b.free i) → AreBooksOf V b (opening V (shape_of b.checked))
 new_books V b width finder hand changes kept items all =
     let sh = shape_of b.checked in
     let none = opening_changes V sh in

@@ -41,7 +41,7 @@ pub victim_stands : (V : ℕ) (b : Books) (waiting : Waiting V) (call : Call) (s
     → (i < (shape_of b.checked).items) × ((q : ℕ) × Stands V (shape_of b.checked) s.words (item V (shape_of b.checked) s.words i 0) q i)
 victim_stands V b waiting call s rs i on =
     let sweeping = on.sweeping in
-    let below = victim_below (shape_of b.checked).items s.hand rs i sweeping.has.sweeps (omega (arith, sweeping.has.start)) on.found in
+    let below = victim_below (shape_of b.checked).items rs i sweeping.has.sweeps.searches on.found in
     let named = sweeping.waits.known.named i below (sweeping.waits.none i) in
     (below, (named.0, record { names = named.1; key = refl }))
 
@@ -145,7 +145,7 @@ module _ (V : ℕ) (b : Books) (waiting : Waiting V) (call : Call) (s : State V)
       let waits = sweeping.waits in
       let same = (swept_still V sh s rs).words in
       let quiet = sweep_quiet V sh s rs waits.known.quiet b.checked.sound (hands_may V (record b { hand = on.before }) waiting call s rs sweeping) in
-      let cleared = swept_cleared V sh s sh.items s.hand rs i sweeping.has.sweeps on.found in
+      let cleared = swept_cleared V sh s sh.items rs i sweeping.has.sweeps.searches on.found in
       let can : CanReplace V sh mid.words waiting.key i e p path.places.items path.hole kept end = record {
         absent = subst (λ (w : List ℕ). IsAbsent V sh w waiting.key) (sym same) waits.absent;
         victim = place;

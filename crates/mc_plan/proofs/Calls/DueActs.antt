@@ -51,7 +51,7 @@ due_apart V sh all acts xs ys due d = subst (λ (zs : List Act). AreDue V sh all
 pub sweep_may : (V : ℕ) → SweepsCanRead V
 sweep_may V sh b waiting call acts rs same on =
     let s = state_of V sh acts in
-    let reads = λ (i : ℕ) (next : next_item waiting.sweep ≡ Some i). hand_may V b waiting call s rs on i next in
+    let reads = λ (i : ℕ) (next : next_item waiting.sweep ≡ Some i). (hand_may V b waiting call s rs on i next).0 in
     let hands = subst (λ (x : Shape). AreAllowed x s (hand_acts rs)) same (hands_may V b waiting call s rs on) in
     (hands, λ i next. subst (λ (t : State V). IsAllowed sh t (Hand i)) (sym (state_append V sh acts (hand_acts rs))) (subst (λ (x : Shape). IsAllowed x (state_after_sweep V x s rs) (Hand i)) same (reads i next)))
 

@@ -156,7 +156,7 @@ recent_not_replaced V sh k v s acts more at moves evicted one two =
     let end : List Act = Mark marks.item ∷ [] in
     let unswept : Each IsUnswept (acts_of two.others) = subst (λ (l : List Act). Each IsUnswept l) (sym marks.last) (each_then IsUnswept marks.before end (deeds_unswept marks.before marks.deeds) (tt, tt)) in
     let whole = one.sweeps.1 in
-    let most = two.sweeps.0.most in
+    let most = two.sweeps.0.searches.most in
     let sweeps = same_sweep one.sweep two.sweep more two.others same unswept (omega (arith, whole, most)) in
     let found = sym one.sweeps.2 ∙ ap (λ (l : List Swept). victim_of l) sweeps ∙ two.sweeps.1.2 in
     cc found

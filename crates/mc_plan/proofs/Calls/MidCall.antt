@@ -9,7 +9,7 @@ use Rattle.std.proofs.lemmas.Option.{slice_get_past, slice_get_read}
 use Rattle.mc_words.specs.Checks.{shape_of}
 use Rattle.mc_words.specs.declared.shape.Shape.{Shape}
 use Rattle.mc_words.specs.Places.{IsWidth}
-use Rattle.mc_theory.specs.Acts.{IsAllowed, MayFrom}
+use Rattle.mc_theory.specs.Acts.{IsAllowed, IsAllowedByClock, KeepsClock, MayFrom}
 use Rattle.mc_theory.specs.Effects.{after_act, version_steps_after, phase_after}
 use Rattle.mc_theory.specs.Lists.{Made, AreAllowed, after_all}
 use Rattle.mc_theory.specs.Phases.{Phase, Quiet, Filling, Keyed, Placed, Renewing, Removing, Removed, Moving, Moved, Closing, first_phase, close_owed}
@@ -110,6 +110,21 @@ still_marks V sh w (KeptCall k v) (answer.Kept (Err why)) acts m = still_deeds a
 still_marks V sh w (KeptCall k v) (answer.Put told) acts m = absurd m
 still_marks V sh w (KeptCall k v) (answer.PutIf told) acts m = absurd m
 still_marks V sh w (KeptCall k v) (answer.Remove told) acts m = absurd m
+
+-- an act that is none of the hand keeps CLOCK's order
+still_keeps : {V : ℕ} (sh : Shape) (s : State V) (a : Act) → IsStill a → KeepsClock sh s a
+still_keeps sh s (Hand i) still = absurd still
+still_keeps sh s (Open k d) still = tt
+still_keeps sh s (Slot p x) still = tt
+still_keeps sh s (Item i j x) still = tt
+still_keeps sh s Moment still = tt
+still_keeps sh s Close still = tt
+still_keeps sh s (Mark i) still = tt
+
+still_next : (acts : List Act) (n : ℕ) (a : Act) → AreStill acts → slice_get acts n ≡ Some a → IsStill a
+still_next [] n a still e = absurd (cc)
+still_next (x ∷ xs) zero a still e = let is : x ≡ a = cc in subst IsStill is still.0
+still_next (x ∷ xs) (suc n) a still e = still_next xs n a still.1 e
 
 -- ---- the next act
 pub allowed_next : (V : ℕ) (sh : Shape) (s : State V) (acts : List Act) (n : ℕ) (a : Act) → AreAllowed sh s (as_made acts) → slice_get acts n ≡ Some a → IsAllowed sh (state_after_acts V sh s (take n acts)) a
@@ -228,13 +243,14 @@ module _ (V : ℕ) (b : Books) (plan : List Act) (many : ℕ) (call : Call) (s :
       ∙ same_state V sh mid makes.others still_on ∙ ap (λ (xs : List Act). state_after_acts V sh mid xs) makes.done
 
   -- the act that comes next is allowed, and an open leaves two version changes within the limit
-  pub plan_may : (r : Option Act) → r ≡ slice_get plan many → IfSome r (λ a. IsAllowed sh (after_all sh s acts) a × HasVersionSteps sh.limit (after_all sh s acts).version_steps a)
+  pub plan_may : (r : Option Act) → r ≡ slice_get plan many → IfSome r (λ a. IsAllowedByClock sh (after_all sh s acts) a × HasVersionSteps sh.limit (after_all sh s acts).version_steps a)
   plan_may None e = tt
   plan_may (Some a) e =
       let planned = makes.planned in
       let may = allowed_next V sh mid plan many a planned.allowed (sym e) in
       let room = changes_left V sh mid plan many a sh.limit planned.allowed (sym e) planned.ends.quiet.quiet planned.ends.limit in
-      subst (λ (t : State V). IsAllowed sh t a × HasVersionSteps sh.limit t.version_steps a) (sym state_now) (may, room)
+      let still = still_next plan many a (still_marks V sh _ call told plan planned.marks) (sym e) in
+      subst (λ (t : State V). IsAllowedByClock sh t a × HasVersionSteps sh.limit t.version_steps a) (sym state_now) ((may, still_keeps {V = V} sh (state_after_acts V sh mid (take many plan)) a still), room)
 
   -- one act more was made
   pub plan_next : (a : Act) (bit : ℕ) → slice_get plan many ≡ Some a → MakesPlan V b plan (many + 1) call s (acts ++ record { act = a; bit = bit } ∷ []) told

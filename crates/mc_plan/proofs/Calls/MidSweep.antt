@@ -4,7 +4,7 @@ use Rattle.std.specs.Option.{IfSome, is_some}
 use Rattle.std.specs.Prelude.{IsSome}
 use Rattle.mc_words.specs.Checks.{shape_of}
 use Rattle.mc_words.specs.Standing.{HasFree}
-use Rattle.mc_theory.specs.Acts.{IsAllowed}
+use Rattle.mc_theory.specs.Acts.{IsAllowedByClock}
 use Rattle.mc_theory.specs.Lists.{Made, AreAllowed, after_all}
 use Rattle.mc_theory.specs.States.{State}
 use Rattle.mc_theory.specs.Traces.{HasVersionSteps}
@@ -35,23 +35,23 @@ module _ (V : ℕ) (b : Books) (waiting : Waiting V) (call : Call) (s : State V)
 
   -- the readings are allowed one after the other
   pub hands_may : AreAllowed (shape_of b.checked) s (hand_acts rs)
-  hands_may = sweep_allowed V (shape_of b.checked) s s.hand rs on.waits.known.quiet full refl on.has.sweeps on.has.start
+  hands_may = sweep_allowed V (shape_of b.checked) s rs on.waits.known.quiet on.has.sweeps.searches
 
   -- the hand reads at most twice as many bits as there are items, round from its item
-  pub hand_may : (i : ℕ) → next_item waiting.sweep ≡ Some i → IsAllowed (shape_of b.checked) (state_after_sweep V (shape_of b.checked) s rs) (Hand i)
+  pub hand_may : (i : ℕ) → next_item waiting.sweep ≡ Some i → IsAllowedByClock (shape_of b.checked) (state_after_sweep V (shape_of b.checked) s rs) (Hand i)
   unfolding next_item
   hand_may i next =
       let parts = next_parts waiting.sweep.victim waiting.sweep.left waiting.sweep.hand i next in
       hand_next V (shape_of b.checked) s s.hand rs i on.waits.known.quiet full refl on.has.sweeps on.has.start (parts.2 ∙ on.has.stands)
 
   -- the next reading is allowed
-  next_hand : (o : Option ℕ) → o ≡ next_item waiting.sweep → IfSome (hand_of o) (λ a. IsAllowed (shape_of b.checked) (state_after_sweep V (shape_of b.checked) s rs) a × HasVersionSteps (shape_of b.checked).limit (state_after_sweep V (shape_of b.checked) s rs).version_steps a)
+  next_hand : (o : Option ℕ) → o ≡ next_item waiting.sweep → IfSome (hand_of o) (λ a. IsAllowedByClock (shape_of b.checked) (state_after_sweep V (shape_of b.checked) s rs) a × HasVersionSteps (shape_of b.checked).limit (state_after_sweep V (shape_of b.checked) s rs).version_steps a)
   next_hand None e = tt
   next_hand (Some i) e = (hand_may i (sym e), tt)
 
-  next_of_sweep : (r : Option Act) → r ≡ hand_of (next_item waiting.sweep) → IfSome r (λ a. IsAllowed (shape_of b.checked) (state_after_sweep V (shape_of b.checked) s rs) a × HasVersionSteps (shape_of b.checked).limit (state_after_sweep V (shape_of b.checked) s rs).version_steps a)
+  next_of_sweep : (r : Option Act) → r ≡ hand_of (next_item waiting.sweep) → IfSome r (λ a. IsAllowedByClock (shape_of b.checked) (state_after_sweep V (shape_of b.checked) s rs) a × HasVersionSteps (shape_of b.checked).limit (state_after_sweep V (shape_of b.checked) s rs).version_steps a)
   next_of_sweep r e =
-      subst (λ (o : Option Act). IfSome o (λ a. IsAllowed (shape_of b.checked) (state_after_sweep V (shape_of b.checked) s rs) a × HasVersionSteps (shape_of b.checked).limit (state_after_sweep V (shape_of b.checked) s rs).version_steps a)) (sym e) (next_hand (next_item waiting.sweep) refl)
+      subst (λ (o : Option Act). IfSome o (λ a. IsAllowedByClock (shape_of b.checked) (state_after_sweep V (shape_of b.checked) s rs) a × HasVersionSteps (shape_of b.checked).limit (state_after_sweep V (shape_of b.checked) s rs).version_steps a)) (sym e) (next_hand (next_item waiting.sweep) refl)
 
   -- a sweep with other readings
   pub sweep_on : (sweep : Sweep) (qs : List Swept) → HasSwept sweep (shape_of b.checked).items s.hand qs → IsSweeping V b (record waiting { sweep = sweep }) call s qs
@@ -78,11 +78,11 @@ at_sweep V clerk call s acts waiting on is = subst (λ (st : Stage V). IsAtStage
 
 -- the act that comes next is allowed
 pub sweep_may : (V : ℕ) (clerk : Clerk V) (call : Call) (s : State V) (acts : List Made) (waiting : Waiting V) (r : Option Act) → IsOn V clerk call s acts → clerk.stage ≡ Sweeping waiting → r ≡ hand_of (next_item waiting.sweep)
-    → IfSome r (λ a. IsAllowed (shape_of_clerk clerk) (after_all (shape_of_clerk clerk) s acts) a × HasVersionSteps (shape_of_clerk clerk).limit (after_all (shape_of_clerk clerk) s acts).version_steps a)
+    → IfSome r (λ a. IsAllowedByClock (shape_of_clerk clerk) (after_all (shape_of_clerk clerk) s acts) a × HasVersionSteps (shape_of_clerk clerk).limit (after_all (shape_of_clerk clerk) s acts).version_steps a)
 sweep_may V clerk call s acts waiting r on is next =
     let sh = shape_of_clerk clerk in
     let now = at_sweep V clerk call s acts waiting on is in
-    subst (λ (xs : List Made). IfSome r (λ a. IsAllowed sh (after_all sh s xs) a × HasVersionSteps sh.limit (after_all sh s xs).version_steps a)) (sym now.4)
+    subst (λ (xs : List Made). IfSome r (λ a. IsAllowedByClock sh (after_all sh s xs) a × HasVersionSteps sh.limit (after_all sh s xs).version_steps a)) (sym now.4)
     (next_of_sweep V clerk.books waiting call s now.0 now.1 r next)
 
 -- what was read once the next bit was

@@ -6,9 +6,10 @@ use Rattle.mc_words.specs.Places.{moment, slot_number}
 use Rattle.mc_words.specs.Standing.{Stands}
 use Rattle.mc_theory.specs.States.{State}
 use Rattle.mc_theory.specs.declared.act.Act.{Act}
-use Rattle.mc_search.specs.Free.{IsConsistent, IsFreeIn, TakesFree}
+use Rattle.mc_search.specs.Items.{IsConsistent, IsFreeIn, TakesFree}
 use Rattle.mc_search.specs.Paths.{IsCut, first_place, path_of_room}
 use Rattle.mc_search.specs.Sweeps.{Swept}
+use Rattle.mc_search.specs.declared.items.FreeItems.{FreeItems}
 use Rattle.mc_search.specs.declared.room.Room.{Room}
 use Rattle.mc_search.proofs.TakenItems.{free_below}
 use Rattle.mc_plan.specs.Books.{HasRoom, IsPlanned}
@@ -26,7 +27,7 @@ use Rattle.mc_plan.specs.declared.far.Far.{Far}
 use Rattle.mc_plan.specs.declared.decision.Replacement.{Replacement}
 use Rattle.mc_plan.specs.declared.decision.Storing.{Storing}
 use Rattle.mc_plan.specs.declared.waiting.Waiting.{Waiting}
-use Rattle.mc_plan.proofs.Calls.AfterPlan.{listed_planned, stored_planned, with_far}
+use Rattle.mc_plan.proofs.Calls.AfterPlan.{books_kept, listed_planned, stored_planned, with_far}
 use Rattle.mc_plan.proofs.Calls.AfterSweep.{victim_stands, replaced_planned}
 use Rattle.mc_plan.proofs.Calls.SweptStates.{swept_still}
 use Rattle.mc_plan.proofs.Puts.MoveLists.{replaced_acts, stored_acts}
@@ -34,7 +35,7 @@ use Rattle.mc_plan.proofs.Puts.MoveLists.{replaced_acts, stored_acts}
 -- a key is stored at a free item, in the room that it has found
 pub stored_by : (V : ℕ) (b other : Books) (k : ℕ) (v : List ℕ) (at : ℕ) (room : Room) (s : State V) (storing : Storing) (has : HasRoom V b k v s at room)
     → AreKeys V (shape_of b.checked) s.words (path_of_room b.far.value.path room).places.items
-    → storing.at ≡ at → IsFreeIn b.free storing.item → IsConsistent other.free → other.free.items ≡ b.free.items → TakesFree b.free other.free storing.item
+    → storing.at ≡ at → IsFreeIn b.free storing.item → IsConsistent other.free → other.free.list.items ≡ b.free.list.items → TakesFree b.free other.free storing.item
     → acts_of_moves (moves_of other.far.value.moves.items storing.moves) ≡ moves_acts V (shape_of b.checked) s.words (path_of_room b.far.value.path room).places.items (path_of_room b.far.value.path room).hole
     → storing.place ≡ first_place (path_of_room b.far.value.path room).places.items (path_of_room b.far.value.path room).hole → length (moves_of other.far.value.moves.items storing.moves) ≡ length (path_of_room b.far.value.path room).places.items
     → IsInserted V (with_far (record b { free = other.free; version_steps = b.version_steps + (2 * length (path_of_room b.far.value.path room).places.items + 2) }) (record b.far.value { moves = other.far.value.moves })) k v s room (Some storing)
@@ -46,7 +47,7 @@ stored_by V b other k v at room s storing has keys is was kept items takes moves
     let counted : Books = record b { free = other.free; version_steps = b.version_steps + (2 * length ps + 2) } in
     let far : Far = record b.far.value { moves = other.far.value.moves } in
     let after = with_far counted far in
-    let item = free_below b.free storing.item lacks.known.kept was in
+    let item = free_below b.free.list storing.item lacks.known.kept.kept was in
     let below : storing.item < sh.items = omega (arith, item, lacks.known.items) in
     let planned = stored_planned V b k v storing.item storing.at path other.free s b.checked.sound lacks.key lacks.value lacks.known lacks.absent has.least keys below lacks.unspent (is ∙ lacks.next) was kept items takes in
     let acts = stored_acts V sh s.words k v ps path.hole other.far.value.moves.items storing moves place in
@@ -83,3 +84,16 @@ replaced_by V b far same waiting call s rs r kept end changes on victim cut keys
           (subst (λ (x : List Act). IsPlanned V after x call s mid (answer.Put (Ok (put.Stored storing.at (length kept) (Some e))))) acts all);
       sweeps = subst (λ (x : Put). IsSweepOf V sh s rs (answer.Put (Ok x))) tells planned.1;
     }
+
+-- the item may then be handed on to the put's key
+pub handed_on : (V : ℕ) (b : Books) (free : FreeItems) (waiting : Waiting V) (call : Call) (s : State V) (rs : List Swept) (r : Replacement) → IsReplaced V b waiting call s rs r → IsConsistent free → free.list ≡ b.free.list
+    → IsReplaced V (record b { free = free }) waiting call s rs r
+handed_on V b free waiting call s rs r done kept same =
+    let told = answer.Put (Ok (storing_told b.far.value.moves.items r.storing (Some r.victim.key))) in
+    let planned : IsPlanned V (record b { free = free }) (replacement_acts b.far.value.moves.items (shape_of b.checked) waiting.key waiting.value r) call s (state_after_sweep V (shape_of b.checked) s rs) told = record {
+      allowed = done.planned.allowed;
+      means = done.planned.means;
+      marks = done.planned.marks;
+      ends = books_kept V b _ free done.planned.ends kept same;
+    } in
+    record { in_items = done.in_items; parts = done.parts; planned = planned; sweeps = done.sweeps }

@@ -6,7 +6,7 @@ use Rattle.std.specs.Option.{IsSome}
 use Rattle.mc_words.specs.declared.shape.Shape.{Shape}
 use Rattle.mc_words.specs.Shapes.{IsShape}
 use Rattle.mc_words.specs.Standing.{HasFree}
-use Rattle.mc_theory.specs.Acts.{IsAllowed, MayFrom}
+use Rattle.mc_theory.specs.Acts.{IsAllowed, IsAllowedByClock, MayFrom}
 use Rattle.mc_theory.specs.Effects.{after_act}
 use Rattle.mc_theory.specs.Lists.{Made, AreAllowed, after_all}
 use Rattle.mc_theory.specs.Phases.{Phase, Quiet}
@@ -16,21 +16,28 @@ use Rattle.mc_theory.proofs.Invariant.VersionSteps.{counted_after}
 use Rattle.mc_theory.proofs.Invariant.EachState.{holds_after}
 use Rattle.mc_search.specs.declared.sweep.Sweep.{Sweep}
 use Rattle.mc_plan.specs.Making.{IsQuiet}
-use Rattle.mc_search.specs.Sweeps.{Swept, HasSwept, IsOver, IsSweep, hand_acts, next_from, next_item, victim_of}
+use Rattle.mc_search.specs.Sweeps.{Swept, HasSwept, IsOver, IsSearch, IsSweep, hand_acts, next_from, next_item, victim_of}
 use Rattle.mc_search.proofs.SweepReadings.{sweep_push, victim_push}
 
 -- ---- readings
+-- the readings after the first are a search
+search_tail : (items : ℕ) (r : Swept) (rs : List Swept) → IsSearch items (r ∷ rs) → IsSearch items rs
+search_tail items r rs searches =
+    let most = searches.most in
+    record {
+      inside = λ n d l. searches.inside (suc n) d (omega arith);
+      most = omega arith;
+      marked = λ n d l. searches.marked (suc n) d (omega arith);
+    }
+
 -- the readings after the first are a sweep from the item after
 sweep_tail : (items hand : ℕ) (r : Swept) (rs : List Swept) → IsSweep items hand (r ∷ rs) → IsSweep items ((hand + 1) % items) rs
-sweep_tail items hand r rs sweeps =
-    let most = sweeps.most in
-    record {
-      round = λ n d l.
-          let on : hand + suc n ≡ hand + 1 + n = omega arith in
-          sweeps.round (suc n) d (omega arith) ∙ ap (λ (m : ℕ). m % items) on ∙ sym (mod-add-mod (hand + 1) items n);
-      most = omega arith;
-      marked = λ n d l. sweeps.marked (suc n) d (omega arith);
-    }
+sweep_tail items hand r rs sweeps = record {
+  searches = search_tail items r rs sweeps.searches;
+  round = λ n d l.
+      let on : hand + suc n ≡ hand + 1 + n = omega arith in
+      sweeps.round (suc n) d (omega arith) ∙ ap (λ (m : ℕ). m % items) on ∙ sym (mod-add-mod (hand + 1) items n);
+}
 
 -- the first reading is of the item at the hand
 sweep_first : (items hand : ℕ) (r : Swept) (rs : List Swept) → IsSweep items hand (r ∷ rs) → hand < items → r.item ≡ hand
@@ -40,8 +47,8 @@ sweep_first items hand r rs sweeps below =
     at ∙ ap (λ (m : ℕ). m % items) same ∙ mod-eq_of_lt below
 
 -- a reading with another after it had its bit set
-first_set : (items hand : ℕ) (r x : Swept) (rs : List Swept) → IsSweep items hand (r ∷ x ∷ rs) → eqb r.bit 0 ≡ false
-first_set items hand r x rs sweeps = ne_eqb r.bit 0 (sweeps.marked 0 r (omega arith))
+first_set : (items : ℕ) (r x : Swept) (rs : List Swept) → IsSearch items (r ∷ x ∷ rs) → eqb r.bit 0 ≡ false
+first_set items r x rs searches = ne_eqb r.bit 0 (searches.marked 0 r (omega arith))
 
 -- the hand has turned twice round and is where it was
 pub swept_home : (items hand : ℕ) (rs : List Swept) → hand < items → length rs ≡ 2 * items → (hand + length rs) % items ≡ hand
@@ -64,14 +71,12 @@ first_victim r rs i found =
     all (eqb r.bit 0) found
 
 -- the victim is an item
-pub victim_below : (items hand : ℕ) (rs : List Swept) (i : ℕ) → IsSweep items hand rs → 0 < items → victim_of rs ≡ Some i → i < items
-victim_below items hand [] i sweeps some found = absurd (cc)
-victim_below items hand (r ∷ rs) i sweeps some found =
+pub victim_below : (items : ℕ) (rs : List Swept) (i : ℕ) → IsSearch items rs → victim_of rs ≡ Some i → i < items
+victim_below items [] i searches found = absurd (cc)
+victim_below items (r ∷ rs) i searches found =
     elim (first_victim r rs i found) [
-      | inl h ↦
-          let at : r.item ≡ (hand + 0) % items = sweeps.round 0 r (omega arith) in
-          subst (λ (j : ℕ). j < items) (sym at ∙ h.1) (mod-lt (hand + 0) some)
-      | inr h ↦ victim_below items ((hand + 1) % items) rs i (sweep_tail items hand r rs sweeps) some h.1
+      | inl h ↦ subst (λ (j : ℕ). j < items) h.1 (searches.inside 0 r (omega arith))
+      | inr h ↦ victim_below items rs i (search_tail items r rs searches) h.1
     ]
 
 -- what a sweep leaves to be read could all have its bits set
@@ -148,40 +153,52 @@ swept_hand V sh s hand (r ∷ rs) at sweeps below =
     ∙ mod-add-mod (hand + 1) sh.items (length rs) ∙ ap (λ (m : ℕ). m % sh.items) (omega arith)
 
 -- the item that is cleared after it is its victim, if it has one
-last_cleared : (V : ℕ) (sh : Shape) (s : State V) (items hand : ℕ) (r : Swept) (rs : List Swept) → IsSweep items hand (r ∷ rs) → (after_all sh s (hand_acts (r ∷ rs))).cleared ≡ victim_of (r ∷ rs)
-last_cleared V sh s items hand r [] sweeps = refl
-last_cleared V sh s items hand r (x ∷ rs) sweeps =
-    last_cleared V sh (after_act sh s (Hand r.item) r.bit) items ((hand + 1) % items) x rs (sweep_tail items hand r (x ∷ rs) sweeps)
-    ∙ sym (ap (λ b. cond b (Some r.item) (victim_of (x ∷ rs))) (first_set items hand r x rs sweeps))
+last_cleared : (V : ℕ) (sh : Shape) (s : State V) (items : ℕ) (r : Swept) (rs : List Swept) → IsSearch items (r ∷ rs) → (after_all sh s (hand_acts (r ∷ rs))).cleared ≡ victim_of (r ∷ rs)
+last_cleared V sh s items r [] searches = refl
+last_cleared V sh s items r (x ∷ rs) searches =
+    last_cleared V sh (after_act sh s (Hand r.item) r.bit) items x rs (search_tail items r (x ∷ rs) searches)
+    ∙ sym (ap (λ b. cond b (Some r.item) (victim_of (x ∷ rs))) (first_set items r x rs searches))
 
--- so the victim of a sweep is the item that is cleared after it
-pub swept_cleared : (V : ℕ) (sh : Shape) (s : State V) (items hand : ℕ) (rs : List Swept) (i : ℕ) → IsSweep items hand rs → victim_of rs ≡ Some i → (after_all sh s (hand_acts rs)).cleared ≡ Some i
-swept_cleared V sh s items hand [] i sweeps found = absurd (cc)
-swept_cleared V sh s items hand (r ∷ rs) i sweeps found = last_cleared V sh s items hand r rs sweeps ∙ found
+-- so the victim of a search is the item that is cleared after it
+pub swept_cleared : (V : ℕ) (sh : Shape) (s : State V) (items : ℕ) (rs : List Swept) (i : ℕ) → IsSearch items rs → victim_of rs ≡ Some i → (after_all sh s (hand_acts rs)).cleared ≡ Some i
+swept_cleared V sh s items [] i searches found = absurd (cc)
+swept_cleared V sh s items (r ∷ rs) i searches found = last_cleared V sh s items r rs searches ∙ found
+
+-- the hand is then one past the victim of a search
+pub past_victim : (V : ℕ) (sh : Shape) (s : State V) (rs : List Swept) (i : ℕ) → IsSearch sh.items rs → victim_of rs ≡ Some i → (after_all sh s (hand_acts rs)).hand ≡ (i + 1) % sh.items
+past_victim V sh s [] i searches found = absurd (cc)
+past_victim V sh s (r ∷ []) i searches found = elim (first_victim r [] i found) [
+  | inl h ↦ ap (λ (j : ℕ). (j + 1) % sh.items) h.1
+  | inr h ↦ absurd (cc (h.1))
+]
+past_victim V sh s (r ∷ x ∷ rs) i searches found = elim (first_victim r (x ∷ rs) i found) [
+  | inl h ↦ absurd (false≢true (sym (first_set sh.items r x rs searches) ∙ h.0))
+  | inr h ↦ past_victim V sh (after_act sh s (Hand r.item) r.bit) (x ∷ rs) i (search_tail sh.items r (x ∷ rs) searches) h.1
+]
 
 -- ---- which acts of the hand are allowed
--- the hand reads its item, between two deeds and while no item is free
-is_allowed : (V : ℕ) (sh : Shape) (s : State V) (i : ℕ) → s.phase ≡ Quiet → (HasFree sh s.words → ⊥) → i ≡ s.hand → IsAllowed sh s (Hand i)
-is_allowed V sh s i quiet full at = subst (λ (p : Phase). MayFrom V sh s.words s.hand s.cleared p (Hand i)) (sym quiet) (full, at)
+-- the hand reads an item between two deeds
+is_allowed : (V : ℕ) (sh : Shape) (s : State V) (i : ℕ) → s.phase ≡ Quiet → i < sh.items → IsAllowed sh s (Hand i)
+is_allowed V sh s i quiet inside = subst (λ (p : Phase). MayFrom V sh s.words s.hand s.cleared p (Hand i)) (sym quiet) inside
 
--- each turn of a sweep is allowed while nothing runs and no item is free
-are_allowed : (V : ℕ) (sh : Shape) (s : State V) (hand : ℕ) (rs : List Swept) → s.phase ≡ Quiet → (HasFree sh s.words → ⊥) → s.hand ≡ hand → IsSweep sh.items hand rs → hand < sh.items → AreAllowed sh s (hand_acts rs)
-are_allowed V sh s hand [] quiet full at sweeps below = tt
-are_allowed V sh s hand (r ∷ rs) quiet full at sweeps below =
-    let first = sweep_first sh.items hand r rs sweeps below in (
-      is_allowed V sh s r.item quiet full (first ∙ sym at),
-      are_allowed V sh (after_act sh s (Hand r.item) r.bit) ((hand + 1) % sh.items) rs quiet full (ap (λ (i : ℕ). (i + 1) % sh.items) first) (sweep_tail sh.items hand r rs sweeps) (mod-lt (hand + 1) (omega arith)),
-    )
+-- each reading of a search is allowed while nothing runs
+are_allowed : (V : ℕ) (sh : Shape) (s : State V) (rs : List Swept) → s.phase ≡ Quiet → IsSearch sh.items rs → AreAllowed sh s (hand_acts rs)
+are_allowed V sh s [] quiet searches = tt
+are_allowed V sh s (r ∷ rs) quiet searches =
+    (is_allowed V sh s r.item quiet (searches.inside 0 r (omega arith)), are_allowed V sh (after_act sh s (Hand r.item) r.bit) rs quiet (search_tail sh.items r rs searches))
 
-pub sweep_allowed : (V : ℕ) (sh : Shape) (s : State V) (hand : ℕ) (rs : List Swept) → IsQuiet V sh s → (HasFree sh s.words → ⊥) → s.hand ≡ hand → IsSweep sh.items hand rs → hand < sh.items → AreAllowed sh s (hand_acts rs)
-sweep_allowed V sh s hand rs quiet full at sweeps below = are_allowed V sh s hand rs quiet.quiet full at sweeps below
+pub sweep_allowed : (V : ℕ) (sh : Shape) (s : State V) (rs : List Swept) → IsQuiet V sh s → IsSearch sh.items rs → AreAllowed sh s (hand_acts rs)
+sweep_allowed V sh s rs quiet searches = are_allowed V sh s rs quiet.quiet searches
 
--- the next act of the hand is allowed too
+-- the next act of the hand is allowed too, and keeps CLOCK's order while no item is free
 pub hand_next : (V : ℕ) (sh : Shape) (s : State V) (hand : ℕ) (rs : List Swept) (i : ℕ) → IsQuiet V sh s → (HasFree sh s.words → ⊥) → s.hand ≡ hand → IsSweep sh.items hand rs → hand < sh.items
-    → i ≡ (hand + length rs) % sh.items → IsAllowed sh (after_all sh s (hand_acts rs)) (Hand i)
+    → i ≡ (hand + length rs) % sh.items → IsAllowedByClock sh (after_all sh s (hand_acts rs)) (Hand i)
 hand_next V sh s hand rs i quiet full at sweeps below next =
     let still = swept_still V sh s rs in
-    is_allowed V sh (after_all sh s (hand_acts rs)) i (still.phase ∙ quiet.quiet) (λ free. full (subst (HasFree sh) still.words free)) (next ∙ sym (swept_hand V sh s hand rs at sweeps below))
+    let inside : i < sh.items = subst (λ (x : ℕ). x < sh.items) (sym next) (mod-lt (hand + length rs) (omega (arith, below))) in (
+      is_allowed V sh (after_all sh s (hand_acts rs)) i (still.phase ∙ quiet.quiet) inside,
+      (λ free. full (subst (HasFree sh) still.words free), next ∙ sym (swept_hand V sh s hand rs at sweeps below)),
+    )
 
 -- the hand leaves a quiet state quiet
 pub sweep_quiet : (V : ℕ) (sh : Shape) (s : State V) (rs : List Swept) → IsQuiet V sh s → IsShape sh → AreAllowed sh s (hand_acts rs) → IsQuiet V sh (after_all sh s (hand_acts rs))

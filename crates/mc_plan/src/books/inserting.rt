@@ -239,12 +239,14 @@ impl Books {
         }
     }
 
-    /// Decides the put of a key that is not there, where it finds this room. `None`: no item is free, and the hand looks for one.
+    /// Decides the put of a key that is not there, where it finds this room. `None`: no item is free, and the hand looks for one. `mixed` is
+    /// the key, mixed.
     /// Condition: `near`, `by_move`, `by_path` or `room` has just found it, for a key that `decide` has answered with this `at`.
     #[inline(always)]
     pub fn insert<const V: usize, P: Peek>(
         &mut self,
         peek: &mut P,
+        mixed: u64,
         room: Room,
         at: u64,
     ) -> Option<Storing>
@@ -254,7 +256,7 @@ impl Books {
         ensures shape { self.new.checked ≡ self.old.checked }
         ensures kept { peek.new ≡ peek.old }
     {
-        let Some(item) = self.free.take_least() else {
+        let Some(item) = self.free.take_least(mixed) else {
             return None;
         };
         Some(self.store::<V, P>(peek, room, item, at))
@@ -306,6 +308,7 @@ impl Books {
         let left = waiting.room.cut_at(victim.place, &mut self.far.path);
         let storing = self.store::<V, P>(peek, left, item, at);
         self.version_steps += 2;
+        self.free.hand_on(item, victim.parts.mixed, waiting.mixed);
         Replacement { victim, storing }
     }
 

@@ -88,7 +88,7 @@ pub step_holds : (V : ℕ) (sh : Shape) (w x : Trace V) (e : Event) → WorldHol
 step_holds V sh w x (Write a) h s =
     let y : Made = record { act = a; bit = bit_of w.bits a } in
     subst (λ (z : Trace V). WorldHolds V sh z) (sym s.2) (record {
-      lawful = lawful_push V sh w.acts y h.lawful s.0;
+      lawful = lawful_push V sh w.acts y h.lawful s.0.0;
       running = λ r run e. sound_push V sh w.acts y run.key run.sofar (length w.acts) (length (w.acts ++ y ∷ [])) (omega (arith, length_push w.acts y)) (omega (arith, length_push w.acts y)) (h.running r run e);
       ended = ended_push V sh w.acts y w.ended h.ended;
     })

@@ -27,7 +27,7 @@ use Rattle.mc_theory.specs.declared.access.Access.{Access}
 use Rattle.mc_theory.specs.declared.access.Access.TheVariants as access
 use Rattle.mc_theory.specs.declared.act.Act.{Act}
 use Rattle.mc_theory.specs.declared.act.Act.TheVariants.{Open, Slot, Item, Moment, Close, Hand, Mark}
-use Rattle.mc_theory.proofs.Lists.Bounds.{front_length, opening_counted, state_counted, state_counted_after, state_hand}
+use Rattle.mc_theory.proofs.Lists.Bounds.{front_length, opening_counted, state_counted, state_counted_after}
 use Rattle.mc_theory.proofs.Lists.Fronts.{allowed_take, state_holds}
 use Rattle.mc_theory.proofs.Invariant.EachState.{holds_after, opening_holds}
 
@@ -91,27 +91,27 @@ in_place : (sh : Shape) (p : Place) → slot_number p < 4 * sh.buckets → p.slo
 in_place sh p l b = record { in_table = omega arith; in_bucket = b }
 
 -- what an act may name in its phase belongs to the table
-names_in : (V : ℕ) (sh : Shape) (w : List ℕ) (hand : ℕ) (cleared : Option ℕ) (h : List (Change V)) (p : Phase) (a : Act) → hand < sh.items → DeedFacts V sh w h p → MayFrom V sh w hand cleared p a → NamesIn V sh a
-names_in V sh w hand cleared h Quiet (Open k u) at d may = tt
-names_in V sh w hand cleared h Quiet (Hand i) at d may = omega (arith, may.1)
-names_in V sh w hand cleared h Quiet (Mark i) at d may = may
-names_in V sh w hand cleared h (Filling k) (Item i j x) at d may = (may.0, omega (arith, may.2))
-names_in V sh w hand cleared h (Keyed k i xs) (Item g j x) at d may = (omega (arith, may.0, d.0.in_items), may.2)
-names_in V sh w hand cleared h (Keyed k i xs) (Slot p x) at d may = in_place sh p may.1.0 may.3
-names_in V sh w hand cleared h (Placed k i xs) Moment at d may = tt
-names_in V sh w hand cleared h (Renewing k xs) (Item i j x) at d may = (may.3.1.names.in_items, may.1)
-names_in V sh w hand cleared h (Renewing k xs) Moment at d may = tt
-names_in V sh w hand cleared h (Removing k e) (Slot p x) at d may = in_place sh p may.2.1.names.in_table may.0
-names_in V sh w hand cleared h (Removed k e) Moment at d may = tt
-names_in V sh w hand cleared h (Moving k) (Slot p x) at d may = in_place sh p may.1.0 may.0
-names_in V sh w hand cleared h (Moved k fresh) (Slot p x) at d may = in_place sh p may.3.1.names.in_table may.0
-names_in V sh w hand cleared h (Closing k) Close at d may = tt
-names_in V sh w hand cleared h _ _ at d may = absurd may
+names_in : (V : ℕ) (sh : Shape) (w : List ℕ) (hand : ℕ) (cleared : Option ℕ) (h : List (Change V)) (p : Phase) (a : Act) → DeedFacts V sh w h p → MayFrom V sh w hand cleared p a → NamesIn V sh a
+names_in V sh w hand cleared h Quiet (Open k u) d may = tt
+names_in V sh w hand cleared h Quiet (Hand i) d may = may
+names_in V sh w hand cleared h Quiet (Mark i) d may = may
+names_in V sh w hand cleared h (Filling k) (Item i j x) d may = (may.0, omega (arith, may.2))
+names_in V sh w hand cleared h (Keyed k i xs) (Item g j x) d may = (omega (arith, may.0, d.0.in_items), may.2)
+names_in V sh w hand cleared h (Keyed k i xs) (Slot p x) d may = in_place sh p may.1.0 may.3
+names_in V sh w hand cleared h (Placed k i xs) Moment d may = tt
+names_in V sh w hand cleared h (Renewing k xs) (Item i j x) d may = (may.3.1.names.in_items, may.1)
+names_in V sh w hand cleared h (Renewing k xs) Moment d may = tt
+names_in V sh w hand cleared h (Removing k e) (Slot p x) d may = in_place sh p may.2.1.names.in_table may.0
+names_in V sh w hand cleared h (Removed k e) Moment d may = tt
+names_in V sh w hand cleared h (Moving k) (Slot p x) d may = in_place sh p may.1.0 may.0
+names_in V sh w hand cleared h (Moved k fresh) (Slot p x) d may = in_place sh p may.3.1.names.in_table may.0
+names_in V sh w hand cleared h (Closing k) Close d may = tt
+names_in V sh w hand cleared h _ _ d may = absurd may
 
 pub acts_name_the_table : (V : ℕ) → ActsNameTheTable V
 acts_name_the_table V sh acts a shape l may =
     let s = state_of V sh acts in
-    names_in V sh s.words s.hand s.cleared s.history s.phase a (state_hand V sh acts shape) (state_holds V sh acts shape l).deed may
+    names_in V sh s.words s.hand s.cleared s.history s.phase a (state_holds V sh acts shape l).deed may
 
 -- ---- the version changes
 -- an act leaves as many, or one more
@@ -136,7 +136,7 @@ pub writes_its_word : (V : ℕ) → WritesItsWord V
 writes_its_word V sh acts m shape l may most =
     let i = state_holds V sh acts shape l in (
       words_written V sh _ _ m.act,
-      write_fits V sh _ _ _ _ _ _ m.act shape i.agrees.size i.agrees.at_moment i.deed (state_counted V sh acts shape l) (omega (arith, most, (changes_le (state_of V sh acts).version_steps m.act).1)) may,
+      write_fits V sh _ (state_of V sh acts).hand _ _ _ _ m.act shape i.agrees.size i.agrees.at_moment i.deed (state_counted V sh acts shape l) (omega (arith, most, (changes_le (state_of V sh acts).version_steps m.act).1)) may,
     )
 
 pub keeps_its_words : (V : ℕ) → KeepsItsWords V

@@ -13,7 +13,7 @@ use Rattle.tests.proofs.clerk.run.Goals.{Else-not-make}
 
 -- the next act is allowed
 may : (c : Else-not-make) → IsAllowed (shape_of_clerk c.acts.clerk) (after_all (shape_of_clerk c.acts.clerk) c.acts.invariant.s c.acts.invariant.acts) c.in-Some.act
-may c = let on = c.acts.invariant in (c.in-Some.ensures.allowed on.call on.s on.acts on.on).0
+may c = let on = c.acts.invariant in (c.in-Some.ensures.allowed on.call on.s on.acts on.on).0.0
 
 -- the words after it, whatever bit it read
 now : (c : Else-not-make) (bit : ℕ) → c.make.new.self.words.items ≡ (after_all (shape_of_clerk c.acts.clerk) c.acts.invariant.s (c.acts.invariant.acts ++ record { act = c.in-Some.act; bit = bit } ∷ [])).words

@@ -3,7 +3,7 @@ use Rattle.mc_words.specs.Checks.{shape_of}
 use Rattle.mc_words.specs.declared.checked.Checked.{Checked}
 use Rattle.mc_core.specs.Inside.Seen.{ReadsIn}
 use Rattle.mc_core.specs.Inside.Tables.{shape_of_table}
-use Rattle.mc_theory.specs.Acts.{IsAllowed}
+use Rattle.mc_theory.specs.Acts.{IsAllowedByClock}
 use Rattle.mc_theory.specs.States.{State}
 use Rattle.mc_theory.specs.Traces.{HasVersionSteps, bit_of, given_of}
 use Rattle.mc_core.specs.Inside.Writers.{shape_of_writer, words_of_writer, phase_at, IsMade}
@@ -25,21 +25,21 @@ bit_of-bit-requires g c =
     let s = c.requires.1 in
     let world = c.args.self.now in
     let w = world.writer in
-    subst (λ (n : ℕ). ReadsIn n c.args.act) (sym world.marked) (reads_in g.row.V (shape_of_writer w) (words_of_writer w) w.hand w.cleared (phase_at w.written w.progress) c.args.act (hand_of world c.requires.0 s) ((c.if-not-allows.ensures {u = tt}).0 refl))
+    subst (λ (n : ℕ). ReadsIn n c.args.act) (sym world.marked) (reads_in g.row.V (shape_of_writer w) (words_of_writer w) w.hand w.cleared (phase_at w.written w.progress) c.args.act ((c.if-not-allows.ensures {u = tt}).0 refl).0)
 
 pub make-requires : goal.make-requires
 make-requires g c =
     let s = c.requires.1 in
     let world = c.args.self.now in
     let limit = world.writer.table.checked.sound.limit in
-    (search rules, (holds_of world c.requires.0 s, (s.used, (hand_of world c.requires.0 s, (counted_of world c.requires.0 s, (omega (arith, s.within, limit), (c.if-not-allows.ensures {u = tt}).0 refl))))))
+    (search rules, (holds_of world c.requires.0 s, (s.used, (hand_of world c.requires.0 s, (counted_of world c.requires.0 s, (omega (arith, s.within, limit), ((c.if-not-allows.ensures {u = tt}).0 refl).0))))))
 
 pub mark-requires : goal.mark-requires
 mark-requires g c =
     let s = c.requires.1 in
     let world = c.args.self.now in
     let w = world.writer in
-    subst (λ (n : ℕ). ReadsIn n c.args.act) (sym world.marked) (reads_in g.row.V (shape_of_writer w) (words_of_writer w) w.hand w.cleared (phase_at w.written w.progress) c.args.act (hand_of world c.requires.0 s) ((c.if-not-allows.ensures {u = tt}).0 refl))
+    subst (λ (n : ℕ). ReadsIn n c.args.act) (sym world.marked) (reads_in g.row.V (shape_of_writer w) (words_of_writer w) w.hand w.cleared (phase_at w.written w.progress) c.args.act ((c.if-not-allows.ensures {u = tt}).0 refl).0)
 
 pub returns-clause-made : goal.returns-clause-made
 returns-clause-made g c =
@@ -57,9 +57,9 @@ returns-clause-made g c =
       leads = λ seen s.
           let has = subst (λ (y : State g.row.V). HasVersionSteps (shape_of_writer w).limit y.version_steps a) s.shows.state within.1 in (
             _,
-            (subst (λ (y : State g.row.V). IsAllowed (shape_of_writer w) y a) s.shows.state may, (omega (arith, within.0, s.shows.events), has), refl),
+            (subst (λ (y : State g.row.V). IsAllowedByClock (shape_of_writer w) y a) s.shows.state may, (omega (arith, within.0, s.shows.events), has), refl),
             c.given_by.ensures ∙ ap (λ (n : ℕ). given_of {V = g.row.V} n a) (c.bit_of-bit.ensures ∙ ap (λ y. bit_of y a) s.shows.bits),
-            stand_after world _ seen a s may within.1 made c.mark.ensures.bits refl refl,
+            stand_after world _ seen a s may.0 within.1 made c.mark.ensures.bits refl refl,
           );
     }
 
@@ -69,7 +69,7 @@ returns-then-not-allows-clause-refused g c =
     record {
       kept = refl;
       full = λ is. not_wanting _ refl is;
-      refused = λ seen s. λ may. let e = none (subst (λ (y : State g.row.V). IsAllowed (shape_of_writer c.args.self.now.writer) y c.args.act) (sym s.shows.state) may) in cc (e);
+      refused = λ seen s. λ may. let e = none (subst (λ (y : State g.row.V). IsAllowedByClock (shape_of_writer c.args.self.now.writer) y c.args.act) (sym s.shows.state) may) in cc (e);
       stays = λ seen s. s;
     }
 
@@ -82,7 +82,7 @@ returns-then-not-is_within-clause-refused g c =
       kept = refl;
       full = λ is. not_wanting _ refl is;
       refused = λ seen s. (
-        subst (λ (y : State g.row.V). IsAllowed sh y c.args.act) s.shows.state may,
+        subst (λ (y : State g.row.V). IsAllowedByClock sh y c.args.act) s.shows.state may,
         (λ within. let e = past (omega (arith, within.0, s.shows.events), subst (λ (y : State g.row.V). HasVersionSteps sh.limit y.version_steps c.args.act) (sym s.shows.state) within.1) in cc (e)),
       );
       stays = λ seen s. s;

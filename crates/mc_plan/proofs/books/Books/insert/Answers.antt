@@ -1,6 +1,6 @@
 use Rattle.std.proofs.Common.{ℕ, List, Some, ◌∙◌, ap, sym, subst}
 use Rattle.mc_words.specs.Checks.{shape_of}
-use Rattle.mc_search.specs.Free.{IsFreeIn, TakesFree}
+use Rattle.mc_search.specs.Items.{IsFreeIn, TakesFree}
 use Rattle.mc_search.specs.Paths.{path_of_room}
 use Rattle.mc_plan.specs.Books.{Waits}
 use Rattle.mc_plan.specs.Deciding.{IsInserted}

@@ -1,7 +1,9 @@
 use Rattle.std.proofs.Common.{ℕ, List, ◌≡◌, ◌+◌, ◌*◌, ◌∙◌, ap, arith, length, sym, subst}
 use Rattle.mc_words.specs.Checks.{shape_of}
 use Rattle.mc_words.specs.Places.{moment}
+use Rattle.mc_search.specs.Items.{IsUsedIn}
 use Rattle.mc_search.specs.Paths.{path_of_room}
+use Rattle.mc_search.specs.declared.items.FreeItems.{FreeItems}
 use Rattle.mc_search.specs.Readable.{IsFilled}
 use Rattle.mc_plan.specs.Deciding.{IsReplaced}
 use Rattle.mc_plan.specs.Inside.Clerks.{IsReplacing, IsVictim}
@@ -12,7 +14,8 @@ use Rattle.mc_plan.specs.declared.books.Books.{Books}
 use Rattle.mc_plan.specs.declared.far.Far.{Far}
 use Rattle.mc_plan.specs.declared.decision.Replacement.{Replacement}
 use Rattle.mc_plan.proofs.Calls.AfterPlan.{filled_in, with_far}
-use Rattle.mc_plan.proofs.Calls.StoredKeys.{replaced_by}
+use Rattle.mc_plan.proofs.Calls.AfterSweep.{victim_stands}
+use Rattle.mc_plan.proofs.Calls.StoredKeys.{handed_on, replaced_by}
 use Rattle.mc_plan.proofs.Puts.PathSteps.{chain_taken, cut_taken}
 use Rattle.mc_plan.proofs.books.Books.replace.Goals as goal
 
@@ -60,4 +63,12 @@ returns-clause-replaced g c call s rs on same =
     let moves = stored.moves ∙ ap (λ (w : List ℕ). moves_acts V sh w kept left.hole) read in
     let r : Replacement = record { victim = c.victim-victim.result; storing = storing } in
     let done = replaced_by V b far is waiting call s rs r kept left.hole steps (subst (λ (i : ℕ). IsReplacing V b waiting call s rs i) here on) victim cut keys (stored.at ∙ next) changes moves stored.place stored.many in
-    subst (λ (x : Books). IsReplaced V x waiting call s rs r) (sym same_books) done
+    let was = subst (λ (x : Books). IsReplaced V x waiting call s rs r) (sym same_books) done in
+    handed_on V (record c.store-storing.new.self { version_steps = steps }) c.hand_on.new.self waiting call s rs r was c.hand_on.ensures.kept c.hand_on.ensures.list
+
+pub hand_on-requires-clause-in_use : goal.hand_on-requires-clause-in_use
+hand_on-requires-clause-in_use g c =
+    let r = c.requires.books in
+    let waits = r.3.sweeping.waits in
+    let same : c.store-storing.new.self.free ≡ c.args.self.now.free = ap (λ (x : Books). x.free) c.store-storing.ensures.books in
+    subst (λ (f : FreeItems). IsUsedIn f c.args.item) (sym same) (rw (← waits.known.items) at (victim_stands g.row.V c.args.self.now c.args.waiting.now r.0 r.1 r.2 c.args.item r.3).0, waits.none c.args.item)
