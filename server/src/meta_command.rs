@@ -1,9 +1,10 @@
 //! Carries meta commands out.
-use crate::command::{block, count_change, count_comparison, count_deletion, line, text, NOT_NUMERIC};
+use crate::command::{count_change, count_comparison, count_deletion, line, text, NOT_NUMERIC};
 use crate::counts::Count;
 use crate::item::Item;
 use crate::meta::{Meta, Verb};
 use crate::number;
+use crate::output::Output;
 use crate::request::{words, Change, How, Order};
 use crate::store::{Answer, Changed, Fault, Store};
 use std::io::Write;
@@ -22,7 +23,7 @@ fn with(token: u64) -> Facts {
 }
 
 /// Carries out a command whose block is this, if it has one.
-pub fn run(store: &Store, meta: &Meta, data: &[u8], out: &mut Vec<u8>) {
+pub fn run(store: &Store, meta: &Meta, data: &[u8], out: &mut Output) {
     store.counts.add(Count::MetaCommands);
     match meta.verb {
         Verb::Get => get(store, meta, out),
@@ -32,7 +33,7 @@ pub fn run(store: &Store, meta: &Meta, data: &[u8], out: &mut Vec<u8>) {
     }
 }
 
-fn get(store: &Store, meta: &Meta, out: &mut Vec<u8>) {
+fn get(store: &Store, meta: &Meta, out: &mut Output) {
     let mut is_found = false;
     let each = |_, item: &Item, token| {
         is_found = true;
@@ -42,7 +43,7 @@ fn get(store: &Store, meta: &Meta, out: &mut Vec<u8>) {
             out.extend_from_slice(b"VA ");
             number::write(out, item.value().len() as u64);
             write_flags(meta, &facts, out);
-            block(out, item.value());
+            out.block(item);
         } else {
             answer(meta, "HD", &facts, out);
         }
@@ -124,10 +125,9 @@ fn answer_number(meta: &Meta, number: u64, facts: &Facts, out: &mut Vec<u8>) {
     if !meta.with_value {
         return answer(meta, "HD", facts, out);
     }
-    let digits = number.to_string();
-    text!(out, "VA {}", digits.len());
+    text!(out, "VA {}", number.checked_ilog10().unwrap_or(0) + 1);
     write_flags(meta, facts, out);
-    block(out, digits.as_bytes());
+    text!(out, "\r\n{number}\r\n");
 }
 
 fn answer(meta: &Meta, code: &str, facts: &Facts, out: &mut Vec<u8>) {

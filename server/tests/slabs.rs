@@ -16,7 +16,7 @@ fn set_up() -> MutexGuard<'static, ()> {
 
 /// An item whose value has this length, and says which number it has.
 fn item(number: usize, length: usize) -> NewItem {
-    new_item(0, 0, 0, &number.to_le_bytes(), &[&vec![number as u8; length]])
+    new_item(0, 0, 0, &number.to_le_bytes(), &[&vec![number as u8; length]]).expect("there is memory")
 }
 
 fn chunk(item: &NewItem) -> usize {
