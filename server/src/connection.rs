@@ -123,9 +123,13 @@ impl Connection {
     /// All clients hold too much, and this one held most for longest. Returns whether it is enough to refuse the value that it sends.
     fn gives_up(&mut self, store: &Store, Cut { bytes, time }: Cut) -> bool {
         let is_enough = self.output.is_empty() && self.input.len() > 0;
-        let what = if is_enough { "has its value refused: it sent" } else { "is cut off: it has not read" };
+        let what = if is_enough {
+            "has its value refused, which it has not sent to the end"
+        } else {
+            "is cut off, since it does not read"
+        };
         let seconds = time.as_secs_f32();
-        self.tell(format_args!("{what} {bytes} bytes in {seconds:.1} s, and all clients hold half of the memory limit (-m)"));
+        self.tell(format_args!("{what}: {bytes} bytes for {seconds:.1} s. All clients hold half of the memory limit (-m)"));
         if is_enough {
             self.refuse_block();
         } else {

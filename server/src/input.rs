@@ -1,13 +1,13 @@
 //! Bytes that a client has sent and that are not done with. While it has its turn, few of them lie in a buffer of the worker.
-use crate::memory::try_reserve;
+use crate::memory::{buffer, try_reserve, APART};
 use std::cell::Cell;
 use std::mem;
 
 /// How many bytes are read at a time, at least. From so many on, those that wait have a buffer of their own, which grows as the client sends.
 const CHUNK: usize = 1 << 14;
 
-/// The bytes of a worker's buffer. The allocator maps such a block by itself.
-const ROOM: usize = 1 << 17;
+/// The bytes of a worker's buffer.
+const ROOM: usize = APART;
 
 thread_local! {
     static WORKERS: Cell<Vec<u8>> = const { Cell::new(Vec::new()) };
@@ -24,13 +24,11 @@ pub struct Input {
 }
 
 /// A buffer of so many bytes, the first of which are these. `None`: there is no memory for it.
-fn buffer(first: &[u8], size: usize) -> Option<Vec<u8>> {
-    let mut bytes = Vec::new();
-    try_reserve(&mut bytes, size).then(|| {
-        bytes.extend_from_slice(first);
-        bytes.resize(size, 0);
-        bytes
-    })
+fn buffer_of(first: &[u8], size: usize) -> Option<Vec<u8>> {
+    let mut bytes = buffer(size)?;
+    bytes.extend_from_slice(first);
+    bytes.resize(size, 0);
+    Some(bytes)
 }
 
 impl Input {
@@ -68,7 +66,7 @@ impl Input {
         }
         let mut bytes = WORKERS.take();
         if bytes.is_empty() {
-            let Some(new) = buffer(&[], ROOM) else { return false };
+            let Some(new) = buffer_of(&[], ROOM) else { return false };
             bytes = new;
         }
         let length = self.len();
@@ -83,7 +81,7 @@ impl Input {
             return true;
         }
         let end = self.len();
-        let Some(rest) = buffer(self.waiting(), end) else { return false };
+        let Some(rest) = buffer_of(self.waiting(), end) else { return false };
         self.replace(rest);
         self.end = end;
         true
@@ -112,14 +110,14 @@ impl Input {
             (self.start, self.end) = (0, self.len());
         }
         let wanted = needs.min((self.end + CHUNK).max(2 * self.end));
-        if self.is_borrowed && self.end < ROOM || self.bytes.len() >= wanted {
+        let length = self.bytes.len();
+        if self.is_borrowed && self.end < ROOM || length >= wanted {
             return true;
         }
         if self.is_borrowed {
-            return buffer(self.waiting(), wanted).map(|own| self.replace(own)).is_some();
+            return buffer_of(self.waiting(), wanted).map(|own| self.replace(own)).is_some();
         }
-        let more = wanted - self.bytes.len();
-        let has_memory = try_reserve(&mut self.bytes, more);
+        let has_memory = try_reserve(&mut self.bytes, wanted - length);
         if has_memory {
             self.bytes.resize(wanted, 0);
         }

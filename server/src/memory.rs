@@ -29,6 +29,20 @@ pub fn try_reserve<T>(list: &mut Vec<T>, more: usize) -> bool {
     may_fail(|| list.try_reserve_exact(more).is_ok())
 }
 
+/// The allocator maps a block from this size on by itself.
+pub const APART: usize = 1 << 17;
+
+/// A smaller buffer has its own size.
+const SMALL: usize = 1 << 12;
+
+/// An empty buffer for so many bytes. Unless it is small it is mapped by itself, so that it leaves no hole among the items. What is not used of it takes
+/// no memory. `None`: there is no memory for it.
+pub fn buffer(bytes: usize) -> Option<Vec<u8>> {
+    let mut buffer = Vec::new();
+    let size = if bytes < SMALL { bytes } else { bytes.max(APART) };
+    try_reserve(&mut buffer, size).then_some(buffer)
+}
+
 /// An allocator, and a reserve for what it refuses.
 #[derive(Debug)]
 pub struct Spare<A = System> {

@@ -90,10 +90,10 @@ fn change(store: &Store, meta: &Meta, out: &mut Vec<u8>) {
     let change = if meta.subtracts { Change::Subtract(meta.delta) } else { Change::Add(meta.delta) };
     let mut changed = store.change(meta.order.key, change, meta.order.compare, deadline);
     let mut is_quiet = meta.is_quiet;
-    match (changed, meta.create) {
+    match (changed, meta.creates) {
         // Memcached counts no miss either where a number is made.
-        (Ok(Changed::NotFound), Some(create)) => {
-            changed = make(store, meta, create, change, deadline);
+        (Ok(Changed::NotFound), true) => {
+            changed = make(store, meta, change, deadline);
             is_quiet = false;
         }
         _ => count_change(store, change, changed),
@@ -112,11 +112,11 @@ fn change(store: &Store, meta: &Meta, out: &mut Vec<u8>) {
 }
 
 /// Makes the number that was missing. If another client makes it first, that one is changed, and gets this deadline.
-fn make(store: &Store, meta: &Meta, create: i64, change: Change, deadline: Option<u64>) -> Result<Changed, Fault> {
+fn make(store: &Store, meta: &Meta, change: Change, deadline: Option<u64>) -> Result<Changed, Fault> {
     let number = meta.initial.to_string();
-    let order = Order { how: How::Add, compare: None, flags: 0, expiry: create, ..meta.order };
+    let order = Order { how: How::Add, compare: None, flags: 0, expiry: meta.made_expiry, ..meta.order };
     match store.store(&order, number.as_bytes())? {
-        Answer::Done(token) => Ok(Changed::Changed(meta.initial, token, store.clock.deadline(create))),
+        Answer::Done(token) => Ok(Changed::Changed(meta.initial, token, store.clock.deadline(meta.made_expiry))),
         _ => store.change(meta.order.key, change, meta.order.compare, deadline),
     }
 }

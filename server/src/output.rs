@@ -1,7 +1,7 @@
 //! Answers that are to be sent. A large value is sent from the item itself: a client that reads late holds no copy of it.
 use crate::item::Item;
 use crate::large::Held;
-use crate::memory::try_reserve;
+use crate::memory::{buffer, try_reserve, APART};
 use std::cell::Cell;
 use std::io::{self, IoSlice, Write};
 use std::mem;
@@ -10,9 +10,8 @@ use std::ops::{Deref, DerefMut};
 /// While so many bytes of answers wait, or a large value, no command is carried out, and nothing is read.
 pub const MOST_WAITING: usize = 1 << 16;
 
-/// The bytes of a worker's buffer: for what waits, and for the answer of one step, which is no longer than that. The allocator maps such a block by
-/// itself.
-const ROOM: usize = 2 * MOST_WAITING;
+/// The bytes of a worker's buffer: for what waits, and for the answer of one step, which is no longer than that.
+const ROOM: usize = APART;
 
 thread_local! {
     /// A client has a buffer of its own only while answers wait in it.
@@ -66,9 +65,9 @@ impl Output {
         is_kept
     }
 
-    /// What the client's own buffer takes.
+    /// How many bytes of the client's own buffer are used.
     pub fn held(&self) -> usize {
-        self.bytes.capacity()
+        self.bytes.len()
     }
 
     /// Ends a line, and writes the item's value behind it.
@@ -126,10 +125,7 @@ impl Output {
     /// What is not sent, in a list of its own size. `None`: there is no memory for that.
     fn take_rest(&mut self) -> Option<Output> {
         let [before, value, behind] = self.parts();
-        let mut bytes = Vec::new();
-        if !try_reserve(&mut bytes, before.len() + behind.len()) {
-            return None;
-        }
+        let mut bytes = buffer(before.len() + behind.len())?;
         bytes.extend_from_slice(before);
         bytes.extend_from_slice(behind);
         let (before, left) = (before.len(), value.len());
@@ -144,3 +140,5 @@ impl Output {
         self.sent = 0;
     }
 }
+
+const _: () = assert!(ROOM >= 2 * MOST_WAITING);

@@ -260,8 +260,9 @@ fn arithmetic_makes_a_number_that_is_missing() {
     let mut client = Client::new(MEGABYTE);
     // Quiet is only the usual answer, and this is not.
     assert_eq!(client.ask("ma n N0 J5 D3 q v\nma n N0 J5 D3 q v\nmg n v f t\n"), "VA 1\n5\nVA 1 f0 t-1\n8\n");
-    assert_eq!(client.ask("ma m\nma m N100 T0\n"), "NF\nHD\n");
-    assert_ne!(client.ask("mg m t\n"), "HD t-1\n", "it has the time to live of N");
+    assert_eq!(client.ask("ma m\nma m N100 T0\nmg m t\n"), "NF\nHD\nHD t-1\n");
+    assert_eq!(client.ask("ma l T0 N100\n"), "HD\n");
+    assert_ne!(client.ask("mg l t\n"), "HD t-1\n", "it has the last of the two");
 }
 
 #[test]

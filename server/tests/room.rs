@@ -86,6 +86,16 @@ fn so_many_seats() {
 }
 
 #[test]
+fn items_that_wait_are_looked_at_from_a_small_part_of_the_limit_on() {
+    let room = Room::new(12_800);
+    room.take(101);
+    room.leave(100);
+    assert_eq!((room.waiting(), room.has_many_waiting()), (100, false));
+    room.leave(1);
+    assert_eq!((room.waiting(), room.has_many_waiting()), (101, true));
+}
+
+#[test]
 fn what_clients_hold_is_counted() {
     let seats = Seats::new(2, 100_000);
     let take = || seats.take().expect("a seat is free");
