@@ -154,8 +154,12 @@ impl Seat {
 
     /// Notes a turn of the client, in seconds since the server started, and what it waits for.
     pub fn note(&self, turn: u32, state: State) {
-        self.place().turn.store(turn, Relaxed);
-        self.place().state.store(state as u32, Relaxed);
+        // Most turns change neither: clients of other workers share the cache line.
+        for (place, now) in [(&self.place().turn, turn), (&self.place().state, state as u32)] {
+            if place.load(Relaxed) != now {
+                place.store(now, Relaxed);
+            }
+        }
     }
 
     /// When the client last had a turn.

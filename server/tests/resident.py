@@ -110,8 +110,9 @@ def expired_items_go(program):
         commands = b''.join(b'set %d 0 %d 1 noreply\r\nv\r\n' % (key, key % 2) for key in range(2_000))
         assert ask(client, commands + b'mn\r\n') == b'MN\r\n'
         assert stats(client)[b'curr_items'] == 2_000
-        found = wait_for(client, lambda found: found[b'curr_items'] == 1_000)
-        assert found[b'crawler_reclaimed'] == 1_000 and found[b'evictions'] == 0, found
+        # An item is counted right after it has gone.
+        found = wait_for(client, lambda found: (found[b'curr_items'], found[b'crawler_reclaimed']) == (1_000, 1_000))
+        assert found[b'evictions'] == 0, found
 
 
 def wait_for(client, is_met):
