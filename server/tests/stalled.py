@@ -137,12 +137,12 @@ def memory_is_refused(program):
         limit = lambda: resource.setrlimit(resource.RLIMIT_AS, (kilobytes * 1024, kilobytes * 1024))
         with running(program, '-m', '64', '-t', '2', before=limit, stderr=subprocess.DEVNULL) as (server, port), connect(port) as client:
             stored = 0
-            for key in range(1_000):
+            for key in range(300):
                 size = [100, 5_000, 60_000, 900_000][key % 4]
                 answer = ask(client, b'set k%d 0 0 %d\r\n%s\r\n' % (key, size, VALUE[:size]))
                 assert answer in (STORED, b'SERVER_ERROR out of memory storing object\r\n'), answer
                 stored += answer == STORED
-            assert stored > 500 and server.poll() is None, stored
+            assert stored > 150 and server.poll() is None, stored
 
 
 def main():
