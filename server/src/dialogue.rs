@@ -81,6 +81,12 @@ impl Dialogue {
 
     /// Carries out what has come, and writes the answers. Returns how many bytes of the input are done with.
     pub fn turn(&mut self, store: &Store, input: &[u8], out: &mut Output) -> (usize, Turn) {
+        let done = self.steps(store, input, out);
+        self.refuses_block = false;
+        done
+    }
+
+    fn steps(&mut self, store: &Store, input: &[u8], out: &mut Output) -> (usize, Turn) {
         let mut done = 0;
         for _ in 0..COMMANDS {
             if out.is_full() {
