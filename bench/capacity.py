@@ -42,7 +42,7 @@ def told(server, size):
 def main():
     library = asked_library(__doc__)
     with tempfile.TemporaryDirectory(prefix='capacity-') as folder:
-        servers = {'cefrodild': [built(library, folder)[0]], 'memcached': MEMCACHED}
+        servers = {'cefrodild': built(library, folder)[0], 'memcached': MEMCACHED}
         print(f'||{"|".join(servers)}|\n|---|---|---|')
         for size in SIZES:
             cells = (told(server, size) for server in servers.values())

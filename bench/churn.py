@@ -129,11 +129,11 @@ def main(arguments):
     with tempfile.TemporaryDirectory(prefix='churn-') as folder:
         program, log = built(arguments[0], folder)[0], f'{folder}/log'
         print('||alone|beside busy processes|sets, thousands|\n|---|---|---|---|')
-        for name, server in ('cefrodild', [program]), ('memcached', MEMCACHED):
+        for name, server in ('cefrodild', program), ('memcached', MEMCACHED):
             if name in SERVERS:
                 row(name, server, seconds, 0)
         if 'audited' in SERVERS and len(arguments) == 3:
-            row('cefrodild with a log', [program, '-n', '10000', '--audit', log], seconds, 0.05)
+            row('cefrodild with a log', [*program, '-n', '10000', '--audit', log], seconds, 0.05)
             print(subprocess.run([arguments[2], log], check=True, capture_output=True, text=True).stdout.splitlines()[-1])
 
 

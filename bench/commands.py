@@ -87,7 +87,7 @@ def cost(server, row, size):
 def main():
     library = asked_library(__doc__)
     with tempfile.TemporaryDirectory(prefix='commands-') as folder:
-        servers = {'cefrodild': [built(library, folder)[0]], 'memcached': MEMCACHED}
+        servers = {'cefrodild': built(library, folder)[0], 'memcached': MEMCACHED}
         os.sched_setaffinity(0, {max(os.sched_getaffinity(0))})
         print(f'||{"|".join(servers)}|\n|---|---|---|')
         for row in ROWS:

@@ -34,7 +34,7 @@ def main():
     library = asked_library(__doc__)
     with tempfile.TemporaryDirectory(prefix='server-') as folder:
         program, load = built(library, folder)
-        servers = {'cefrodild': [program], 'memcached': MEMCACHED}
+        servers = {'cefrodild': program, 'memcached': MEMCACHED}
         print(f'||{"|".join(servers)}|\n|---|---|---|')
         for label, threads, words in ROWS:
             runs = {name: [] for name in servers}

@@ -12,13 +12,14 @@ MEMCACHED = ['memcached', '-u', 'nobody', '-l', '127.0.0.1', '-U', '0']
 
 
 def built(library, folder):
-    """The programs, built in this folder over this library: the server and its load."""
+    """The programs, built in this folder over this library: the server with the option that root needs, and its load."""
     with open(f'{folder}/cargo.toml', 'w', encoding='utf-8') as file:
         file.write(f'[source.crates-io]\nreplace-with = "debian"\n[source.debian]\ndirectory = "{CRATES}"\n')
     words = ['cargo', 'build', '--quiet', '--release', '--offline', '--config', f'{folder}/cargo.toml', '--bins', '--examples']
     subprocess.run(words, cwd=f'{TOP}/server', check=True,
                    env={**os.environ, 'CEFRODIL_LIB': os.path.realpath(library), 'CARGO_TARGET_DIR': f'{folder}/target'})
-    return f'{folder}/target/release/cefrodild', f'{folder}/target/release/examples/load'
+    user = ['-u', 'root'] if os.geteuid() == 0 else []
+    return [f'{folder}/target/release/cefrodild', *user], f'{folder}/target/release/examples/load'
 
 
 def asked_library(usage):

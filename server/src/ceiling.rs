@@ -13,8 +13,8 @@ const PART_OF_LOOK: u64 = 256;
 
 /// A look takes at most this part of the items' room away, or so many times the bytes of the item that is about to be put. So no command has to
 /// remove too many items.
-const PART_OF_CUT: u64 = 32;
-const TIMES_OF_CUT: u64 = 4;
+pub(crate) const PART_OF_CUT: u64 = 32;
+pub(crate) const TIMES_OF_CUT: u64 = 4;
 
 /// The items always keep this part of the room that they have at first.
 const PART_OF_LEAST: u64 = 8;

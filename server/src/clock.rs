@@ -39,6 +39,16 @@ impl Clock {
         self.started.elapsed().as_secs()
     }
 
+    /// What this time is in seconds since 1970.
+    pub fn unix_time_of(&self, then: u64) -> u64 {
+        unix_time().saturating_sub(self.now().saturating_sub(then) / SECOND)
+    }
+
+    /// The second since the start in which this was.
+    pub fn second_of(&self, then: Instant) -> u32 {
+        then.saturating_duration_since(self.started).as_secs() as u32
+    }
+
     /// When something ends that has this time to live, by the protocol: 0 is never, a negative number at once, up to 30 days counts from
     /// now, and more is seconds since 1970. 4294967295 is -1, too.
     pub fn deadline(&self, seconds: i64) -> u64 {

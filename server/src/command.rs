@@ -1,9 +1,9 @@
 //! Carries commands out, and writes their answers.
 use crate::counts::Count;
-use crate::dump;
 use crate::item::Item;
 use crate::meta_command;
 use crate::number;
+use crate::output::Output;
 use crate::request::{Change, Order, Request};
 use crate::stats;
 use crate::store::{Answer, Changed, Fault, Store};
@@ -49,7 +49,7 @@ macro_rules! text {
 pub(crate) use text;
 
 /// Writes an item as the answer of `get` has it.
-pub fn value(out: &mut Vec<u8>, key: &[u8], item: &Item, token: Option<u64>) {
+pub fn value(out: &mut Output, key: &[u8], item: &Item, token: Option<u64>) {
     out.extend_from_slice(b"VALUE ");
     out.extend_from_slice(key);
     out.push(b' ');
@@ -60,27 +60,11 @@ pub fn value(out: &mut Vec<u8>, key: &[u8], item: &Item, token: Option<u64>) {
         out.push(b' ');
         number::write(out, token);
     }
-    block(out, item.value());
+    out.block(item);
 }
 
-/// A block from this size on gets the room that it needs. A vector that grows by itself takes up to twice as much, which counts as the client's.
-const LARGE: usize = 1 << 14;
-
-/// What follows a block at most: the end of the answer.
-const BEHIND: usize = 1 << 6;
-
-/// Ends a line, and writes a block behind it.
-pub fn block(out: &mut Vec<u8>, data: &[u8]) {
-    if data.len() >= LARGE {
-        out.reserve_exact(data.len() + BEHIND);
-    }
-    out.extend_from_slice(b"\r\n");
-    out.extend_from_slice(data);
-    out.extend_from_slice(b"\r\n");
-}
-
-/// Carries out a command whose block, if it has one, is this. `get` and its kin, and `quit`, are the connection's.
-pub fn run(store: &Store, request: &Request, data: &[u8], is_quiet: bool, out: &mut Vec<u8>) {
+/// Carries out a command whose block, if it has one, is this. `get` and its kin, lists, and `quit`, are the connection's.
+pub fn run(store: &Store, request: &Request, data: &[u8], is_quiet: bool, out: &mut Output) {
     let text = match request {
         Request::Store(order) => store_item(store, order, data),
         Request::Delete(key) => delete(store, key),
@@ -92,12 +76,11 @@ pub fn run(store: &Store, request: &Request, data: &[u8], is_quiet: bool, out: &
             "OK"
         }
         Request::Stats(what) => return stats::answer(store, what, out),
-        Request::Dump(class, most) => return dump::answer(store, *class, *most, out),
         Request::Version => concat!("VERSION ", version!()),
         Request::Verbosity => "OK",
         Request::NoOperation => "MN",
         Request::Meta(meta) => return meta_command::run(store, meta, data, out),
-        Request::Keys(..) | Request::Quit => return,
+        Request::Keys(..) | Request::Dump(..) | Request::Crawl(..) | Request::Quit => return,
     };
     if !is_quiet {
         line(out, text);

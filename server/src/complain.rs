@@ -23,3 +23,18 @@ pub fn complain_at_times(last: &Last, what: Arguments) {
         complain(what);
     }
 }
+
+/// Since when so many things of a kind were told.
+pub type Told = Mutex<(Option<Instant>, u32)>;
+
+/// Tells the operator, but so often a minute at most.
+pub fn complain_few(told: &Told, most: u32, what: Arguments) {
+    let mut told = told.lock().unwrap_or_else(PoisonError::into_inner);
+    if told.0.is_none_or(|since| since.elapsed() >= PAUSE) {
+        *told = (Some(Instant::now()), 0);
+    }
+    if told.1 < most {
+        told.1 += 1;
+        complain(what);
+    }
+}

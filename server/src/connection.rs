@@ -1,32 +1,26 @@
 //! A client's connection: its buffers, and what it may take in one turn.
-use crate::complain::{complain_at_times, Last};
+use crate::complain::{complain_few, Told};
 use crate::counts::Count;
-use crate::dialogue::{Dialogue, Turn, MOST_WAITING};
+use crate::dialogue::{Dialogue, Turn};
+use crate::holders::{Cut, Home};
+use crate::input::Input;
 use crate::listen::Stream;
-use crate::seat::Seat;
+use crate::output::Output;
+use crate::seat::{Seat, State};
 use crate::store::Store;
 use mio::event::Event;
-use std::cell::Cell;
-use std::io::{self, ErrorKind, Read, Write};
-use std::mem;
+use std::fmt::Arguments;
+use std::io::{self, ErrorKind, Read};
+use std::os::fd::AsRawFd;
 
-/// How many bytes are read at a time, at least.
-const CHUNK: usize = 1 << 14;
-
-/// The bytes of a worker's buffer. The allocator maps such a block by itself, so one that grows and shrinks again leaves no holes among the items.
+/// Buffers from this size on are counted also within a turn.
 const LARGE: usize = 1 << 17;
-
-/// Less than this waits in a buffer of its own size.
-const SMALL: usize = 1 << 12;
-
-thread_local! {
-    /// Buffers for what is read and for answers; the latter is empty. A client has buffers of its own only while bytes wait in them.
-    static READ: Cell<Vec<u8>> = const { Cell::new(Vec::new()) };
-    static ANSWERS: Cell<Vec<u8>> = const { Cell::new(Vec::new()) };
-}
 
 /// How often a turn reads or carries commands out.
 const ROUNDS: u32 = 8;
+
+/// How many lines a minute say who was cut off.
+const MOST_TOLD: u32 = 20;
 
 /// What a connection waits for.
 #[derive(Clone, Copy, Debug, PartialEq, Eq)]
@@ -39,42 +33,41 @@ pub enum Next {
     Nothing,
 }
 
-/// A client's connection.
+/// A client's connection. The seat is dropped before the stream is closed, since it shows that to others.
 #[derive(Debug)]
 pub struct Connection {
+    seat: Seat,
     stream: Stream,
     dialogue: Dialogue,
     input: Input,
     /// So many bytes of input must be there before there is anything to do.
     needs: usize,
-    output: Vec<u8>,
+    output: Output,
     is_ending: bool,
     /// Nothing more had come when it was read last. What comes later is an event.
     is_dry: bool,
     /// The client sends no more. That event may have come with the last bytes.
     is_half_closed: bool,
-    seat: Seat,
-}
-
-/// Bytes that were read and are not done with: those of `bytes` from `start` to `end`.
-#[derive(Debug, Default)]
-struct Input {
-    bytes: Vec<u8>,
-    start: usize,
-    end: usize,
 }
 
 impl Connection {
     /// A client that has just connected.
     pub fn new(stream: Stream, seat: Seat) -> Connection {
-        let (dialogue, input, output) = (Dialogue::default(), Input::default(), Vec::new());
+        let file = stream.as_raw_fd();
+        seat.show(file);
+        let (dialogue, input, output) = (Dialogue::of(file), Input::default(), Output::default());
         let (is_ending, is_dry, is_half_closed) = (false, false, false);
-        Connection { stream, dialogue, input, needs: 1, output, is_ending, is_dry, is_half_closed, seat }
+        Connection { seat, stream, dialogue, input, needs: 1, output, is_ending, is_dry, is_half_closed }
     }
 
     /// The connection, for registering it.
     pub fn stream(&mut self) -> &mut Stream {
         &mut self.stream
+    }
+
+    /// Who serves it from now on.
+    pub fn settle(&mut self, home: Home) {
+        self.seat.settle(home);
     }
 
     /// Notes an event of the connection.
@@ -93,79 +86,118 @@ impl Connection {
         self.output.is_empty() && self.input.len() == 0 && !self.dialogue.is_within()
     }
 
+    /// When it last had a turn, in seconds since the server started.
+    pub fn last_turn(&self) -> u32 {
+        self.seat.turn()
+    }
+
+    /// Notes a turn in this second.
+    pub fn note_turn(&self, second: u32) {
+        self.seat.note(second, self.state());
+    }
+
+    fn state(&self) -> State {
+        if !self.output.is_empty() {
+            State::Sent
+        } else if self.dialogue.is_skipping() {
+            State::Skipped
+        } else if self.input.len() > 0 {
+            State::Block
+        } else {
+            State::Command
+        }
+    }
+
     /// Reads, carries commands out and sends answers, as far as that is possible at once and not too much.
     pub fn turn(&mut self, store: &Store) -> io::Result<Next> {
-        let before = self.seat.bytes();
-        self.borrow_buffers();
-        let next = self.rounds(store);
-        self.return_buffers();
-        self.seat.hold(self.held());
-        if self.seat.bytes() <= before || !self.seat.is_over() {
-            return next;
+        if let Some(cut) = self.seat.cut() {
+            if !self.gives_up(store, cut) {
+                return Ok(Next::Nothing);
+            }
+        }
+        let next = self.turn_with_buffers(store);
+        self.seat.hold(self.held(), self.output.item());
+        next
+    }
+
+    /// All clients hold too much, and this one held most for longest. Returns whether it is enough to refuse the value that it sends.
+    fn gives_up(&mut self, store: &Store, Cut { bytes, time }: Cut) -> bool {
+        let is_enough = self.output.is_empty() && self.input.len() > 0;
+        let what = if is_enough {
+            "has its value refused, which it has not sent to the end"
+        } else {
+            "is cut off, since it does not read"
+        };
+        let seconds = time.as_secs_f32();
+        self.tell(format_args!("{what}: {bytes} bytes for {seconds:.1} s. All clients hold half of the memory limit (-m)"));
+        if is_enough {
+            self.refuse_block();
+        } else {
+            store.counts.add(Count::NoBuffers);
+        }
+        is_enough
+    }
+
+    fn refuse_block(&mut self) {
+        self.dialogue.refuse_block();
+        self.needs = 0;
+    }
+
+    /// Tells the operator of this client.
+    fn tell(&self, what: Arguments) {
+        static TOLD: Told = Told::new((None, 0));
+        complain_few(&TOLD, MOST_TOLD, format_args!("{} {what}", self.stream));
+    }
+
+    /// What the client's own buffers take.
+    fn held(&self) -> usize {
+        self.input.held() + self.output.held()
+    }
+
+    fn turn_with_buffers(&mut self, store: &Store) -> io::Result<Next> {
+        self.send(store)?;
+        if !self.output.is_empty() {
+            return Ok(Next::Event);
+        }
+        let has_buffers = self.output.borrow() & self.input.borrow();
+        let next = if has_buffers { self.rounds(store).and_then(|next| self.keep(store, next)) } else { Ok(None) };
+        if !matches!(next, Ok(Some(_))) {
+            self.input.forget();
+        }
+        let is_kept = self.output.give_back();
+        if let (Some(next), true) = (next?, is_kept) {
+            return Ok(next);
         }
         store.counts.add(Count::NoBuffers);
-        static LAST: Last = Last::new(None);
-        complain_at_times(&LAST, format_args!("a client is cut off: the buffers of all take half of the memory limit (-m)"));
-        if self.output.is_empty() {
-            // If the client doesn't get this, it sees all the same that the connection ends.
-            let _ = self.stream.write(b"SERVER_ERROR out of memory reading request\r\n");
-        }
+        self.tell(format_args!("is cut off: the system has no memory for what it sends or has not read"));
         Ok(Next::Nothing)
     }
 
-    /// What the buffers take: of that for input, what was ever read into.
-    fn held(&self) -> usize {
-        self.input.bytes.len() + self.output.capacity()
-    }
-
-    /// Counts large buffers also within a turn, and that they are gone. Small ones are the worker's.
-    fn count_large(&mut self) {
-        if self.input.bytes.len().max(self.output.capacity()) > LARGE || self.seat.bytes() > LARGE as u64 {
-            self.seat.hold(self.held());
+    /// Keeps what waits, or refuses the value that it is part of. `None`: there is no memory for it.
+    fn keep(&mut self, store: &Store, next: Next) -> io::Result<Option<Next>> {
+        if self.input.keep() || store.has_with_more_memory(self.input.len(), || self.input.keep()) {
+            return Ok(Some(next));
         }
-    }
-
-    fn borrow_buffers(&mut self) {
-        if self.input.bytes.len() < CHUNK {
-            self.input.move_to(buffer_of(READ.take()));
-        }
-        if self.output.capacity() == 0 {
-            self.output = buffer_of(ANSWERS.take());
-        }
-    }
-
-    fn return_buffers(&mut self) {
-        if self.input.len() == 0 {
-            READ.set(mem::take(&mut self.input.bytes));
-        } else if self.input.len() < SMALL && self.input.bytes.len() >= CHUNK {
-            let small = self.input.waiting().to_vec();
-            READ.set(mem::replace(&mut self.input, Input { start: 0, end: small.len(), bytes: small }).bytes);
-        }
-        if self.output.is_empty() {
-            ANSWERS.set(mem::take(&mut self.output));
-        } else if self.output.len() < SMALL && self.output.capacity() >= LARGE {
-            let small = self.output.as_slice().to_vec();
-            let mut large = mem::replace(&mut self.output, small);
-            large.clear();
-            ANSWERS.set(large);
-        }
+        self.refuse_block();
+        self.answer(store);
+        self.send(store)?;
+        Ok(self.input.keep().then_some(next))
     }
 
     fn rounds(&mut self, store: &Store) -> io::Result<Next> {
         for _ in 0..ROUNDS {
             self.send(store)?;
-            if self.is_ending {
-                return Ok(if self.output.is_empty() { Next::Nothing } else { Next::Event });
-            }
-            if self.output.len() >= MOST_WAITING {
+            if !self.output.is_empty() {
                 return Ok(Next::Event);
+            }
+            if self.is_ending {
+                return Ok(Next::Nothing);
             }
             if self.input.len() >= self.needs {
                 self.answer(store);
             } else if !self.receive(store)? {
                 return Ok(Next::Event);
             }
-            self.count_large();
         }
         Ok(Next::Turn)
     }
@@ -185,46 +217,39 @@ impl Connection {
         if self.is_dry && !self.is_half_closed {
             return Ok(false);
         }
-        self.input.make_room(self.needs);
-        self.count_large();
-        let room = &mut self.input.bytes[self.input.end..];
+        let needs = self.needs;
+        let has_room = self.input.make_room(needs) || store.has_with_more_memory(needs, || self.input.make_room(needs));
+        if !has_room {
+            self.refuse_block();
+            return Ok(true);
+        }
+        let room = self.input.room();
         match retry(|| self.stream.read(room))? {
             Some(0) => self.is_ending = true,
             Some(count) => {
                 self.is_dry = count < room.len();
-                self.input.end += count;
+                self.input.add(count);
                 store.counts.add_many(Count::BytesRead, count as u64);
             }
             None => return Ok(false),
+        }
+        if self.input.held() > LARGE {
+            self.seat.count(self.held());
         }
         Ok(true)
     }
 
     /// Sends what can be sent.
     fn send(&mut self, store: &Store) -> io::Result<()> {
-        let mut sent = 0;
-        while sent < self.output.len() {
-            match retry(|| self.stream.write(&self.output[sent..]))? {
+        while !self.output.is_empty() {
+            match retry(|| self.output.send(&mut self.stream))? {
                 Some(0) => return Err(ErrorKind::WriteZero.into()),
-                Some(count) => sent += count,
+                Some(count) => store.counts.add_many(Count::BytesWritten, count as u64),
                 None => break,
             }
         }
-        if sent > 0 {
-            store.counts.add_many(Count::BytesWritten, sent as u64);
-            self.output.drain(..sent);
-        }
-        if self.output.is_empty() {
-            self.output.shrink_to(LARGE);
-        }
         Ok(())
     }
-}
-
-/// The buffer that a worker has kept, or a new one.
-fn buffer_of(mut kept: Vec<u8>) -> Vec<u8> {
-    kept.reserve_exact(LARGE.saturating_sub(kept.len()));
-    kept
 }
 
 /// Calls again if a signal interrupted the call. `None`: it would block.
@@ -239,43 +264,10 @@ fn retry(mut call: impl FnMut() -> io::Result<usize>) -> io::Result<Option<usize
     }
 }
 
-impl Input {
-    fn len(&self) -> usize {
-        self.end - self.start
-    }
-
-    /// Moves what waits into this buffer.
-    fn move_to(&mut self, mut bytes: Vec<u8>) {
-        let length = self.len();
-        bytes.resize(bytes.len().max(length), 0);
-        bytes[..length].copy_from_slice(self.waiting());
-        *self = Input { bytes, start: 0, end: length };
-    }
-
-    fn waiting(&self) -> &[u8] {
-        &self.bytes[self.start..self.end]
-    }
-
-    fn consume(&mut self, count: usize) {
-        self.start += count;
-        if self.start == self.end {
-            (self.start, self.end) = (0, 0);
-            self.bytes.truncate(LARGE);
-            self.bytes.shrink_to(LARGE);
-        }
-    }
-
-    /// Makes room to read into, if so many bytes must be there. A client can make the buffer twice as large as what it has sent, and no larger.
-    fn make_room(&mut self, needs: usize) {
-        if self.start > 0 {
-            self.bytes.copy_within(self.start..self.end, 0);
-            (self.start, self.end) = (0, self.len());
-        }
-        let wanted = (self.end + CHUNK).max(needs.min(2 * self.end));
-        if self.bytes.len() < wanted {
-            // What the buffer takes is counted, so it has no more than that.
-            self.bytes.reserve_exact(wanted - self.bytes.len());
-            self.bytes.resize(wanted, 0);
-        }
-    }
+/// Gets this thread its buffers, if there is memory for them now.
+pub fn warm_up() {
+    let (mut input, mut output) = (Input::default(), Output::default());
+    let _ = output.borrow() & input.borrow();
+    input.forget();
+    output.give_back();
 }

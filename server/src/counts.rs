@@ -45,6 +45,7 @@ counts! {
     BytesWritten "bytes_written",
     Connections "total_connections",
     Rejected "rejected_connections",
+    IdleKicks "idle_kicks",
     NoBuffers "connections_out_of_memory",
 }
 

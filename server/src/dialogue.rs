@@ -2,12 +2,14 @@
 use crate::command::{line, run, value};
 use crate::counts::Count;
 use crate::item::Item;
+use crate::listing::Listing;
 use crate::meta::Verb;
+use crate::output::Output;
 use crate::request::{parse, refusal, words, Keys, Order, Refusal, Request, ERROR, FORMAT, LONGEST_KEY};
 use crate::store::{Fault, Store};
-
-/// While so many bytes of answers wait, no command is carried out, and nothing is read.
-pub const MOST_WAITING: usize = 1 << 16;
+use std::io::{self, Write};
+use std::mem;
+use std::os::fd::RawFd;
 
 /// The longest command line, with its end. A line of keys may be longer, since its keys are answered as they come.
 const LONGEST_LINE: usize = 2048;
@@ -36,6 +38,10 @@ pub enum Turn {
 #[derive(Debug, Default)]
 pub struct Dialogue {
     state: State,
+    /// The block of the next command is refused if it has not come.
+    refuses_block: bool,
+    /// The client's open file, which names it in what `-vv` shows.
+    file: RawFd,
 }
 
 #[derive(Debug, Default)]
@@ -50,17 +56,40 @@ enum State {
     Keys(Keys),
     /// In a line of keys that was refused.
     Rest,
+    /// In a list that is the answer.
+    List(Listing),
 }
 
 /// What a step did: how many bytes of the input are done with, and how the turn goes on.
 struct Step(usize, Option<Turn>);
 
 impl Dialogue {
+    /// That of a client with this open file.
+    pub fn of(file: RawFd) -> Dialogue {
+        Dialogue { file, ..Dialogue::default() }
+    }
+
+    /// There is no memory for the block that has not come as a whole. The client is told so, and what is still to come of it is skipped.
+    pub fn refuse_block(&mut self) {
+        self.refuses_block = true;
+    }
+
+    /// Whether a block is skipped.
+    pub fn is_skipping(&self) -> bool {
+        matches!(self.state, State::Block(_))
+    }
+
     /// Carries out what has come, and writes the answers. Returns how many bytes of the input are done with.
-    pub fn turn(&mut self, store: &Store, input: &[u8], out: &mut Vec<u8>) -> (usize, Turn) {
+    pub fn turn(&mut self, store: &Store, input: &[u8], out: &mut Output) -> (usize, Turn) {
+        let done = self.steps(store, input, out);
+        self.refuses_block = false;
+        done
+    }
+
+    fn steps(&mut self, store: &Store, input: &[u8], out: &mut Output) -> (usize, Turn) {
         let mut done = 0;
         for _ in 0..COMMANDS {
-            if out.len() >= MOST_WAITING {
+            if out.is_full() {
                 break;
             }
             let Step(taken, turn) = self.step(store, &input[done..], out);
@@ -77,13 +106,14 @@ impl Dialogue {
         !matches!(self.state, State::New | State::Line)
     }
 
-    fn step(&mut self, store: &Store, input: &[u8], out: &mut Vec<u8>) -> Step {
+    fn step(&mut self, store: &Store, input: &[u8], out: &mut Output) -> Step {
         match self.state {
             State::New => self.first(input),
             State::Line => self.line(store, input, out),
             State::Block(bytes) => self.skip(bytes, input),
             State::Keys(keys) => self.keys(keys, store, input, out),
             State::Rest => self.rest(input),
+            State::List(listing) => self.list(listing, store, out),
         }
     }
 
@@ -93,11 +123,14 @@ impl Dialogue {
         Step(0, (input.first() == Some(&BINARY)).then_some(Turn::Ends))
     }
 
-    fn line(&mut self, store: &Store, input: &[u8], out: &mut Vec<u8>) -> Step {
+    fn line(&mut self, store: &Store, input: &[u8], out: &mut Output) -> Step {
         let end = find(&input[..input.len().min(LONGEST_LINE)], b'\n');
         let Some(end) = end else { return self.part_of_line(input, out) };
         let (text, rest) = (input[..end].strip_suffix(b"\r").unwrap_or(&input[..end]), &input[end + 1..]);
         let end = end + 1;
+        if store.options.verbosity > 1 {
+            show(self.file, text);
+        }
         let (request, is_quiet) = parse(text);
         match request {
             Ok(Request::Quit) => return Step(end, Some(Turn::Ends)),
@@ -108,7 +141,10 @@ impl Dialogue {
             Ok(Request::Keys(..)) => line(out, FORMAT.text),
             Ok(request) => match order_of(&request) {
                 Some(order) => return self.block(store, &request, is_quiet, &order, rest, out).behind(end),
-                None => run(store, &request, b"", is_quiet, out),
+                None => match Listing::of(store, &request) {
+                    Some(listing) => self.state = State::List(listing),
+                    None => run(store, &request, b"", is_quiet, out),
+                },
             },
             Err(ERROR) if is_http(text) => return Step(end, Some(Turn::Ends)),
             Err(why) => self.refuse(why, is_quiet, out),
@@ -117,7 +153,7 @@ impl Dialogue {
     }
 
     /// The line has not ended yet, or is too long.
-    fn part_of_line(&mut self, input: &[u8], out: &mut Vec<u8>) -> Step {
+    fn part_of_line(&mut self, input: &[u8], out: &mut Output) -> Step {
         if input.len() < LONGEST_LINE {
             return Step(0, Some(Turn::Needs(input.len() + 1)));
         }
@@ -131,7 +167,7 @@ impl Dialogue {
         Step(input.len(), Some(Turn::Ends))
     }
 
-    fn refuse(&mut self, why: Refusal, is_quiet: bool, out: &mut Vec<u8>) {
+    fn refuse(&mut self, why: Refusal, is_quiet: bool, out: &mut Output) {
         if !is_quiet {
             line(out, why.text);
         }
@@ -141,19 +177,13 @@ impl Dialogue {
     }
 
     /// Carries out a command with a block, if that is there: the input is what follows the line.
-    fn block(
-        &mut self,
-        store: &Store,
-        request: &Request,
-        is_quiet: bool,
-        order: &Order,
-        input: &[u8],
-        out: &mut Vec<u8>,
-    ) -> Step {
+    fn block(&mut self, store: &Store, request: &Request, is_quiet: bool, order: &Order, input: &[u8], out: &mut Output) -> Step {
         let (length, whole) = (order.length, order.length + END.len());
-        if length > store.options.longest {
-            store.counts.add(Count::TooLarge);
-            self.refuse(Refusal { text: store.refuse(order, Fault::TooLong).text(), block: whole }, is_quiet, out);
+        let refuses = mem::take(&mut self.refuses_block) && input.len() < whole;
+        if length > store.options.longest || refuses {
+            let (count, why) = if refuses { (Count::NoMemory, Fault::NoRoom) } else { (Count::TooLarge, Fault::TooLong) };
+            store.counts.add(count);
+            self.refuse(Refusal { text: store.refuse(order, why).text(), block: whole }, is_quiet, out);
             return Step(0, None);
         }
         if input.len() < whole {
@@ -183,13 +213,21 @@ impl Dialogue {
         Step(end + 1, None)
     }
 
+    fn list(&mut self, mut listing: Listing, store: &Store, out: &mut Output) -> Step {
+        self.state = if listing.part(store, out) { State::List(listing) } else { State::Line };
+        if matches!(self.state, State::Line) {
+            line(out, "END");
+        }
+        Step(0, None)
+    }
+
     /// Looks some keys up, the first of what is left of the line.
-    fn keys(&mut self, keys: Keys, store: &Store, input: &[u8], out: &mut Vec<u8>) -> Step {
+    fn keys(&mut self, keys: Keys, store: &Store, input: &[u8], out: &mut Output) -> Step {
         let batch = Batch::of(input);
         let found = &batch.keys[..batch.count];
         let each = |position: usize, item: &Item, token| {
             value(out, found[position], item, keys.with_token.then_some(token));
-            out.len() < MOST_WAITING
+            !out.is_full()
         };
         let looked = match keys.expiry {
             Some(expiry) => store.look_and_touch(found, store.clock.deadline(expiry), each),
@@ -242,6 +280,12 @@ fn find(bytes: &[u8], sought: u8) -> Option<usize> {
 /// Whether this is the first line of a request of HTTP. A web page can make a browser send one, with commands in its body.
 fn is_http(line: &[u8]) -> bool {
     words(line).last().is_some_and(|word| word.starts_with(b"HTTP/"))
+}
+
+/// Shows the operator what a client sends, as memcached does.
+#[cold]
+fn show(file: RawFd, line: &[u8]) {
+    let _ = writeln!(io::stderr(), "<{file} {}", line.escape_ascii());
 }
 
 /// What is to be stored, if a block follows the line.

@@ -1,11 +1,13 @@
 //! Items that give way: those in their queue for longest that were not read lately.
-use crate::ceiling::Expected;
+use crate::allocator;
+use crate::ceiling::{Expected, PART_OF_CUT, TIMES_OF_CUT};
 use crate::index::{Outcome, Refused, Stamp};
 use crate::item::Item;
 use crate::queue::{Entry, Line, Queue, Queued};
 use crate::room::Leaving;
 use crate::slabs;
 use crate::store::{Fault, Store};
+use std::sync::atomic::Ordering::Relaxed;
 use std::thread::{sleep, yield_now};
 use std::time::Duration;
 
@@ -84,6 +86,31 @@ impl Store {
             self.index.sweep();
         }
         Some(expected)
+    }
+
+    /// The system has refused memory for so many bytes. Makes a call again when some items have given way, unless that did not help lately.
+    pub(crate) fn with_more_memory<T>(&self, bytes: usize, again: impl FnOnce() -> Option<T>) -> Option<T> {
+        // Relaxed: a guess.
+        if self.helpless.load(Relaxed) == self.clock.uptime() {
+            return None;
+        }
+        let limit = self.room.limit();
+        let cut = (TIMES_OF_CUT * bytes as u64).min(limit / PART_OF_CUT);
+        self.room.set_limit(self.room.used().saturating_sub(cut));
+        self.evict_enough(None, Way::Alone);
+        self.room.set_limit(limit);
+        self.index.sweep();
+        allocator::trim();
+        let result = again();
+        if result.is_none() {
+            self.helpless.store(self.clock.uptime(), Relaxed);
+        }
+        result
+    }
+
+    /// The same with a call that says whether there was memory.
+    pub(crate) fn has_with_more_memory(&self, bytes: usize, again: impl FnOnce() -> bool) -> bool {
+        self.with_more_memory(bytes, || again().then_some(())).is_some()
     }
 
     /// Removes items until the others are within the limit. Returns whether they are.

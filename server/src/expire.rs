@@ -40,8 +40,9 @@ impl Store {
     }
 
     /// What a worker does each second, beside answering clients.
-    pub(crate) fn tidy_up(&self) {
+    pub fn tidy_up(&self) {
         self.expire();
+        self.seats.look();
         if let Some(ceiling) = &self.ceiling {
             ceiling.look(&self.room, self.seats.bytes(), 0);
         }

@@ -1,4 +1,5 @@
 //! What is stored under a key.
+use crate::memory::may_fail;
 use crate::slabs;
 use cefrodil_map::{Block, Bytes, Head};
 use std::alloc::Layout;
@@ -57,8 +58,8 @@ unsafe impl Head for About {
     }
 }
 
-/// An item that was made at this time, with a value of these parts.
-pub fn new_item(born: u64, flags: u32, deadline: u64, key: &[u8], value: &[&[u8]]) -> NewItem {
+/// An item that was made at this time, with a value of these parts. `None`: there is no memory for it.
+pub fn new_item(born: u64, flags: u32, deadline: u64, key: &[u8], value: &[&[u8]]) -> Option<NewItem> {
     let length = value.iter().map(|part| part.len()).sum::<usize>();
     let about = About {
         born,
@@ -68,9 +69,9 @@ pub fn new_item(born: u64, flags: u32, deadline: u64, key: &[u8], value: &[&[u8]
         key: key.len().try_into().expect("the longest key has 250 bytes"),
         marks: AtomicU16::new(0),
     };
-    let item = NewItem::new(about, key, value);
+    let item = may_fail(|| NewItem::try_new(about, key, value))?;
     slabs::note(&item);
-    item
+    Some(item)
 }
 
 /// Which items `flush_all` has made invalid: those that are no younger than one of these times, once it has come.
@@ -83,6 +84,11 @@ pub struct Flushes {
 }
 
 impl About {
+    /// When it was made.
+    pub fn born(&self) -> u64 {
+        self.born
+    }
+
     /// When it expires.
     pub fn deadline(&self) -> u64 {
         // It says nothing of other memory. A call that keeps it and one that moves it take turns, which orders them.

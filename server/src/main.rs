@@ -6,13 +6,15 @@ use cefrodild::complain::complain;
 use cefrodild::daemon;
 use cefrodild::files;
 use cefrodild::listen::{Listener, Place};
+use cefrodild::memory::Spare;
 use cefrodild::objects::Objects;
 use cefrodild::options::{parse, Asked, Options, HELP};
 use cefrodild::room::Room;
 use cefrodild::server::{named, Server};
 use cefrodild::slabs;
 use cefrodild::store::Store;
-use cefrodild::user::become_user;
+use cefrodild::user::{become_user, is_root};
+use std::alloc::System;
 use std::env;
 use std::error::Error;
 use std::ffi::OsString;
@@ -25,6 +27,9 @@ const PART_OF_LOSS: usize = 10;
 
 /// For small items, addresses of so many times the memory limit are reserved.
 const ADDRESSES: usize = 2;
+
+#[global_allocator]
+static ALLOCATOR: Spare = Spare::new(System);
 
 fn main() -> ExitCode {
     let words = env::args_os().skip(1).map(OsString::into_string).collect::<Result<Vec<String>, OsString>>();
@@ -57,7 +62,10 @@ fn tell(text: &str) -> ExitCode {
 }
 
 fn serve(options: Options) -> Result<(), Box<dyn Error>> {
-    let Options { threads, memory, items, is_verbose, .. } = options;
+    let Options { threads, memory, items, verbosity, .. } = options;
+    for word in &options.idle {
+        complain(format_args!("{word} changes nothing here"));
+    }
     let starter = options.detaches.then(daemon::detach).transpose()?;
     let listeners = prepare(&options)?;
     let file = options.process_file.as_deref();
@@ -81,13 +89,16 @@ fn serve(options: Options) -> Result<(), Box<dyn Error>> {
     Server::run(store, listeners, || {
         // If nobody reads that, the server goes on.
         drop(io::stdout().write_all(told.as_bytes()).and_then(|()| io::stdout().flush()));
-        starter.map_or(Ok(()), |starter| starter.tell_ready(is_verbose))
+        starter.map_or(Ok(()), |starter| starter.tell_ready(verbosity > 0))
     })?;
     log.map_or(Ok(()), |log| log.end()).map_err(Into::into)
 }
 
 /// Sets the limits of the process, listens, and then becomes the user's.
 fn prepare(options: &Options) -> Result<Vec<Listener>, Box<dyn Error>> {
+    if options.user.is_none() && is_root() {
+        return Err("root needs -u and the name of the user whose process the server is to become".into());
+    }
     files::make_room(options.connections, options.threads)?;
     if options.dumps_core {
         files::allow_core()?;

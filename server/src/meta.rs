@@ -37,8 +37,10 @@ pub struct Meta<'a> {
     pub subtracts: bool,
     /// `D`: what is added or subtracted.
     pub delta: u64,
-    /// `N` of `ma`: the time to live of a number that is made.
-    pub create: Option<i64>,
+    /// `N` of `ma`: whether a number is made that is missing.
+    pub creates: bool,
+    /// Its time to live: the last of `N` and `T`.
+    pub made_expiry: i64,
     /// `J`: the number that is made.
     pub initial: u64,
 }
@@ -74,7 +76,19 @@ impl<'a> Meta<'a> {
     fn new(verb: Verb, key: &'a [u8], length: usize, words: &'a [u8]) -> Meta<'a> {
         let order = Order { how: How::Set, key, flags: 0, expiry: 0, length, compare: None };
         let (is_quiet, with_value, subtracts) = (false, false, false);
-        Meta { verb, order, words, is_quiet, with_value, expiry: None, subtracts, delta: 1, create: None, initial: 0 }
+        Meta {
+            verb,
+            order,
+            words,
+            is_quiet,
+            with_value,
+            expiry: None,
+            subtracts,
+            delta: 1,
+            creates: false,
+            made_expiry: 0,
+            initial: 0,
+        }
     }
 
     fn read_flags(&mut self) -> Result<(), Refusal> {
@@ -108,12 +122,16 @@ impl<'a> Meta<'a> {
             (b'T', _) => {
                 self.order.expiry = number::integer(token).ok_or(self.bad_token())?;
                 self.expiry = Some(self.order.expiry);
+                self.made_expiry = self.order.expiry;
             }
             (b'C', _) => self.order.compare = Some(number::unsigned(token).ok_or(self.bad_token())?),
             (b'F', Verb::Set) => self.order.flags = number::flags(token).ok_or(FORMAT)?,
             (b'D', Verb::Arithmetic) => self.delta = number::unsigned(token).ok_or(self.bad_token())?,
             (b'J', Verb::Arithmetic) => self.initial = number::unsigned(token).ok_or(self.bad_token())?,
-            (b'N', Verb::Arithmetic) => self.create = Some(number::integer(token).ok_or(self.bad_token())?),
+            (b'N', Verb::Arithmetic) => {
+                self.creates = true;
+                self.made_expiry = number::integer(token).ok_or(self.bad_token())?;
+            }
             _ => return Err(self.invalid()),
         }
         Ok(())

@@ -1,9 +1,10 @@
 //! Carries meta commands out.
-use crate::command::{block, count_change, count_comparison, count_deletion, line, text, NOT_NUMERIC};
+use crate::command::{count_change, count_comparison, count_deletion, line, text, NOT_NUMERIC};
 use crate::counts::Count;
 use crate::item::Item;
 use crate::meta::{Meta, Verb};
 use crate::number;
+use crate::output::Output;
 use crate::request::{words, Change, How, Order};
 use crate::store::{Answer, Changed, Fault, Store};
 use std::io::Write;
@@ -22,7 +23,7 @@ fn with(token: u64) -> Facts {
 }
 
 /// Carries out a command whose block is this, if it has one.
-pub fn run(store: &Store, meta: &Meta, data: &[u8], out: &mut Vec<u8>) {
+pub fn run(store: &Store, meta: &Meta, data: &[u8], out: &mut Output) {
     store.counts.add(Count::MetaCommands);
     match meta.verb {
         Verb::Get => get(store, meta, out),
@@ -32,7 +33,7 @@ pub fn run(store: &Store, meta: &Meta, data: &[u8], out: &mut Vec<u8>) {
     }
 }
 
-fn get(store: &Store, meta: &Meta, out: &mut Vec<u8>) {
+fn get(store: &Store, meta: &Meta, out: &mut Output) {
     let mut is_found = false;
     let each = |_, item: &Item, token| {
         is_found = true;
@@ -42,7 +43,7 @@ fn get(store: &Store, meta: &Meta, out: &mut Vec<u8>) {
             out.extend_from_slice(b"VA ");
             number::write(out, item.value().len() as u64);
             write_flags(meta, &facts, out);
-            block(out, item.value());
+            out.block(item);
         } else {
             answer(meta, "HD", &facts, out);
         }
@@ -89,10 +90,10 @@ fn change(store: &Store, meta: &Meta, out: &mut Vec<u8>) {
     let change = if meta.subtracts { Change::Subtract(meta.delta) } else { Change::Add(meta.delta) };
     let mut changed = store.change(meta.order.key, change, meta.order.compare, deadline);
     let mut is_quiet = meta.is_quiet;
-    match (changed, meta.create) {
+    match (changed, meta.creates) {
         // Memcached counts no miss either where a number is made.
-        (Ok(Changed::NotFound), Some(create)) => {
-            changed = make(store, meta, create, change, deadline);
+        (Ok(Changed::NotFound), true) => {
+            changed = make(store, meta, change, deadline);
             is_quiet = false;
         }
         _ => count_change(store, change, changed),
@@ -111,11 +112,11 @@ fn change(store: &Store, meta: &Meta, out: &mut Vec<u8>) {
 }
 
 /// Makes the number that was missing. If another client makes it first, that one is changed, and gets this deadline.
-fn make(store: &Store, meta: &Meta, create: i64, change: Change, deadline: Option<u64>) -> Result<Changed, Fault> {
+fn make(store: &Store, meta: &Meta, change: Change, deadline: Option<u64>) -> Result<Changed, Fault> {
     let number = meta.initial.to_string();
-    let order = Order { how: How::Add, compare: None, flags: 0, expiry: create, ..meta.order };
+    let order = Order { how: How::Add, compare: None, flags: 0, expiry: meta.made_expiry, ..meta.order };
     match store.store(&order, number.as_bytes())? {
-        Answer::Done(token) => Ok(Changed::Changed(meta.initial, token, store.clock.deadline(create))),
+        Answer::Done(token) => Ok(Changed::Changed(meta.initial, token, store.clock.deadline(meta.made_expiry))),
         _ => store.change(meta.order.key, change, meta.order.compare, deadline),
     }
 }
@@ -124,10 +125,9 @@ fn answer_number(meta: &Meta, number: u64, facts: &Facts, out: &mut Vec<u8>) {
     if !meta.with_value {
         return answer(meta, "HD", facts, out);
     }
-    let digits = number.to_string();
-    text!(out, "VA {}", digits.len());
+    text!(out, "VA {}", number.checked_ilog10().unwrap_or(0) + 1);
     write_flags(meta, facts, out);
-    block(out, digits.as_bytes());
+    text!(out, "\r\n{number}\r\n");
 }
 
 fn answer(meta: &Meta, code: &str, facts: &Facts, out: &mut Vec<u8>) {

@@ -14,16 +14,18 @@ cefrodild: a cache server that speaks memcached's text protocol
 -s, --unix-socket=FILE   listen on a Unix socket, and not on TCP
 -a, --unix-mask=MODE     its mode, in octal digits (700)
 -U, --udp-port=0         there is no UDP, so only 0 is allowed
--u, --user=NAME          if root starts the server: the user that it is to become
+-u, --user=NAME          if root starts the server, which needs it: the user that it is to become
 -d, --daemon             detach from the terminal, once the server listens
 -P, --pidfile=FILE       write the number of the process to a file, which is removed at the end
--v, --verbose            with -d: keep the output open. More of them, as in -vv, change nothing
+-v, --verbose            with -d: keep the output open; -vv: show commands
 -r, --enable-coredumps   let core files be as large as the system allows
 -t, --threads=N          worker threads, 1 to 64 (4)
 -m, --memory-limit=N     megabytes for keys, values and index, at least 16 (64)
 -n, --items=N            most items, up to 768000000 (about one for each 162 bytes of the memory limit)
 -c, --conn-limit=N       most connections at a time (1024)
--I, --max-item-size=N    longest value in bytes, or with k or m behind it, 1k to 128m (1m)
+-I, --max-item-size=N    longest value in bytes, or with k or m behind it, 1k to 128m (1m), and at most
+                         half of the memory limit
+-o, --extended=LIST      idle_timeout=N: leave clients that are silent for N seconds (0: none)
     --one-queue          no small queue for new keys: items give way by age and use alone
     --audit=FILE         log changes and answers for mccheck; one shard
 -h, --help               print this
@@ -48,6 +50,9 @@ const MOST_LOGGED: usize = 3_774_873;
 /// The index takes at most this part of the limit.
 const PART_OF_INDEX: usize = 2;
 
+/// A value may take this part of the limit, which is what all clients together may have sent of values that are not complete.
+const PART_OF_LONGEST: usize = 2;
+
 /// What the server is to do. [`parse`] makes one.
 #[derive(Clone, Debug, Default, PartialEq, Eq)]
 pub struct Options {
@@ -57,8 +62,8 @@ pub struct Options {
     pub user: Option<String>,
     /// Whether it leaves the process that started it.
     pub detaches: bool,
-    /// Whether its output stays open then.
-    pub is_verbose: bool,
+    /// How often it was asked to say more: its output stays open then, and from two times on it shows commands.
+    pub verbosity: u32,
     /// Whether core files may be as large as the system allows.
     pub dumps_core: bool,
     /// A file for the number of the process.
@@ -74,6 +79,10 @@ pub struct Options {
     pub longest: usize,
     /// Whether new keys have no small queue of their own.
     pub one_queue: bool,
+    /// For so many seconds a client may be silent.
+    pub idle_timeout: Option<u32>,
+    /// Memcached's options that were given and change nothing here.
+    pub idle: Vec<String>,
     /// Where the log for `mccheck` goes.
     pub audit: Option<String>,
 }
@@ -87,7 +96,7 @@ pub enum Asked {
 }
 
 /// The names of an option: its letter, its long name, and whether a value follows.
-const NAMES: [(char, &str, bool); 19] = [
+const NAMES: [(char, &str, bool); 25] = [
     ('p', "port", true),
     ('l', "listen", true),
     ('s', "unix-socket", true),
@@ -103,10 +112,44 @@ const NAMES: [(char, &str, bool); 19] = [
     ('n', "items", true),
     ('c', "conn-limit", true),
     ('I', "max-item-size", true),
+    ('o', "extended", true),
+    ('R', "max-reqs-per-event", true),
+    ('b', "listen-backlog", true),
+    ('k', "lock-memory", false),
+    ('B', "protocol", true),
+    ('f', "slab-growth-factor", true),
     ('Q', "one-queue", false),
     ('A', "audit", true),
     ('h', "help", false),
     ('V', "version", false),
+];
+
+/// Memcached's names in the list of `-o` that change nothing here.
+const EXTENDED: [&str; 24] = [
+    "modern",
+    "no_modern",
+    "maxconns_fast",
+    "no_maxconns_fast",
+    "hashpower",
+    "no_hashexpand",
+    "hash_algorithm",
+    "tail_repair_time",
+    "lru_crawler",
+    "no_lru_crawler",
+    "lru_crawler_sleep",
+    "lru_crawler_tocrawl",
+    "lru_maintainer",
+    "no_lru_maintainer",
+    "hot_lru_pct",
+    "warm_lru_pct",
+    "hot_max_factor",
+    "warm_max_factor",
+    "slab_reassign",
+    "no_slab_reassign",
+    "slab_automove",
+    "slab_chunk_max",
+    "no_inline_ascii_resp",
+    "worker_logbuf_size",
 ];
 
 /// The letters of options that have a long name alone.
@@ -156,7 +199,7 @@ impl Given {
             'u' => options.user = Some(value),
             'd' => options.detaches = true,
             'P' => options.process_file = Some(path(word, value)?),
-            'v' => options.is_verbose = true,
+            'v' => options.verbosity += 1 + value.len() as u32,
             'r' => options.dumps_core = true,
             'U' => drop(within(word, &value, 0..=0)?),
             't' => options.threads = within(word, &value, 1..=64)?,
@@ -164,6 +207,9 @@ impl Given {
             'n' => self.items = Some(within(word, &value, 1..=MOST_ITEMS)?),
             'c' => options.connections = within(word, &value, 1..=1 << 20)?,
             'I' => options.longest = size(word, &value)?,
+            'o' => value.split(',').try_for_each(|one| extended(options, word, one))?,
+            'B' if value != "ascii" => return Err(format!("{word}: there is no protocol but ascii: leave it out")),
+            'R' | 'b' | 'k' | 'B' | 'f' => options.idle.push(word.to_owned()),
             'Q' => options.one_queue = true,
             _ => options.audit = Some(value),
         }
@@ -179,6 +225,9 @@ impl Given {
         }
         if items > memory / PART_OF_INDEX / BYTES_OF_AN_ENTRY {
             return Err(format!("-n: the index of {items} items would take half of the memory limit, or more"));
+        }
+        if self.options.longest > memory / PART_OF_LONGEST {
+            return Err("-I: the longest value may take half of the memory limit (-m) at most".into());
         }
         let file = self.file.map(|file| Place::File(file, self.mode));
         Ok(Options { listen: places(self.hosts, self.port, file)?, memory, items, ..self.options })
@@ -226,7 +275,7 @@ fn items_for(memory: usize) -> usize {
 
 /// The option's letter, and its value: behind the name, or the next word.
 fn option(word: &str, words: &mut impl Iterator<Item = String>) -> Result<(char, String), String> {
-    let unknown = || format!("there is no option '{word}'; see --help");
+    let unknown = || format!("there is no option '{word}' here: leave it out, or see --help");
     let (found, value) = if let Some(long) = word.strip_prefix("--") {
         let (name, value) = long.split_once('=').map_or((long, None), |(name, value)| (name, Some(value)));
         (NAMES.iter().find(|(_, known, _)| *known == name), value)
@@ -243,10 +292,24 @@ fn option(word: &str, words: &mut impl Iterator<Item = String>) -> Result<(char,
         (false, None) => Ok((letter, String::new())),
         // As in -vv.
         (false, Some(value)) if !word.starts_with("--") && value.chars().all(|again| again == letter) => {
-            Ok((letter, String::new()))
+            Ok((letter, value.to_owned()))
         }
         (false, Some(_)) => Err(format!("{word} takes no value")),
     }
+}
+
+/// One of the list of `-o`.
+fn extended(options: &mut Options, word: &str, one: &str) -> Result<(), String> {
+    let (name, value) = one.split_once('=').unwrap_or((one, ""));
+    if name == "idle_timeout" {
+        let seconds = within(name, value, 0..=u32::MAX as usize)? as u32;
+        options.idle_timeout = Some(seconds).filter(|seconds| *seconds > 0);
+    } else if EXTENDED.contains(&name) {
+        options.idle.push(format!("{word} {name}"));
+    } else if !name.is_empty() {
+        return Err(format!("{word}: there is no '{name}' here: leave it out"));
+    }
+    Ok(())
 }
 
 fn within(word: &str, value: &str, range: std::ops::RangeInclusive<usize>) -> Result<usize, String> {

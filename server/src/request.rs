@@ -1,4 +1,5 @@
 //! A command line, and what it asks for.
+use crate::listing::CLASS;
 use crate::meta::{self, Meta};
 use crate::number;
 
@@ -29,6 +30,8 @@ pub enum Request<'a> {
     Stats(&'a [u8]),
     /// `stats cachedump`, with a class of items, and the most items that are to be listed. 0: any number.
     Dump(u64, u64),
+    /// `lru_crawler metadump`, and whether it is asked for the class that has items.
+    Crawl(bool),
     Version,
     /// It changes nothing.
     Verbosity,
@@ -158,6 +161,7 @@ fn classic<'a>(name: &[u8], words: &[&'a [u8]], line: &'a [u8], is_quiet: bool) 
         (b"flush_all", 2 | 3) => Ok(Request::Flush(number::integer(words[1]).ok_or(EXPTIME)?)),
         (b"verbosity", 2 | 3) => number::unsigned(words[1]).map(|_| Request::Verbosity).ok_or(FORMAT),
         (b"stats", _) if words.get(1) == Some(&b"cachedump".as_slice()) => dump(words),
+        (b"lru_crawler", 3) if words[1] == b"metadump" => crawl(words[2]),
         (b"stats", _) => Ok(Request::Stats(words.get(1).copied().unwrap_or_default())),
         (b"version", _) => Ok(Request::Version),
         (b"quit", _) => Ok(Request::Quit),
@@ -206,6 +210,20 @@ fn dump<'a>(words: &[&'a [u8]]) -> Result<Request<'a>, Refusal> {
         (Some(_), Some(_)) => Err(refusal("CLIENT_ERROR Illegal slab id")),
         _ => Err(FORMAT),
     }
+}
+
+fn crawl<'a>(classes: &[u8]) -> Result<Request<'a>, Refusal> {
+    if matches!(classes, b"all" | b"hash") {
+        return Ok(Request::Crawl(true));
+    }
+    let (mut all, mut has_class) = (classes.split(|byte| *byte == b','), false);
+    let is_class = |class| (1..=LAST_CLASS).contains(&class);
+    let are_classes = all.all(|class| {
+        let class = number::unsigned(class).filter(|class| is_class(*class));
+        has_class |= class == Some(CLASS);
+        class.is_some()
+    });
+    are_classes.then_some(Request::Crawl(has_class)).ok_or(refusal("BADCLASS invalid class id"))
 }
 
 /// Old clients send a time, which must be 0.

@@ -1,39 +1,93 @@
-//! How many clients are connected at a time, and what their buffers take.
-use std::sync::atomic::{AtomicU64, AtomicUsize, Ordering::Relaxed};
-use std::sync::Arc;
+//! Clients that are connected: how many at a time, and what they hold.
+use crate::holders::{Cut, Holders, Home};
+use crate::large::{left, Held};
+use mio::{Token, Waker};
+use std::os::fd::RawFd;
+use std::sync::atomic::{AtomicI32, AtomicU32, AtomicU64, AtomicUsize, Ordering::Acquire, Ordering::Relaxed, Ordering::Release};
+use std::sync::{Arc, Mutex, MutexGuard, OnceLock, PoisonError};
+
+/// So many bytes of each client don't count. A command that fits these is never cut off.
+pub const FREE: usize = 1 << 13;
 
 /// The seats of all clients.
 // The counts are relaxed, since no other memory is read by what they say. Only the thread that takes seats adds to `taken`. If that thread does
-// not see yet that a seat is free, it refuses a client. Several threads may find at once that there is room for their bytes.
+// not see yet that a seat is free, it refuses a client.
 #[derive(Debug)]
 pub struct Seats {
-    most: usize,
     taken: AtomicUsize,
     most_bytes: u64,
     bytes: AtomicU64,
+    places: Box<[Place]>,
+    /// Where a free place is sought.
+    next: AtomicUsize,
+    holders: Mutex<Holders>,
+    /// The open files where the server listens.
+    listeners: OnceLock<Vec<RawFd>>,
+}
+
+/// What others see of a client.
+#[derive(Debug)]
+struct Place {
+    /// Its open file, or `NO_FILE`, or `NOBODY` if the place is free.
+    file: AtomicI32,
+    /// When it last had a turn, in seconds since the server started.
+    turn: AtomicU32,
+    state: AtomicU32,
+}
+
+const NOBODY: RawFd = -1;
+const NO_FILE: RawFd = -2;
+
+/// What a client waits for.
+#[derive(Clone, Copy, Debug, PartialEq, Eq)]
+pub enum State {
+    Command,
+    Block,
+    Skipped,
+    Sent,
+}
+
+/// What others see of a client: its open file, when it last had a turn, and what it waits for.
+#[derive(Clone, Copy, Debug)]
+pub struct Seen {
+    pub file: RawFd,
+    pub turn: u32,
+    pub state: State,
 }
 
 /// A client's seat, until it is dropped.
 #[derive(Debug)]
 pub struct Seat {
     seats: Arc<Seats>,
+    index: usize,
     /// What the client's buffers take.
     bytes: u64,
+    /// Its number among those that hold much.
+    number: Option<usize>,
+    home: Option<Home>,
 }
 
 impl Seats {
     /// For so many clients at a time, whose buffers take so many bytes.
     pub fn new(most: usize, most_bytes: usize) -> Arc<Seats> {
-        Arc::new(Seats { most, taken: AtomicUsize::new(0), most_bytes: most_bytes as u64, bytes: AtomicU64::new(0) })
+        let place = |_| Place { file: AtomicI32::new(NOBODY), turn: AtomicU32::new(0), state: AtomicU32::new(0) };
+        let (taken, next, bytes) = (AtomicUsize::new(0), AtomicUsize::new(0), AtomicU64::new(0));
+        let (places, holders) = ((0..most).map(place).collect(), Mutex::default());
+        let listeners = OnceLock::new();
+        Arc::new(Seats { taken, most_bytes: most_bytes as u64, bytes, places, next, holders, listeners })
     }
 
     /// Takes a seat, if one is free. Only one thread calls it.
     pub fn take(self: &Arc<Seats>) -> Option<Seat> {
-        if self.taken() >= self.most {
-            return None;
-        }
+        let first = self.next.load(Relaxed);
+        let places = (first..self.places.len()).chain(0..first);
+        // Acquire: who had the seat is done with it.
+        let is_free = |index: &usize| self.places[*index].file.load(Acquire) == NOBODY;
+        let index = (self.taken() < self.places.len()).then(|| places).into_iter().flatten().find(is_free)?;
+        self.places[index].file.store(NO_FILE, Relaxed);
+        self.next.store(index + 1, Relaxed);
         self.taken.fetch_add(1, Relaxed);
-        Some(Seat { seats: Arc::clone(self), bytes: 0 })
+        Some(Seat { seats: Arc::clone(self), index, bytes: 0, number: None, home: None })
     }
 
     /// How many are taken.
@@ -41,19 +95,108 @@ impl Seats {
         self.taken.load(Relaxed)
     }
 
-    /// What the buffers of all clients take.
+    /// What the buffers of all clients take, and the items that are kept for them alone.
     pub fn bytes(&self) -> u64 {
-        self.bytes.load(Relaxed)
+        self.bytes.load(Relaxed) + left()
+    }
+
+    /// Cuts clients off if all hold too much.
+    pub fn look(&self) {
+        if self.bytes() > self.most_bytes {
+            self.holders().cut(self.most_bytes);
+        }
+    }
+
+    /// The next client of this worker that is to be cut off.
+    pub fn next_cut(&self, worker: &Arc<Waker>) -> Option<Token> {
+        self.holders().next_cut(worker)
+    }
+
+    /// Lets others see where the server listens.
+    pub fn show_listeners(&self, files: Vec<RawFd>) {
+        self.listeners.get_or_init(|| files);
+    }
+
+    /// The open files where the server listens.
+    pub fn listeners(&self) -> &[RawFd] {
+        self.listeners.get().map_or(&[], Vec::as_slice)
+    }
+
+    /// The first client at this place or behind it, and its place.
+    pub fn seen_from(&self, place: usize) -> Option<(usize, Seen)> {
+        let places = self.places.iter().enumerate().skip(place);
+        places.map(|(index, place)| (index, place.seen())).find(|(_, seen)| seen.file >= 0)
+    }
+
+    fn holders(&self) -> MutexGuard<'_, Holders> {
+        self.holders.lock().unwrap_or_else(PoisonError::into_inner)
+    }
+}
+
+impl Place {
+    fn seen(&self) -> Seen {
+        let states = [State::Command, State::Block, State::Skipped, State::Sent];
+        let state = states.into_iter().find(|state| *state as u32 == self.state.load(Relaxed)).unwrap_or(State::Command);
+        Seen { file: self.file.load(Relaxed), turn: self.turn.load(Relaxed), state }
     }
 }
 
 impl Seat {
-    /// Notes what the client's buffers take from now on.
-    pub fn hold(&mut self, bytes: usize) {
+    /// Lets others see the client's open file.
+    pub fn show(&self, file: RawFd) {
+        self.place().file.store(file, Relaxed);
+    }
+
+    /// Who serves the client.
+    pub fn settle(&mut self, home: Home) {
+        self.home = Some(home);
+    }
+
+    /// Notes a turn of the client, in seconds since the server started, and what it waits for.
+    pub fn note(&self, turn: u32, state: State) {
+        // Most turns change neither: clients of other workers share the cache line.
+        for (place, now) in [(&self.place().turn, turn), (&self.place().state, state as u32)] {
+            if place.load(Relaxed) != now {
+                place.store(now, Relaxed);
+            }
+        }
+    }
+
+    /// When the client last had a turn.
+    pub fn turn(&self) -> u32 {
+        self.place().turn.load(Relaxed)
+    }
+
+    /// Counts what the client's buffers take from now on.
+    pub fn count(&mut self, bytes: usize) {
         let (bytes, before) = (bytes as u64, self.bytes);
         if bytes != before {
             self.bytes = bytes;
             self.seats.bytes.fetch_add(bytes.wrapping_sub(before), Relaxed);
+        }
+    }
+
+    /// The same, and the item that it is sent. If all clients hold too much, some are cut off.
+    pub fn hold(&mut self, bytes: usize, item: Option<&Held>) {
+        self.count(bytes);
+        if bytes <= FREE && item.is_none() {
+            return self.leave();
+        }
+        let mut holders = self.seats.holders();
+        self.number = holders.note(self.number, self.home.as_ref(), (bytes.saturating_sub(FREE)) as u64, item);
+        holders.cut(self.seats.most_bytes);
+    }
+
+    /// Whether it is to be cut off, and what it has held since when.
+    pub fn cut(&self) -> Option<Cut> {
+        let number = self.number?;
+        self.seats.holders().cut_of(number)
+    }
+
+    /// It holds nothing that counts.
+    fn leave(&mut self) {
+        if let Some(number) = self.number.take() {
+            self.seats.holders().remove(number);
         }
     }
 
@@ -62,15 +205,16 @@ impl Seat {
         self.bytes
     }
 
-    /// Whether the buffers of all clients take too much.
-    pub fn is_over(&self) -> bool {
-        self.seats.bytes() > self.seats.most_bytes
+    fn place(&self) -> &Place {
+        &self.seats.places[self.index]
     }
 }
 
 impl Drop for Seat {
     fn drop(&mut self) {
+        self.leave();
         self.seats.bytes.fetch_sub(self.bytes, Relaxed);
+        self.place().file.store(NOBODY, Release);
         self.seats.taken.fetch_sub(1, Relaxed);
     }
 }

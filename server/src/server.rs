@@ -53,6 +53,7 @@ impl Server {
             inboxes.push(inbox);
             threads.push(thread::Builder::new().name(format!("worker {index}")).spawn(move || worker.run(index))?);
         }
+        store.seats.show_listeners(listeners.iter().map(AsRawFd::as_raw_fd).collect());
         ready()?;
         let mut server = Server { listeners, workers: Workers { store, inboxes, handed: 0 } };
         server.accept_all(&mut poll)?;

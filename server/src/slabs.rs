@@ -1,7 +1,8 @@
 //! Memory for small items (slabs): chunks, each with blocks of one size. The server can list the items of a chunk and evict them together. Then the
 //! system gets the chunk back. The C library's allocator would return a page only when all of its small items have left.
 use crate::item::Item;
-use std::alloc::{alloc, dealloc, Layout};
+use crate::large;
+use std::alloc::Layout;
 use std::io;
 use std::mem::{align_of, size_of};
 use std::ptr;
@@ -102,7 +103,7 @@ pub unsafe fn take(layout: Layout) -> *mut u8 {
         _ => None,
     };
     // SAFETY: the caller says that it may be called.
-    at.unwrap_or_else(|| unsafe { alloc(layout) })
+    at.unwrap_or_else(|| unsafe { large::take(layout) })
 }
 
 /// Frees memory that `take` returned for this layout.
@@ -114,8 +115,8 @@ pub unsafe fn give_back(at: *mut u8, layout: Layout) {
     match SLABS.get() {
         // SAFETY: the caller says that `take` returned it, and that nobody uses it.
         Some(slabs) if slabs.has(at as usize) => unsafe { slabs.give_back(at) },
-        // SAFETY: as above. So `alloc` did return it.
-        _ => unsafe { dealloc(at, layout) },
+        // SAFETY: as above. So `large::take` did return it.
+        _ => unsafe { large::give_back(at, layout) },
     }
 }
 

@@ -1,7 +1,8 @@
 //! The answer of `stats`.
 use crate::clock::unix_time;
 use crate::command::{line, text, version};
-use crate::dump;
+use crate::listing::CLASS;
+use crate::queue::Cursor;
 use crate::request::ERROR;
 use crate::store::Store;
 use crate::usage;
@@ -19,8 +20,11 @@ pub fn answer(store: &Store, what: &[u8], out: &mut Vec<u8>) {
         }
         b"settings" => settings(store, out),
         b"items" => items(store, out),
-        // There is none here, but clients ask for them.
-        b"slabs" => line(out, "END"),
+        b"slabs" => slabs(store, out),
+        b"sizes" => {
+            out.extend_from_slice(b"STAT sizes_status disabled\r\n");
+            line(out, "END");
+        }
         _ => line(out, ERROR.text),
     }
 }
@@ -50,12 +54,60 @@ fn general(store: &Store, out: &mut Vec<u8>) {
     line(out, "END");
 }
 
+/// The sum with this name.
+fn sum(store: &Store, sought: &str) -> u64 {
+    let gone = store.room.gone().into_iter().chain(store.counts.sums());
+    gone.filter(|(name, _)| *name == sought).map(|(_, sum)| sum).sum()
+}
+
+/// Writes counts of the class that has all items, each with the name that it has there and the one that it has elsewhere.
+fn write_counts(store: &Store, class: &str, names: &[(&str, &str)], out: &mut Vec<u8>) {
+    for (name, sought) in names {
+        text!(out, "STAT {class}:{name} {}\r\n", sum(store, sought));
+    }
+}
+
 /// All items are of one class.
 fn items(store: &Store, out: &mut Vec<u8>) {
-    let number = store.room.items();
+    let (number, class) = (store.room.items(), format_args!("items:{CLASS}").to_string());
     if number > 0 {
-        text!(out, "STAT items:{}:number {number}\r\n", dump::CLASS);
+        text!(out, "STAT {class}:number {number}\r\nSTAT {class}:age {}\r\n", age(store));
+        text!(out, "STAT {class}:mem_requested {}\r\nSTAT {class}:evicted_time 0\r\n", store.room.used());
+        let names = [("evicted", "evictions"), ("outofmemory", "store_no_memory"), ("reclaimed", "reclaimed")];
+        let others = ["expired_unfetched", "evicted_unfetched", "crawler_reclaimed"].map(|name| (name, name));
+        write_counts(store, &class, &[&names[..], &others].concat(), out);
     }
+    line(out, "END");
+}
+
+/// The seconds since the item was stored that is first in the main queue.
+fn age(store: &Store) -> u64 {
+    let (first, mut age) = (store.queue.look_from(Cursor::default(), 1).0, 0);
+    for entry in first {
+        store.index.peek(entry.hash, &mut |seen| {
+            if let Ok(Some((item, _))) = seen {
+                age = unix_time().saturating_sub(store.clock.unix_time_of(item.born()));
+            }
+        });
+    }
+    age
+}
+
+/// The class has pages of a megabyte, and chunks as large as an item is on average.
+fn slabs(store: &Store, out: &mut Vec<u8>) {
+    const PAGE: u64 = 1 << 20;
+    let (number, used) = (store.room.items(), store.room.used());
+    if number > 0 {
+        let size = (used / number).max(1);
+        let free = store.room.limit().saturating_sub(used) / size;
+        let class = CLASS.to_string();
+        text!(out, "STAT {class}:chunk_size {size}\r\nSTAT {class}:chunks_per_page {}\r\n", (PAGE / size).max(1));
+        text!(out, "STAT {class}:total_pages {}\r\nSTAT {class}:total_chunks {}\r\n", used.div_ceil(PAGE), number + free);
+        text!(out, "STAT {class}:used_chunks {number}\r\nSTAT {class}:free_chunks {free}\r\nSTAT {class}:free_chunks_end 0\r\n");
+        let names = ["get_hits", "cmd_set", "delete_hits", "incr_hits", "decr_hits", "cas_hits", "cas_badval", "touch_hits"];
+        write_counts(store, &class, &names.map(|name| (name, name)), out);
+    }
+    text!(out, "STAT active_slabs {}\r\nSTAT total_malloced {used}\r\n", u64::from(number > 0));
     line(out, "END");
 }
 
@@ -63,5 +115,7 @@ fn settings(store: &Store, out: &mut Vec<u8>) {
     text!(out, "STAT maxbytes {}\r\nSTAT maxconns {}\r\n", store.options.memory, store.options.connections);
     text!(out, "STAT item_size_max {}\r\nSTAT num_threads {}\r\n", store.options.longest, store.options.threads);
     text!(out, "STAT evictions on\r\nSTAT cas_enabled yes\r\nSTAT udpport 0\r\n");
+    text!(out, "STAT verbosity {}\r\n", store.options.verbosity);
+    text!(out, "STAT idle_timeout {}\r\n", store.options.idle_timeout.unwrap_or(0));
     line(out, "END");
 }

@@ -10,6 +10,7 @@ use crate::room::Room;
 use crate::seat::Seats;
 use crate::turn::Turns;
 use std::fmt::{self, Debug, Formatter};
+use std::sync::atomic::AtomicU64;
 use std::sync::Arc;
 
 /// The buffers of all connections may take this part of the memory limit, beside it.
@@ -24,6 +25,8 @@ pub struct Store {
     pub(crate) ceiling: Option<Ceiling>,
     pub queue: Queue,
     pub(crate) turns: Turns,
+    /// The second since the start in which the system refused memory though items had given way.
+    pub(crate) helpless: AtomicU64,
     flushes: Flushes,
     pub options: Options,
     pub seats: Arc<Seats>,
@@ -86,7 +89,8 @@ impl Store {
         let (clock, turns, flushes) = (Clock::new(), Turns::default(), Flushes::default());
         let queue = if options.one_queue { Queue::one() } else { Queue::new(options.items) };
         let seats = Seats::new(options.connections, options.memory / PART_OF_BUFFERS);
-        Store { index, counts, clock, room, ceiling: None, queue, turns, flushes, seats, options }
+        let helpless = AtomicU64::new(u64::MAX);
+        Store { index, counts, clock, room, ceiling: None, queue, turns, helpless, flushes, seats, options }
     }
 
     /// The same store, whose items get less room if the process exceeds this ceiling.

@@ -7,10 +7,15 @@ use std::ptr;
 /// The longest text that the system keeps of a user.
 const TEXT: usize = 1 << 14;
 
+/// Whether the process is root's.
+pub fn is_root() -> bool {
+    // SAFETY: the call has no arguments.
+    unsafe { libc::geteuid() == 0 }
+}
+
 /// Gives up root's rights, if the process has them. It is this user's from then on, with the user's groups. There may be one thread so far.
 pub fn become_user(name: &str) -> Result<(), String> {
-    // SAFETY: the call has no arguments.
-    if unsafe { libc::geteuid() } != 0 {
+    if !is_root() {
         return Ok(());
     }
     let text = CString::new(name).map_err(|_| format!("{name:?} is no user"))?;

@@ -1,16 +1,16 @@
 //! A thread that answers some of the clients.
-use crate::complain::complain;
-use crate::connection::{Connection, Next};
-use crate::counts;
+use crate::complain::{complain, complain_at_times, Last};
+use crate::connection::{warm_up, Connection, Next};
+use crate::counts::{self, Count};
 use crate::expire::PAUSE;
+use crate::holders::Home;
 use crate::store::Store;
 use mio::{Events, Interest, Poll, Token, Waker};
 use std::collections::HashMap;
 use std::hash::{BuildHasherDefault, Hasher};
 use std::io::{self, ErrorKind};
 use std::mem;
-use std::sync::mpsc::{channel, Receiver, Sender, TryRecvError};
-use std::sync::Arc;
+use std::sync::{Arc, Mutex, MutexGuard, PoisonError};
 use std::time::{Duration, Instant};
 
 /// The token of what wakes the worker. Those of connections are smaller.
@@ -25,8 +25,15 @@ const GRACE: Duration = Duration::from_secs(2);
 /// What hands clients to a worker. When it is dropped, the worker ends.
 #[derive(Debug)]
 pub struct Inbox {
-    clients: Sender<Connection>,
+    mail: Arc<Mutex<Mail>>,
     waker: Arc<Waker>,
+}
+
+/// The clients that wait in an inbox, and whether it has been dropped.
+#[derive(Debug, Default)]
+struct Mail {
+    clients: Vec<Connection>,
+    is_last: bool,
 }
 
 /// The hash of a token. Tokens are counted, so no client can choose them.
@@ -53,7 +60,7 @@ impl Hasher for Counted {
 pub struct Worker {
     store: Arc<Store>,
     poll: Poll,
-    clients: Receiver<Connection>,
+    mail: Arc<Mutex<Mail>>,
     connections: HashMap<Token, Connection, BuildHasherDefault<Counted>>,
     next_token: usize,
     /// Whose turn it is, though no event came.
@@ -64,22 +71,27 @@ pub struct Worker {
     next_tidy: Instant,
     /// When it woke last. The time is asked for once each time.
     woke: Instant,
-    /// If the inbox alone had it, it would be closed before it has woken the worker for the last time.
-    _waker: Arc<Waker>,
+    waker: Arc<Waker>,
+}
+
+fn lock(mail: &Mutex<Mail>) -> MutexGuard<'_, Mail> {
+    mail.lock().unwrap_or_else(PoisonError::into_inner)
 }
 
 impl Inbox {
-    /// Hands a client over.
+    /// Hands a client over, if there is memory for that.
     pub fn hand(&self, client: Connection) -> io::Result<()> {
-        self.clients.send(client).map_err(|_| ErrorKind::BrokenPipe)?;
+        let mut mail = lock(&self.mail);
+        mail.clients.try_reserve(1)?;
+        mail.clients.push(client);
+        drop(mail);
         self.waker.wake()
     }
 }
 
 impl Drop for Inbox {
     fn drop(&mut self) {
-        // Dropping the sender first lets the worker see it when it wakes.
-        self.clients = channel().0;
+        lock(&self.mail).is_last = true;
         if let Err(why) = self.waker.wake() {
             complain(format_args!("a worker can't be woken: {why}"));
         }
@@ -91,17 +103,17 @@ impl Worker {
     pub fn new(store: Arc<Store>) -> io::Result<(Worker, Inbox)> {
         let poll = Poll::new()?;
         let waker = Arc::new(Waker::new(poll.registry(), WAKE)?);
-        let (sender, clients) = channel();
-        let (connections, ready) = (HashMap::default(), Vec::new());
-        let (next_token, woke, end, keeps) = (0, Instant::now(), None, Arc::clone(&waker));
+        let inbox = Inbox { mail: Arc::default(), waker: Arc::clone(&waker) };
+        let (connections, ready, mail) = (HashMap::default(), Vec::new(), Arc::clone(&inbox.mail));
+        let (next_token, woke, end) = (0, Instant::now(), None);
         let next_tidy = woke + PAUSE;
-        let worker = Worker { store, poll, clients, connections, next_token, ready, end, next_tidy, woke, _waker: keeps };
-        Ok((worker, Inbox { clients: sender, waker }))
+        Ok((Worker { store, poll, mail, connections, next_token, ready, end, next_tidy, woke, waker }, inbox))
     }
 
     /// Answers clients until the inbox is dropped.
     pub fn run(mut self, index: usize) -> io::Result<()> {
         counts::take_place(index);
+        warm_up();
         let (mut events, mut ready) = (Events::with_capacity(EVENTS), Vec::new());
         while !self.has_ended() {
             match self.poll.poll(&mut events, self.timeout()) {
@@ -135,8 +147,22 @@ impl Worker {
     fn tidy_up_at_times(&mut self) {
         if self.woke >= self.next_tidy {
             self.next_tidy = self.woke + PAUSE;
+            self.leave_idle();
             self.store.tidy_up();
         }
+    }
+
+    /// Leaves the clients that have had no turn for too long.
+    fn leave_idle(&mut self) {
+        let Some(most) = self.store.options.idle_timeout else { return };
+        let (now, before) = (self.second(), self.connections.len());
+        self.connections.retain(|_, client| now.saturating_sub(client.last_turn()) <= most);
+        self.store.counts.add_many(Count::IdleKicks, (before - self.connections.len()) as u64);
+    }
+
+    /// When it woke, in seconds since the server started.
+    fn second(&self) -> u32 {
+        self.store.clock.second_of(self.woke)
     }
 
     fn has_ended(&self) -> bool {
@@ -145,10 +171,17 @@ impl Worker {
 
     fn serve(&mut self, token: Token) {
         if token == WAKE {
-            return self.take_clients();
+            self.take_clients();
+            while let Some(token) = self.store.seats.next_cut(&self.waker) {
+                self.ready.push(token);
+            }
+            return;
         }
+        let second = self.second();
         let Some(connection) = self.connections.get_mut(&token) else { return };
-        match connection.turn(&self.store) {
+        let next = connection.turn(&self.store);
+        connection.note_turn(second);
+        match next {
             Ok(Next::Turn) => self.ready.push(token),
             Ok(Next::Event) if self.end.is_none() || !connection.is_idle() => {}
             _ => drop(self.connections.remove(&token)),
@@ -156,14 +189,12 @@ impl Worker {
     }
 
     fn take_clients(&mut self) {
-        loop {
-            match self.clients.try_recv() {
-                Ok(client) => self.add(client),
-                Err(TryRecvError::Empty) => return,
-                Err(TryRecvError::Disconnected) => break,
-            }
-        }
-        if self.end.is_none() {
+        let Mail { clients, is_last } = {
+            let mut mail = lock(&self.mail);
+            Mail { clients: mem::take(&mut mail.clients), is_last: mail.is_last }
+        };
+        clients.into_iter().for_each(|client| self.add(client));
+        if is_last && self.end.is_none() {
             self.end = Some(Instant::now() + GRACE);
             // Each has a last turn, for what it has sent.
             self.connections.values_mut().for_each(Connection::read_again);
@@ -174,10 +205,16 @@ impl Worker {
     fn add(&mut self, mut client: Connection) {
         let token = Token(self.next_token);
         self.next_token += 1;
+        client.settle(Home { waker: Arc::clone(&self.waker), token });
+        client.note_turn(self.second());
         let interest = Interest::READABLE | Interest::WRITABLE;
-        match self.poll.registry().register(client.stream(), token, interest) {
+        let has_room = self.connections.try_reserve(1).map_err(io::Error::from);
+        match has_room.and_then(|()| self.poll.registry().register(client.stream(), token, interest)) {
             Ok(()) => drop(self.connections.insert(token, client)),
-            Err(why) => complain(format_args!("a client can't be registered: {why}")),
+            Err(why) => {
+                static LAST: Last = Last::new(None);
+                complain_at_times(&LAST, format_args!("clients can't be registered: {why}"));
+            }
         }
     }
 }

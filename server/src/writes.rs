@@ -55,7 +55,9 @@ impl Store {
         let born = self.clock.now();
         let put = self.put(order.key, data.len(), None, |hash| {
             let mut new = None;
-            let token = self.index.put(hash, self.fresh(order, born, data), &mut |item, old| {
+            let fresh = || self.fresh(order, born, data);
+            let item = fresh().or_else(|| self.with_more_memory(data.len(), fresh)).ok_or(Refused::Full)?;
+            let token = self.index.put(hash, item, &mut |item, old| {
                 new = item.note_number(old.and_then(|old| old.number()));
             })?;
             Ok((Outcome::Done(token), new))
@@ -63,12 +65,12 @@ impl Store {
         Ok(put.map_or(Answer::NotStored, Answer::Done))
     }
 
-    fn fresh(&self, order: &Order, born: u64, data: &[u8]) -> NewItem {
+    fn fresh(&self, order: &Order, born: u64, data: &[u8]) -> Option<NewItem> {
         new_item(born, order.flags, self.clock.deadline(order.expiry), order.key, &[data])
     }
 
     /// What is to be put over an item that was found at this time.
-    fn over(&self, order: &Order, data: &[u8], item: &Item, born: u64) -> NewItem {
+    fn over(&self, order: &Order, data: &[u8], item: &Item, born: u64) -> Option<NewItem> {
         let value = match order.how {
             How::Append => [item.value(), data],
             How::Prepend => [data, item.value()],
@@ -93,6 +95,7 @@ impl Store {
                 (Found::Dead(token, number), ..) => (self.fresh(order, self.clock.now(), data), Found::Dead(token, number)),
                 (Found::Live((next, older), token), ..) => (next, Found::Live(older, token)),
             };
+            let next = next.ok_or(Fault::NoRoom)?;
             if next.value().len() > self.options.longest {
                 return Err(Fault::TooLong);
             }
@@ -141,6 +144,7 @@ impl Store {
         drop(expected);
         if length >= LARGE {
             self.index.sweep();
+            self.seats.look();
         }
         if let Ok((Outcome::Done(token), new)) = outcome {
             if let Some(number) = new {
@@ -209,6 +213,7 @@ impl Store {
                 Found::Live(None, _) => return Ok(Changed::NotNumeric),
                 Found::Live(Some((next, number, older)), token) => (next, number, older, token),
             };
+            let next = next.ok_or(Fault::NoRoom)?;
             let deadline = next.deadline();
             if let Some(token) = self.put_over(key, Found::Live(older, token), next)? {
                 return Ok(Changed::Changed(number, token, deadline));

@@ -6,7 +6,7 @@ use cefrodild::item::new_item;
 
 #[test]
 fn lookups() {
-    let item = new_item(1, 7, u64::MAX, b"key", &[]);
+    let item = new_item(1, 7, u64::MAX, b"key", &[]).expect("there is memory");
     let Ok(Some((found, token))) = seen(Ok(Look::Found { result: &*item, at: 3, since: 2 })) else { panic!("it was found") };
     assert_eq!((found.flags, token), (7, 2));
     assert!(matches!(seen(Ok(Look::Absent { at: 3 })), Ok(None)));

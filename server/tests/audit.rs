@@ -27,7 +27,7 @@ fn a_file_that_cannot_be_made_is_named() {
 
 #[test]
 fn the_log_tells_items_apart_by_flags_and_by_bytes() {
-    let digest = |flags, text: &str| digest(&new_item(1, flags, u64::MAX, b"key", &[text.as_bytes()]));
+    let digest = |flags, text: &str| digest(&new_item(1, flags, u64::MAX, b"key", &[text.as_bytes()]).expect("there is memory"));
     assert_eq!(digest(1, "a"), digest(1, "a"));
     assert_ne!(digest(1, "a"), digest(2, "a"));
     assert_ne!(digest(1, "a"), digest(1, "b"));

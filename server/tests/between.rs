@@ -2,6 +2,7 @@
 mod plain;
 use cefrodild::room::cost;
 use plain::client::{Client, MEGABYTE};
+use std::sync::atomic::Ordering::SeqCst;
 use std::sync::mpsc::channel;
 use std::thread;
 use std::time::{Duration, Instant};
@@ -143,4 +144,32 @@ fn a_new_time_to_live_waits_for_a_change_that_keeps_the_old_one() {
             assert_ne!(client.ask("mg n t\n"), "HD t-1\n", "{command} is lost beside {change}");
         }
     }
+}
+
+/// `touch` has found the item in its last nanoseconds, and moves its end when the crawler has seen that it has expired.
+#[test]
+fn an_item_that_is_touched_in_time_does_not_go() {
+    let mut client = Client::new(MEGABYTE);
+    client.ask("set n 0 -1 1\n1\nset gone 0 -1 1\n1\n");
+    client.control.touches_after_peek.store(true, SeqCst);
+    client.store.expire();
+    client.control.touches_after_peek.store(false, SeqCst);
+    assert_eq!((value(&mut client), client.store.room.items()), ("1".to_owned(), 2));
+}
+
+#[test]
+fn a_new_time_to_live_waits_for_the_crawler() {
+    let mut client = Client::new(MEGABYTE);
+    client.ask("set n 0 -1 1\n1\n");
+    let (mut other, (sender, threads)) = (client.beside(), channel());
+    *client.control.meanwhile.lock().unwrap() = Some(Box::new(move || {
+        let (asking, end) = (thread::spawn(move || other.ask("touch n 100\n")), Instant::now() + WHILE);
+        while Instant::now() < end {
+            assert!(!asking.is_finished(), "it comes between the crawler's look and its removal");
+            thread::yield_now();
+        }
+        sender.send(asking).expect("it is waited for");
+    }));
+    client.store.expire();
+    assert_eq!(threads.recv().expect("there is a thread").join().expect("it is answered"), "NOT_FOUND\n");
 }

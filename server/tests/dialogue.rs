@@ -1,6 +1,7 @@
 //! Dialogues over a plain index: what is answered, also when the index refuses.
 mod plain;
 use cefrodild::dialogue::{Dialogue, Turn};
+use cefrodild::output::Output;
 use plain::client::{Client, MEGABYTE};
 use plain::draw::Draw;
 use std::sync::atomic::Ordering::SeqCst;
@@ -33,14 +34,16 @@ fn a_value_may_have_any_bytes() {
 }
 
 #[test]
-fn an_answer_takes_no_more_than_its_value() {
+fn a_large_value_is_not_copied_into_its_answer() {
     let mut client = Client::new(4 * MEGABYTE);
     client.ask(&format!("set k 0 0 {MEGABYTE}\n{}\n", "x".repeat(MEGABYTE)));
     for line in ["get k\r\n", "mg k v\r\n"] {
-        let mut answer = Vec::new();
+        let mut answer = Output::default();
         let mut dialogue = Dialogue::default();
         while dialogue.turn(&client.store, line.as_bytes(), &mut answer).1 == Turn::HasMore && answer.is_empty() {}
-        assert!(answer.len() > MEGABYTE && answer.capacity() < MEGABYTE + 200, "{}", answer.capacity());
+        assert!(answer.is_full() && answer.capacity() < 200, "{}", answer.capacity());
+        let mut sent = Vec::new();
+        assert!(answer.send(&mut sent).is_ok_and(|length| length > MEGABYTE) && answer.is_empty());
     }
 }
 
@@ -101,7 +104,7 @@ fn what_has_come_of_a_block_that_is_refused_is_not_kept() {
         let (store, mut dialogue) = (Client::new(MEGABYTE).store, Dialogue::default());
         for part in [line.as_bytes(), &[b'x'; 100], &[b'x'; 100]] {
             // So it goes on with any byte that comes, and does not wait for the rest of the block.
-            assert_eq!(dialogue.turn(&store, part, &mut Vec::new()), (part.len(), Turn::Needs(1)), "{line}");
+            assert_eq!(dialogue.turn(&store, part, &mut Output::default()), (part.len(), Turn::Needs(1)), "{line}");
         }
     }
 }
@@ -109,7 +112,7 @@ fn what_has_come_of_a_block_that_is_refused_is_not_kept() {
 #[test]
 fn what_has_come_of_a_line_that_is_refused_is_not_kept() {
     let (store, mut dialogue) = (Client::new(MEGABYTE).store, Dialogue::default());
-    let (line, mut answers) = (format!("get a {}", "x".repeat(3_000)), Vec::new());
+    let (line, mut answers) = (format!("get a {}", "x".repeat(3_000)), Output::default());
     let (mut done, mut turn) = (0, Turn::HasMore);
     while turn == Turn::HasMore || done < line.len() {
         let (more, next) = dialogue.turn(&store, &line.as_bytes()[done..], &mut answers);
@@ -257,8 +260,9 @@ fn arithmetic_makes_a_number_that_is_missing() {
     let mut client = Client::new(MEGABYTE);
     // Quiet is only the usual answer, and this is not.
     assert_eq!(client.ask("ma n N0 J5 D3 q v\nma n N0 J5 D3 q v\nmg n v f t\n"), "VA 1\n5\nVA 1 f0 t-1\n8\n");
-    assert_eq!(client.ask("ma m\nma m N100 T0\n"), "NF\nHD\n");
-    assert_ne!(client.ask("mg m t\n"), "HD t-1\n", "it has the time to live of N");
+    assert_eq!(client.ask("ma m\nma m N100 T0\nmg m t\n"), "NF\nHD\nHD t-1\n");
+    assert_eq!(client.ask("ma l T0 N100\n"), "HD\n");
+    assert_ne!(client.ask("mg l t\n"), "HD t-1\n", "it has the last of the two");
 }
 
 #[test]

@@ -66,7 +66,7 @@ def numbers():
         (FLAGS, '55', ['set KEY {} 0 2', 'set KEY {} 0 2 noreply', 'ms KEY 2 F{}']),
         (TIMES, '55', ['set KEY 0 {} 2', 'set KEY 0 {} 2 noreply', 'ms KEY 2 T{}']),
         (NUMBERS, '55', ['cas KEY 0 0 2 {}', 'cas KEY 0 0 2 {} noreply', 'ms KEY 2 C{}']),
-        (TIMES, None, ['touch KEY {}', 'touch KEY {} noreply', 'gat {} KEY', 'gats {} KEY', 'mg KEY T{}', 'ma KEY N{}']),
+        (TIMES, None, ['touch KEY {}', 'touch KEY {} noreply', 'gat {} KEY', 'gats {} KEY', 'mg KEY T{}', 'ma KEY N{}', 'ma KEY N{} T100', 'ma KEY T{} N100', 'ma KEY N100 T{}', 'ma KEY T100 N{}']),
         (NUMBERS, None, ['incr KEY {}', 'incr KEY {} noreply', 'decr KEY {}', 'decr KEY {} noreply', 'delete KEY {}', 'delete KEY {} noreply']),
         (NUMBERS, None, ['verbosity {}', 'verbosity {} noreply', 'md KEY C{}', 'ma KEY D{} v', 'ma KEY MD D{} v', 'ma KEY N0 J{} v']),
     ]

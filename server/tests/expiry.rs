@@ -6,7 +6,7 @@ use plain::client::{Client, MEGABYTE};
 use std::time::{Duration, Instant};
 
 /// Each gives `k` this time to live, or makes it with that.
-const COMMANDS: [&str; 13] = [
+const COMMANDS: [&str; 14] = [
     "set k 0 TIME 1\n5\n",
     "replace k 0 TIME 1\n5\n",
     "cas k 0 TIME 1 1\n5\n",
@@ -19,7 +19,8 @@ const COMMANDS: [&str; 13] = [
     "mg k TTIME\n",
     "ma k TTIME\n",
     "delete k\nma k NTIME\n",
-    "delete k\nma k NTIME T0\n",
+    "delete k\nma k T0 NTIME\n",
+    "delete k\nma k N0 TTIME\n",
 ];
 
 /// What `t` says of `k` after this command. It had no time to live before.
@@ -98,8 +99,9 @@ fn the_answer_has_the_new_time_to_live() {
         ("mg k t\n", "HD t-1\n"),
         ("ma k t\n", "HD t-1\n"),
         ("ma none N100 t\n", "HD t100\n"),
-        ("ma none N100 T50 t\n", "HD t100\n"),
-        ("ma none N0 T50 t\n", "HD t-1\n"),
+        ("ma none N100 T50 t\n", "HD t50\n"),
+        ("ma none T50 N100 t\n", "HD t100\n"),
+        ("ma none T50 N0 t\n", "HD t-1\n"),
         ("ma k N50 t\n", "HD t-1\n"),
     ] {
         within_a_second(|| {

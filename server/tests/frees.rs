@@ -56,7 +56,7 @@ fn an_item_does_not_give_way_while_it_is_put() {
     assert!(keys.iter().all(|key| set(&store, key.as_bytes(), 1_000).is_ok()));
     let (first, new) = (keys[0].as_bytes(), b"new".as_slice());
     store.room.take(bytes);
-    let next = new_item(1, 0, u64::MAX, first, &[&[b'y'; 1_000]]);
+    let next = new_item(1, 0, u64::MAX, first, &[&[b'y'; 1_000]]).expect("there is memory");
     let put = store.index.put(store.index.hash_of(first), next, &mut |item, old| {
         assert!(set(&store, new, 1_000).is_ok());
         item.note_number(old.and_then(|old| old.number()));

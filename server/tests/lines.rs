@@ -179,7 +179,7 @@ fn meta_commands() {
     let Request::Meta(delete) = read("md key C9 q") else { panic!() };
     assert_eq!((delete.verb, delete.order.compare, delete.is_quiet), (Verb::Delete, Some(9), true));
     let Request::Meta(sum) = read("ma key N60 J5 D3 M- T90") else { panic!() };
-    assert_eq!((sum.create, sum.initial, sum.delta, sum.subtracts, sum.expiry), (Some(60), 5, 3, true, Some(90)));
+    assert_eq!(((sum.creates, sum.made_expiry), sum.initial, sum.delta, sum.subtracts, sum.expiry), ((true, 90), 5, 3, true, Some(90)));
 }
 
 #[test]

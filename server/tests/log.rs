@@ -21,7 +21,7 @@ struct Logged {
 type Line = (String, u64, Vec<u64>);
 
 fn item(key: &[u8], flags: u32) -> NewItem {
-    new_item(1, flags, u64::MAX, key, &[])
+    new_item(1, flags, u64::MAX, key, &[]).expect("there is memory")
 }
 
 impl Logged {

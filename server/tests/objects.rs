@@ -9,7 +9,9 @@ use std::sync::Arc;
 /// Puts an item with these flags.
 fn put(objects: &Objects, room: &Room, key: &[u8], flags: u32) -> Token {
     room.take(cost(key.len(), 1));
-    objects.put(objects.hash_of(key), new_item(1, flags, u64::MAX, key, &[&[0]]), &mut |_, _| {}).expect("there is room")
+    objects
+        .put(objects.hash_of(key), new_item(1, flags, u64::MAX, key, &[&[0]]).expect("there is memory"), &mut |_, _| {})
+        .expect("there is room")
 }
 
 /// The flags of the item with this stamp, if it is there.
@@ -42,7 +44,7 @@ fn a_stamp_names_one_put_of_one_key() {
 fn a_condition_that_is_not_met_changes_nothing() {
     let room = Arc::new(Room::new(1 << 20));
     let objects = Objects::open(1000, 1, &room, None).expect("there is memory");
-    let (key, item) = (b"key".as_slice(), |flags| new_item(1, flags, u64::MAX, b"key", &[&[0]]));
+    let (key, item) = (b"key".as_slice(), |flags| new_item(1, flags, u64::MAX, b"key", &[&[0]]).expect("there is memory"));
     assert_eq!(objects.put_if(1, item(1)), Ok(Outcome::Absent));
     assert_eq!(objects.remove_if(key, 1), Ok(Outcome::Absent));
     let old = put(&objects, &room, key, 2);
@@ -59,7 +61,7 @@ fn a_condition_that_is_met() {
     let room = Arc::new(Room::new(1 << 20));
     let objects = Objects::open(1000, 1, &room, None).expect("there is memory");
     let (key, bytes) = (b"key".as_slice(), cost(3, 1));
-    let item = |flags| new_item(1, flags, u64::MAX, key, &[&[0]]);
+    let item = |flags| new_item(1, flags, u64::MAX, key, &[&[0]]).expect("there is memory");
     room.take(bytes);
     let Ok(Outcome::Done(first)) = objects.put_new(item(1)) else { panic!("it was absent") };
     room.take(bytes);
@@ -145,9 +147,13 @@ fn a_put_shows_the_item_that_it_replaces() {
     for (flags, replaced) in [(1, None), (2, Some(1)), (3, Some(2))] {
         let mut seen = None;
         room.take(cost(3, 1));
-        let put = objects.put(objects.hash_of(b"key"), new_item(1, flags, u64::MAX, b"key", &[&[0]]), &mut |item, old| {
-            seen = Some((item.flags, old.map(|old| old.flags)));
-        });
+        let put = objects.put(
+            objects.hash_of(b"key"),
+            new_item(1, flags, u64::MAX, b"key", &[&[0]]).expect("there is memory"),
+            &mut |item, old| {
+                seen = Some((item.flags, old.map(|old| old.flags)));
+            },
+        );
         assert!(put.is_ok());
         assert_eq!(seen, Some((flags, replaced)));
     }

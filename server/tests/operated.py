@@ -11,7 +11,7 @@ import socket
 import subprocess
 import sys
 
-from running import TIMEOUT, ask, connect, memory_of, rest, running
+from running import TIMEOUT, USER, ask, connect, memory_of, rest, running
 
 END = b'END\r\n'
 
@@ -58,9 +58,9 @@ def full_output(program):
         port = free.getsockname()[1]
     with open('/dev/full', 'w', encoding='ascii') as full:
         for word in ['--help', '--version']:
-            ran = subprocess.run([program, word], stdout=full, stderr=subprocess.PIPE, text=True, timeout=TIMEOUT, check=False)
+            ran = subprocess.run([program, *USER, word], stdout=full, stderr=subprocess.PIPE, text=True, timeout=TIMEOUT, check=False)
             assert ran.returncode == 1 and ran.stderr.startswith('cefrodild: standard output: '), ran
-        server = subprocess.Popen([program, '-p', str(port)], stdout=full)
+        server = subprocess.Popen([program, *USER, '-p', str(port)], stdout=full)
     try:
         with connect_at_last(server, port) as client:
             assert ask(client, b'mn\r\n') == b'MN\r\n'
@@ -86,7 +86,7 @@ def open_files(program):
     with running(program, '-c', '300', before=limited(64, 1000)) as (_, port), contextlib.ExitStack() as stack:
         clients = [stack.enter_context(connect(port)) for _ in range(300)]
         assert all(ask(client, b'mn\r\n') == b'MN\r\n' for client in clients)
-    ran = subprocess.run([program, '-p', '0', '-c', '300'], preexec_fn=limited(64, 300), capture_output=True, text=True, timeout=TIMEOUT, check=False)
+    ran = subprocess.run([program, *USER, '-p', '0', '-c', '300'], preexec_fn=limited(64, 300), capture_output=True, text=True, timeout=TIMEOUT, check=False)
     assert (ran.returncode, ran.stdout) == (1, '') and '300 are allowed: choose a smaller -c' in ran.stderr, ran
 
 

@@ -102,7 +102,7 @@ fn the_least_and_the_most_of_each_number() {
         ("-m", "--memory-limit", |options| options.memory >> 20, 16, 1 << 20),
         ("-n", "--items", |options| options.items, 1, (64 << 20) / 2 / 56),
         ("-c", "--conn-limit", |options| options.connections, 1, 1 << 20),
-        ("-I", "--max-item-size", |options| options.longest, 1 << 10, 128 << 20),
+        ("-m256 -I", "-m256 --max-item-size", |options| options.longest, 1 << 10, 128 << 20),
     ];
     for (short, long, read_number, least, most) in table {
         for number in [least, most] {
@@ -115,7 +115,7 @@ fn the_least_and_the_most_of_each_number() {
         for number in [least.wrapping_sub(1), most + 1] {
             let words = format!("{short} {number}");
             let why = read(&words).expect_err(&words);
-            assert!(why.starts_with(short), "{words}: {why}");
+            assert!(short.ends_with(&why[..2]), "{words}: {why}");
         }
     }
 }
@@ -125,11 +125,47 @@ fn sizes_have_units() {
     for (size, bytes) in
         [("1k", 1 << 10), ("1K", 1 << 10), ("3m", 3 << 20), ("3M", 3 << 20), ("128m", 128 << 20), ("131072k", 128 << 20)]
     {
-        assert_eq!(options(&format!("-I {size}")).longest, bytes, "{size}");
+        assert_eq!(options(&format!("-m 256 -I {size}")).longest, bytes, "{size}");
     }
     for size in ["0k", "0m", "129m", "131073k", "1g", "1kk", "k", "m", "", "-1k", "1.5m", "18446744073709551615m", "\u{e9}"] {
         let why = parse(["-I".to_owned(), size.to_owned()]).expect_err(size);
         assert_eq!(why, format!("-I: '{size}' is no size from 1k to 128m"));
+    }
+}
+
+#[test]
+fn a_value_takes_half_of_the_memory_at_most() {
+    assert_eq!(options("-m 64 -I 32m").longest, 32 << 20);
+    for words in ["-m 64 -I 33m", "-I 33554433 -m 64", "-m 16 -I 9m"] {
+        assert!(read(words).expect_err(words).starts_with("-I: the longest value may take half"), "{words}");
+    }
+}
+
+#[test]
+fn options_of_memcached_that_change_nothing() {
+    for words in
+        ["-R 20", "-R20", "-b 1024", "-k", "-B ascii", "-f 1.25", "-o modern", "-o hashpower=20,no_modern", "--lock-memory"]
+    {
+        let Options { idle, .. } = options(words);
+        assert!(!idle.is_empty() && words.starts_with(&idle[0][..2]), "{words}: {idle:?}");
+        assert_eq!(Options { idle, ..options("") }, options(words), "{words}");
+    }
+    assert_eq!(options("-o modern,lru_crawler").idle, ["-o modern", "-o lru_crawler"]);
+    for words in ["-C", "-M", "-S", "-L", "-Z", "-F", "-B auto", "-B binary", "-o ext_path=/x", "-o modern,x", "--enable-sasl"] {
+        assert!(read(words).expect_err(words).contains("leave it out"), "{words}");
+    }
+}
+
+#[test]
+fn clients_may_be_silent_for_a_time() {
+    for (words, seconds) in
+        [("", None), ("-o idle_timeout=0", None), ("-o idle_timeout=3", Some(3)), ("-o modern,idle_timeout=4", Some(4))]
+    {
+        assert_eq!(options(words).idle_timeout, seconds, "{words}");
+    }
+    for words in ["-o idle_timeout", "-o idle_timeout=", "-o idle_timeout=x", "-o idle_timeout=-1", "-o idle_timeout=4294967296"]
+    {
+        assert!(read(words).expect_err(words).starts_with("idle_timeout: "), "{words}");
     }
 }
 
@@ -181,17 +217,17 @@ fn unix_sockets_have_a_mode() {
 fn the_options_of_a_service() {
     let plain = options("");
     assert_eq!(
-        (plain.user, plain.process_file, plain.detaches, plain.is_verbose, plain.dumps_core),
-        (None, None, false, false, false)
+        (plain.user, plain.process_file, plain.detaches, plain.verbosity, plain.dumps_core),
+        (None, None, false, 0, false)
     );
     let short = options("-d -v -vv -m 64 -p 11211 -u memcache -l 127.0.0.1 -c 1024 -r -P /run/memcached.pid");
     assert_eq!((short.user.as_deref(), short.process_file.as_deref()), (Some("memcache"), Some(Path::new("/run/memcached.pid"))));
-    assert!(short.detaches && short.is_verbose && short.dumps_core);
-    assert_eq!(short, options("--daemon --verbose --user=memcache --pidfile=/run/memcached.pid --enable-coredumps"));
+    assert!(short.detaches && short.dumps_core);
+    assert_eq!(short, options("--daemon --verbose -vv --user=memcache --pidfile=/run/memcached.pid --enable-coredumps"));
     let each = [options("-d"), options("-v"), options("-vvv"), options("-r")];
     assert_eq!(
-        each.map(|one| (one.detaches, one.is_verbose, one.dumps_core)),
-        [(true, false, false), (false, true, false), (false, true, false), (false, false, true)]
+        each.map(|one| (one.detaches, one.verbosity, one.dumps_core)),
+        [(true, 0, false), (false, 1, false), (false, 3, false), (false, 0, true)]
     );
 }
 
@@ -213,6 +249,7 @@ fn the_help_names_what_is_accepted() {
             "HOST" => "::1",
             "N" => "1024",
             "MODE" => "660",
+            "LIST" => "idle_timeout=1",
             value => value,
         };
         for name in names.split(", -") {

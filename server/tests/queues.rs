@@ -188,7 +188,7 @@ fn what_expires_is_removed_from_both_queues() {
 
 #[test]
 fn an_item_notes_the_number_of_its_entry() {
-    let item = |born| new_item(born, 0, u64::MAX, b"key", &[b"5"]);
+    let item = |born| new_item(born, 0, u64::MAX, b"key", &[b"5"]).expect("there is memory");
     let (old, new) = (item(1), item(2));
     assert!(old.number().is_none() && old.is_represented_by(7), "another thread may be about to note it");
     let number = old.note_number(None).expect("it replaces no other item");
@@ -202,7 +202,7 @@ fn an_item_notes_the_number_of_its_entry() {
 #[test]
 fn items_of_different_times_have_entries_of_different_numbers() {
     let numbers = (1..=10_000).map(|born| {
-        let item = new_item(born, 0, u64::MAX, b"key", &[b"5"]);
+        let item = new_item(born, 0, u64::MAX, b"key", &[b"5"]).expect("there is memory");
         let number = item.note_number(None);
         assert_eq!(item.number(), number);
         number

@@ -64,19 +64,21 @@ def large_values_follow_small_ones(program):
 
 
 def unfinished_values(program):
-    """Clients that don't finish their values are cut off when they hold half of -m. Others are served meanwhile."""
+    """Clients that don't finish their values have them refused when they hold half of -m, but for 8 KB each. Others are served meanwhile."""
     most, part = 8 * MEGABYTE, b'v' * 900_000
     with running(program, '-m', '16') as (server, port), contextlib.ExitStack() as stack, connect(port) as other:
         before = memory_of(server)
         rude = [stack.enter_context(connect(port)) for _ in range(60)]
         for client in rude:
-            with contextlib.suppress(OSError):
-                client.sendall(b'set key 0 0 1048576\r\n' + part)
+            client.sendall(b'set key 0 0 1048576\r\n' + part)
             assert ask(other, b'set k 0 0 1\r\nv\r\nget k\r\n', b'END\r\n') == b'STORED\r\nVALUE k 0 1\r\nv\r\nEND\r\n'
         # Within a turn a client may hold more.
-        found = wait_for(other, lambda found: found[b'curr_connections'] < 30 and 0 < found[b'buffer_bytes'] <= most)
-        assert found[b'connections_out_of_memory'] >= 30, found
+        found = wait_for(other, lambda found: found[b'store_no_memory'] >= 50 and 0 < found[b'buffer_bytes'] <= most + 61 * 8192)
+        assert (found[b'curr_connections'], found[b'connections_out_of_memory']) == (61, 0), found
         assert memory_of(server) - before < most + 8 * MEGABYTE, memory_of(server) - before
+        answers = [ask(client, b'v' * (1048576 - len(part)) + b'\r\n') for client in rude]
+        assert set(answers) == {b'STORED\r\n', b'SERVER_ERROR out of memory storing object\r\n'}, set(answers)
+        assert answers.count(b'STORED\r\n') < 10, answers
         stack.close()
         assert wait_for(other, lambda found: found[b'curr_connections'] == 1)[b'buffer_bytes'] == 0
 
@@ -108,8 +110,9 @@ def expired_items_go(program):
         commands = b''.join(b'set %d 0 %d 1 noreply\r\nv\r\n' % (key, key % 2) for key in range(2_000))
         assert ask(client, commands + b'mn\r\n') == b'MN\r\n'
         assert stats(client)[b'curr_items'] == 2_000
-        found = wait_for(client, lambda found: found[b'curr_items'] == 1_000)
-        assert found[b'crawler_reclaimed'] == 1_000 and found[b'evictions'] == 0, found
+        # An item is counted right after it has gone.
+        found = wait_for(client, lambda found: (found[b'curr_items'], found[b'crawler_reclaimed']) == (1_000, 1_000))
+        assert found[b'evictions'] == 0, found
 
 
 def wait_for(client, is_met):

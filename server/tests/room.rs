@@ -1,6 +1,8 @@
 //! The bytes of items and the seats of clients, each by itself.
 use cefrodild::room::{Leaving, Room};
-use cefrodild::seat::Seats;
+use cefrodild::seat::{Seat, Seats, FREE};
+use std::thread::sleep;
+use std::time::Duration;
 
 #[test]
 fn bytes_and_items_are_added_and_subtracted() {
@@ -84,19 +86,59 @@ fn so_many_seats() {
 }
 
 #[test]
+fn items_that_wait_are_looked_at_from_a_small_part_of_the_limit_on() {
+    let room = Room::new(12_800);
+    room.take(101);
+    room.leave(100);
+    assert_eq!((room.waiting(), room.has_many_waiting()), (100, false));
+    room.leave(1);
+    assert_eq!((room.waiting(), room.has_many_waiting()), (101, true));
+}
+
+#[test]
 fn what_clients_hold_is_counted() {
-    let seats = Seats::new(2, 100);
+    let seats = Seats::new(2, 100_000);
     let take = || seats.take().expect("a seat is free");
     let (mut first, mut second) = (take(), take());
-    first.hold(60);
-    second.hold(40);
-    assert_eq!((seats.bytes(), first.bytes(), second.bytes(), first.is_over()), (100, 60, 40, false));
-    second.hold(41);
-    assert!(first.is_over() && second.is_over());
-    first.hold(59);
-    assert_eq!((seats.bytes(), second.is_over()), (100, false));
+    first.hold(60, None);
+    second.hold(40_000, None);
+    assert_eq!((seats.bytes(), first.bytes(), second.bytes()), (40_060, 60, 40_000));
+    first.hold(59_000, None);
     drop(second);
-    assert_eq!(seats.bytes(), 59);
-    first.hold(0);
+    assert_eq!(seats.bytes(), 59_000);
+    first.hold(0, None);
     assert_eq!(seats.bytes(), 0);
+}
+
+#[test]
+fn who_holds_most_for_longest_is_cut_off() {
+    let seats = Seats::new(3, 1_000);
+    let take = || seats.take().expect("a seat is free");
+    let (mut first, mut second, mut third) = (take(), take(), take());
+    let are_cut = |seats: [&Seat; 3]| seats.map(|seat| seat.cut().is_some());
+    first.hold(FREE + 600, None);
+    sleep(Duration::from_millis(2));
+    second.hold(FREE + 300, None);
+    third.hold(FREE + 100, None);
+    assert_eq!(are_cut([&first, &second, &third]), [false; 3], "all fit");
+    third.hold(FREE + 101, None);
+    assert_eq!(are_cut([&first, &second, &third]), [true, false, false]);
+    second.hold(FREE + 899, None);
+    assert_eq!(are_cut([&first, &second, &third]), [true, false, false], "what is cut off is not counted");
+    first.hold(FREE, None);
+    assert_eq!(are_cut([&first, &second, &third]), [false; 3], "it has given up what it held");
+    drop(first);
+    second.hold(FREE + 900, None);
+    assert_eq!([&second, &third].map(|seat| seat.cut().is_some()), [true, false]);
+}
+
+#[test]
+fn a_few_bytes_of_each_client_do_not_count() {
+    let seats = Seats::new(100, 0);
+    let mut all: Vec<_> = (0..100).map_while(|_| seats.take()).collect();
+    all.iter_mut().for_each(|seat| seat.hold(FREE, None));
+    assert!(all.iter().all(|seat| seat.cut().is_none()));
+    assert_eq!(seats.bytes(), 100 * FREE as u64);
+    all[50].hold(FREE + 1, None);
+    assert_eq!(all.iter().position(|seat| seat.cut().is_some()), Some(50));
 }

@@ -16,7 +16,7 @@ import sys
 import tempfile
 import time
 
-from running import TIMEOUT, ask, connect, memory_of, rest, running
+from running import TIMEOUT, USER, ask, connect, memory_of, rest, running
 
 MEGABYTE = 1 << 20
 END = b'END\r\n'
@@ -296,7 +296,7 @@ def items(program):
 
 def faults_of_the_command_line(program):
     for words, status in [(['-x'], 2), (['-p', 'x'], 2), ([b'\xff'], 2), (['-l', '192.0.2.1'], 1), (['--audit', '/no/such'], 1), (['--help'], 0), (['--version'], 0)]:
-        ran = subprocess.run([program, *words], capture_output=True, text=True, timeout=10, check=False)
+        ran = subprocess.run([program, *USER, *words], capture_output=True, text=True, timeout=10, check=False)
         assert ran.returncode == status and bool(ran.stderr) == (status > 0), (words, ran)
 
 

@@ -5,11 +5,13 @@ import socket
 import subprocess
 
 TIMEOUT = 10
+# Root must say whose process the server is to become.
+USER = ['-u', 'root'] if os.geteuid() == 0 else []
 
 
 def start(program, *options, port=0, stderr=None, before=None):
     """Starts the server: its process and its port. `before` is called in the process first."""
-    server = subprocess.Popen([program, '-p', str(port), *options], stdout=subprocess.PIPE, stderr=stderr, text=True, preexec_fn=before)
+    server = subprocess.Popen([program, *USER, '-p', str(port), *options], stdout=subprocess.PIPE, stderr=stderr, text=True, preexec_fn=before)
     line = server.stdout.readline()
     if not line.startswith('cefrodild: listening on 127.0.0.1:'):
         server.kill()

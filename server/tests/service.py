@@ -14,14 +14,14 @@ import sys
 import tempfile
 import time
 
-from running import TIMEOUT, ask, running, stop
+from running import TIMEOUT, USER, ask, running, stop
 
 PROGRAM = sys.argv[1]
 
 
 def ran(*options):
     """A start that fails, or the process that starts a daemon."""
-    return subprocess.run([PROGRAM, *options], stdin=subprocess.DEVNULL, capture_output=True, text=True, timeout=TIMEOUT, check=False)
+    return subprocess.run([PROGRAM, *USER, *options], stdin=subprocess.DEVNULL, capture_output=True, text=True, timeout=TIMEOUT, check=False)
 
 
 def works(client):
@@ -40,7 +40,7 @@ def client_of(path):
 @contextlib.contextmanager
 def listening(*options):
     """A server, and the places that it says it listens at: as many as these options have."""
-    server = subprocess.Popen([PROGRAM, *options], stdout=subprocess.PIPE, text=True)
+    server = subprocess.Popen([PROGRAM, *USER, *options], stdout=subprocess.PIPE, text=True)
     count = sum(option.count(',') + 1 for option in options if option.startswith(('/', '127'))) or 1
     try:
         yield server, [server.stdout.readline().removeprefix('cefrodild: listening on ').rstrip('\n') for _ in range(count)]
@@ -144,7 +144,7 @@ def verbose_daemon(folder):
     """Its errors stay where they went, so the operator can read them."""
     file, log = f'{folder}/number', f'{folder}/log'
     with open(log, 'w', encoding='ascii') as output:
-        subprocess.run([PROGRAM, '-d', '-vv', '-p', '0', '-P', file], stdin=subprocess.DEVNULL, stdout=output, stderr=output, timeout=TIMEOUT, check=True)
+        subprocess.run([PROGRAM, *USER, '-d', '-vv', '-p', '0', '-P', file], stdin=subprocess.DEVNULL, stdout=output, stderr=output, timeout=TIMEOUT, check=True)
     with open(file, encoding='ascii') as said:
         process = int(said.read())
     try:

@@ -1,6 +1,8 @@
 //! Small items in chunks: no block is two items', and those of a chunk are found.
 use cefrodild::item::{new_item, NewItem};
 use cefrodild::slabs;
+use std::collections::BTreeSet;
+use std::fs;
 use std::sync::{Mutex, MutexGuard, Once, PoisonError};
 use std::thread;
 
@@ -16,7 +18,7 @@ fn set_up() -> MutexGuard<'static, ()> {
 
 /// An item whose value has this length, and says which number it has.
 fn item(number: usize, length: usize) -> NewItem {
-    new_item(0, 0, 0, &number.to_le_bytes(), &[&vec![number as u8; length]])
+    new_item(0, 0, 0, &number.to_le_bytes(), &[&vec![number as u8; length]]).expect("there is memory")
 }
 
 fn chunk(item: &NewItem) -> usize {
@@ -65,4 +67,59 @@ fn the_items_of_a_chunk_are_found() {
     assert_eq!(found, expected);
     assert!(found.len() > 5);
     slabs::look_around(&item(0, 2 * slabs::MOST), |_| panic!("it lies in no chunk"));
+}
+
+fn chunks(items: &[NewItem]) -> BTreeSet<usize> {
+    items.iter().map(chunk).collect()
+}
+
+fn small_items(count: usize, length: usize) -> Vec<NewItem> {
+    (0..count).map(|number| item(number, length)).collect()
+}
+
+/// The bytes of the process's pages that are in memory.
+fn resident() -> usize {
+    let text = fs::read_to_string("/proc/self/statm").expect("the system tells");
+    4096 * text.split(' ').nth(1).and_then(|pages| pages.parse::<usize>().ok()).expect("a number of pages")
+}
+
+/// Neighbours are no further apart than their bits.
+#[test]
+fn the_smallest_items_of_a_chunk_are_found() {
+    let _turn = set_up();
+    let mut items = small_items(2_000, 0);
+    items.retain(|item| item.key()[0] % 3 > 0);
+    let first = chunk(&items[500]);
+    let expected: BTreeSet<usize> =
+        items.iter().filter(|item| chunk(item) == first).map(|item| slabs::address_of(item)).collect();
+    let mut found = BTreeSet::new();
+    slabs::look_around(&items[500], |item| assert!(found.insert(slabs::address_of(item)) && item.key().len() == 8));
+    assert_eq!(found, expected);
+}
+
+#[test]
+fn the_places_of_items_that_have_left_are_used_again() {
+    let _turn = set_up();
+    let mut items = small_items(20_000, 100);
+    let before = chunks(&items).len();
+    let mut number = 0;
+    items.retain(|_| {
+        number += 1;
+        number % 2 == 0
+    });
+    items.extend(small_items(10_000, 100));
+    let after = chunks(&items).len();
+    assert!(after <= before + before / 10, "{before} chunks, and then {after} for as many items");
+}
+
+#[test]
+fn empty_chunks_go_back_to_the_system_and_come_again() {
+    let _turn = set_up();
+    let items = small_items(100_000, 200);
+    let (full, before) = (resident(), chunks(&items));
+    drop(items);
+    let empty = resident();
+    assert!(full - empty > 15 * MEGABYTE, "{full} bytes, and {empty} when all have left");
+    let again = chunks(&small_items(100_000, 200)).intersection(&before).count();
+    assert!(again >= before.len() * 9 / 10, "{again} of {} chunks are used again", before.len());
 }

@@ -103,14 +103,24 @@ fn each_name_is_told_once() {
     let mut expected: Vec<_> = "pid uptime time version cefrodild pointer_size max_connections curr_connections threads evictions bytes curr_items \
         limit_maxbytes cmd_get cmd_set cmd_flush cmd_touch cmd_meta get_hits get_misses get_expired get_flushed delete_misses delete_hits incr_misses incr_hits \
         decr_misses decr_hits cas_misses cas_hits cas_badval touch_hits touch_misses store_too_large store_no_memory total_items busy held \
-        refused crawler_reclaimed connections_out_of_memory buffer_bytes bytes_limit bytes_waiting bytes_read bytes_written total_connections rejected_connections \
+        refused crawler_reclaimed connections_out_of_memory idle_kicks buffer_bytes bytes_limit bytes_waiting bytes_read bytes_written total_connections rejected_connections \
         stalled_seconds rusage_user rusage_system accepting_conns listen_disabled_num connection_structures \
         evicted_unfetched reclaimed expired_unfetched"
         .split_whitespace()
         .collect();
     expected.sort_unstable();
     assert_eq!(names(&mut client, ""), expected);
-    let expected = ["cas_enabled", "evictions", "item_size_max", "maxbytes", "maxconns", "num_threads", "udpport"];
+    let expected = [
+        "cas_enabled",
+        "evictions",
+        "idle_timeout",
+        "item_size_max",
+        "maxbytes",
+        "maxconns",
+        "num_threads",
+        "udpport",
+        "verbosity",
+    ];
     assert_eq!(names(&mut client, "settings"), expected);
 }
 
@@ -122,7 +132,9 @@ fn what_was_asked_for() {
     let mut client = Client::with(MEGABYTE, "-m 32 -c 7 -t 3 -I 2k");
     assert_eq!(stats(&mut client, "", "threads max_connections limit_maxbytes"), "3 7 33554432");
     assert_eq!(stats(&mut client, "settings", "maxbytes maxconns item_size_max num_threads"), "33554432 7 2048 3");
-    assert_eq!(stats(&mut client, "settings", "evictions cas_enabled udpport"), "on yes 0");
+    assert_eq!(stats(&mut client, "settings", "evictions cas_enabled udpport verbosity idle_timeout"), "on yes 0 0 0");
+    let mut client = Client::with(MEGABYTE, "-vv -o idle_timeout=7");
+    assert_eq!(stats(&mut client, "settings", "verbosity idle_timeout"), "2 7");
 }
 
 #[test]
@@ -148,14 +160,28 @@ fn seats_that_are_taken() {
 
 #[test]
 fn a_word_that_stats_does_not_know() {
-    assert_eq!(Client::new(MEGABYTE).ask("stats x\nstats sizes\nstats conns\n"), "ERROR\n".repeat(3));
+    assert_eq!(Client::new(MEGABYTE).ask("stats x\nstats detail\n"), "ERROR\n".repeat(2));
 }
 
 #[test]
 fn what_clients_ask_for_and_there_is_none_of() {
     let mut client = Client::new(MEGABYTE);
-    assert_eq!(client.ask("stats items\nstats slabs\n"), "END\nEND\n");
-    assert_eq!(client.ask("set a 0 0 1\n1\nset b 0 0 1\n1\nstats items\n"), "STORED\nSTORED\nSTAT items:1:number 2\nEND\n");
+    assert_eq!(client.ask("stats items\nstats conns\n"), "END\nEND\n");
+    assert_eq!(client.ask("stats slabs\n"), "STAT active_slabs 0\nSTAT total_malloced 0\nEND\n");
+    assert_eq!(client.ask("stats sizes\n"), "STAT sizes_status disabled\nEND\n");
+}
+
+/// All items are of one class. What memcached-tool shows of it must be there.
+#[test]
+fn the_class_of_all_items() {
+    let mut client = Client::new(2 * MEGABYTE);
+    client.ask("set a 0 0 1\n1\nset b 0 0 3\n123\nget a b c\ndelete b\nset b 0 0 3\n123\n");
+    let used = cost(1, 1) + cost(1, 3);
+    let items = "items:1:number items:1:age items:1:mem_requested items:1:evicted items:1:evicted_time items:1:outofmemory";
+    assert_eq!(stats(&mut client, "items", items), format!("2 0 {used} 0 0 0"));
+    let slabs = "1:chunk_size 1:total_pages 1:used_chunks 1:get_hits 1:cmd_set 1:delete_hits active_slabs total_malloced";
+    assert_eq!(stats(&mut client, "slabs", slabs), format!("{} 1 2 2 3 1 1 {used}", used / 2));
+    assert_eq!(stats(&mut client, "slabs", "1:total_chunks"), (2 + (2 * MEGABYTE as u64 - used) / (used / 2)).to_string());
 }
 
 #[test]

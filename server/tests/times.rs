@@ -9,7 +9,7 @@ const SECOND: u64 = 1_000_000_000;
 const DAYS_30: i64 = 60 * 60 * 24 * 30;
 
 fn item(born: u64, deadline: u64) -> NewItem {
-    new_item(born, 0, deadline, b"key", &[])
+    new_item(born, 0, deadline, b"key", &[]).expect("there is memory")
 }
 
 /// Whether this is the deadline of what has so many seconds from a moment between these two.

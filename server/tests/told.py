@@ -11,13 +11,13 @@ import socket
 import subprocess
 import sys
 
-from running import ask, connect, rest, running
+from running import USER, ask, connect, rest, running
 
 END = b'END\r\n'
 
 
 def run(program, *words):
-    return subprocess.run([program, *words], capture_output=True, text=True, timeout=10, check=False)
+    return subprocess.run([program, *USER, *words], capture_output=True, text=True, timeout=10, check=False)
 
 
 def questions(program):
@@ -66,7 +66,7 @@ def addresses(program):
     """The line that it prints has the address at which it listens, and it listens at no other."""
     known = [('127.0.0.2', '127.0.0.2'), ('0.0.0.0', '0.0.0.0')] + [('::1', '[::1]')] * has_version_6()
     for address, shown in known:
-        server = subprocess.Popen([program, '-l', address, '-p', '0'], stdout=subprocess.PIPE, text=True)
+        server = subprocess.Popen([program, *USER, '-l', address, '-p', '0'], stdout=subprocess.PIPE, text=True)
         try:
             begin, _, port = server.stdout.readline().rstrip().rpartition(':')
             assert begin == f'cefrodild: listening on {shown}', begin

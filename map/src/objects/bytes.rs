@@ -76,7 +76,7 @@ impl<H: Head> Bytes<H> {
     #[inline]
     fn part(&self, first: usize, length: usize) -> &[u8] {
         let at = (self as *const Self as usize + H::SIZE + first) as *const u8;
-        // SAFETY: only `Block::new` makes a `Bytes`. It has written so many bytes there, in the same block, and exposed a pointer to all of
+        // SAFETY: only `Block::try_new` makes a `Bytes`. It has written so many bytes there, in the same block, and exposed a pointer to all of
         // it. Nobody writes them again, and no field of the head lies there. The block stays while `self` is borrowed.
         unsafe { slice::from_raw_parts(at, length) }
     }
@@ -106,13 +106,24 @@ impl<H: Head> Block<H> {
     ///
     /// If the head says other lengths.
     pub fn new(head: H, key: &[u8], value: &[&[u8]]) -> Block<H> {
+        let size = size_of::<H>(key.len(), value.iter().map(|part| part.len()).sum::<usize>());
+        Block::try_new(head, key, value).unwrap_or_else(|| handle_alloc_error(layout_of::<H>(size)))
+    }
+
+    /// The same, or `None` if there is no memory for it.
+    ///
+    /// # Panics
+    ///
+    /// As [`new`](Self::new).
+    #[must_use]
+    pub fn try_new(head: H, key: &[u8], value: &[&[u8]]) -> Option<Block<H>> {
         const { assert!(!mem::needs_drop::<H>() && H::SIZE <= mem::size_of::<H>() && mem::size_of::<H>() > 0) };
         let lengths = (key.len(), value.iter().map(|part| part.len()).sum::<usize>());
         assert_eq!(head.lengths(), lengths, "the head says what the lengths are");
         let layout = layout_of::<H>(size_of::<H>(lengths.0, lengths.1));
         // SAFETY: its size is that of a head, or more.
         let at = unsafe { H::allocate(layout) };
-        let Some(block) = NonNull::new(at.cast::<Bytes<H>>()) else { handle_alloc_error(layout) };
+        let block = NonNull::new(at.cast::<Bytes<H>>())?;
         // SAFETY: the block is new, aligned for a head, and has room for it and for all that is behind its first `SIZE` bytes. The head is
         // written first, since its padding may lie there.
         unsafe {
@@ -125,7 +136,7 @@ impl<H: Head> Block<H> {
         }
         // The cast exposes the pointer, by which `part` comes to what is behind the head.
         let _ = at as usize;
-        Block(block)
+        Some(Block(block))
     }
 }
 
@@ -134,7 +145,7 @@ impl<H: Head> Deref for Block<H> {
 
     #[inline]
     fn deref(&self) -> &Bytes<H> {
-        // SAFETY: `new` has written it, and it is freed when `self` is dropped.
+        // SAFETY: `try_new` has written it, and it is freed when `self` is dropped.
         unsafe { self.0.as_ref() }
     }
 }
@@ -142,7 +153,7 @@ impl<H: Head> Deref for Block<H> {
 impl<H: Head> Drop for Block<H> {
     fn drop(&mut self) {
         let layout = layout_of::<H>(self.size());
-        // SAFETY: `new` allocated it with this layout, since the lengths are the same. Nobody else owns it. The head needs no destructor.
+        // SAFETY: `try_new` allocated it with this layout, since the lengths are the same. Nobody else owns it. The head needs no destructor.
         unsafe { H::deallocate(self.0.as_ptr().cast(), layout) }
     }
 }
@@ -152,7 +163,7 @@ unsafe impl<H: Head> Send for Block<H> {}
 // SAFETY: as above.
 unsafe impl<H: Head> Sync for Block<H> {}
 
-// SAFETY: the word is the address of a block, and `Block::new` has exposed a pointer to all of it.
+// SAFETY: the word is the address of a block, and `Block::try_new` has exposed a pointer to all of it.
 unsafe impl<H: Head> Held for Bytes<H> {
     type Owner = Block<H>;
 

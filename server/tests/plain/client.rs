@@ -1,7 +1,8 @@
 //! A client without a connection.
 use super::{Control, Plain};
-use cefrodild::dialogue::{Dialogue, Turn, MOST_WAITING};
+use cefrodild::dialogue::{Dialogue, Turn};
 use cefrodild::options::{parse, Asked};
+use cefrodild::output::{Output, MOST_WAITING};
 use cefrodild::room::Room;
 use cefrodild::store::Store;
 use std::sync::Arc;
@@ -41,10 +42,12 @@ impl Client {
         self.input.extend_from_slice(bytes);
         let mut answers = Vec::new();
         loop {
-            let mut out = Vec::new();
+            let mut out = Output::default();
             let (done, turn) = self.dialogue.turn(&self.store, &self.input, &mut out);
-            assert!(out.len() < MOST_WAITING + MEGABYTE + 300, "the output is bounded");
-            answers.append(&mut out);
+            assert!(out.len() <= 2 * MOST_WAITING, "the output is bounded");
+            while !out.is_empty() {
+                out.send(&mut answers).expect("a vector takes all that is written");
+            }
             self.input.drain(..done);
             match turn {
                 Turn::Needs(bytes) if self.input.len() < bytes => return (answers, false),

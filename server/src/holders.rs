@@ -1,0 +1,128 @@
+//! Clients that hold more than does not count. If all hold too much, those are cut off that hold most for longest.
+use crate::large::{left, Held};
+use crate::memory::try_reserve;
+use mio::{Token, Waker};
+use std::sync::Arc;
+use std::time::{Duration, Instant};
+
+/// Who serves a client, and its token there.
+#[derive(Clone, Debug)]
+pub struct Home {
+    pub waker: Arc<Waker>,
+    pub token: Token,
+}
+
+/// What a client that is to be cut off has held, and for how long.
+#[derive(Clone, Copy, Debug)]
+pub struct Cut {
+    pub bytes: u64,
+    pub time: Duration,
+}
+
+/// The clients by their numbers. A number is free that has none.
+#[derive(Debug, Default)]
+pub struct Holders {
+    all: Vec<Option<Holder>>,
+    /// The bytes of all that are not cut off.
+    bytes: u64,
+}
+
+#[derive(Debug)]
+struct Holder {
+    home: Option<Home>,
+    bytes: u64,
+    item: Option<Held>,
+    since: Instant,
+    /// Whether it is to be cut off, and its worker has not heard that.
+    cut: Option<bool>,
+}
+
+impl Holder {
+    /// What it keeps from being freed.
+    fn kept(&self) -> u64 {
+        self.item.as_ref().map_or(0, Held::bytes)
+    }
+
+    fn size(&self) -> u64 {
+        self.bytes + self.kept()
+    }
+
+    fn weight(&self) -> u128 {
+        u128::from(self.size()) * self.since.elapsed().as_nanos()
+    }
+
+    fn counted(&self) -> u64 {
+        if self.cut.is_none() {
+            self.bytes
+        } else {
+            0
+        }
+    }
+}
+
+impl Holders {
+    /// Notes what a client holds. Returns its number. `None`: there is no memory for one, so the client does not count.
+    pub fn note(&mut self, number: Option<usize>, home: Option<&Home>, bytes: u64, item: Option<&Held>) -> Option<usize> {
+        let number = number.or_else(|| self.add(home))?;
+        if let Some(Some(holder)) = self.all.get_mut(number) {
+            let before = holder.counted();
+            holder.bytes = bytes;
+            holder.item = item.cloned();
+            self.bytes = self.bytes - before + holder.counted();
+        }
+        Some(number)
+    }
+
+    fn add(&mut self, home: Option<&Home>) -> Option<usize> {
+        let free = self.all.iter().position(Option::is_none);
+        let number = free.unwrap_or(self.all.len());
+        if free.is_none() {
+            let more = self.all.len().max(1);
+            if self.all.len() == self.all.capacity() && !try_reserve(&mut self.all, more) {
+                return None;
+            }
+            self.all.push(None);
+        }
+        self.all[number] = Some(Holder { home: home.cloned(), bytes: 0, item: None, since: Instant::now(), cut: None });
+        Some(number)
+    }
+
+    /// The client holds nothing that counts.
+    pub fn remove(&mut self, number: usize) {
+        if let Some(holder) = self.all.get_mut(number).and_then(Option::take) {
+            self.bytes -= holder.counted();
+        }
+    }
+
+    /// Cuts clients off until the others hold so many bytes at most.
+    pub fn cut(&mut self, most: u64) {
+        let going = self.all.iter().flatten().filter(|holder| holder.cut.is_some()).map(Holder::kept).sum::<u64>();
+        let mut over = (self.bytes + left()).saturating_sub(most + going);
+        while over > 0 {
+            let held = self.all.iter_mut().flatten().filter(|holder| holder.cut.is_none() && holder.size() > 0);
+            let Some(holder) = held.max_by_key(|holder| holder.weight()) else { return };
+            over = over.saturating_sub(holder.size());
+            self.bytes -= holder.bytes;
+            holder.cut = Some(true);
+            if let Some(Home { waker, .. }) = &holder.home {
+                // If it can't be woken, it comes to this client at the client's next event.
+                let _ = waker.wake();
+            }
+        }
+    }
+
+    /// The next client of this worker that is to be cut off, and that it has not heard of.
+    pub fn next_cut(&mut self, worker: &Arc<Waker>) -> Option<Token> {
+        self.all.iter_mut().flatten().filter(|holder| holder.cut == Some(true)).find_map(|holder| {
+            let token = holder.home.as_ref().filter(|home| Arc::ptr_eq(&home.waker, worker))?.token;
+            holder.cut = Some(false);
+            Some(token)
+        })
+    }
+
+    /// What the client has held, if it is to be cut off.
+    pub fn cut_of(&self, number: usize) -> Option<Cut> {
+        let holder = self.all.get(number)?.as_ref().filter(|holder| holder.cut.is_some())?;
+        Some(Cut { bytes: holder.size(), time: holder.since.elapsed() })
+    }
+}

@@ -1,0 +1,139 @@
+//! Long answers, which are made part by part: of `stats cachedump`, `lru_crawler metadump` and `stats conns`.
+use crate::command::text;
+use crate::index::Token;
+use crate::item::Item;
+use crate::output::Output;
+use crate::queue::{Cursor, Entry};
+use crate::request::Request;
+use crate::seat::{Seen, State};
+use crate::store::Store;
+use std::io::Write;
+use std::mem::ManuallyDrop;
+use std::net::{SocketAddr, TcpStream};
+use std::os::fd::{FromRawFd, RawFd};
+
+/// The class of all items. The others are empty.
+pub const CLASS: u64 = 1;
+
+/// A part has so many items or clients at most.
+const PART: usize = 64;
+
+/// What is listed, and what of it comes next.
+#[derive(Clone, Copy, Debug)]
+pub enum Listing {
+    Items(Items),
+    /// From this place on.
+    Clients(usize),
+}
+
+/// Items in the order of their entries in the queues.
+#[derive(Clone, Copy, Debug)]
+pub struct Items {
+    write: fn(&Store, &Item, Token, &mut Output),
+    next: Option<Cursor>,
+    /// Items that are spared meanwhile come again at the end of their queue. So no more entries are looked at than there are at first.
+    entries: usize,
+    /// How many are to be listed.
+    most: u64,
+}
+
+impl Listing {
+    /// The list that answers a request.
+    pub fn of(store: &Store, request: &Request) -> Option<Listing> {
+        let items = |write, is_empty: bool, most| {
+            let entries = if is_empty { 0 } else { store.queue.entries() };
+            Some(Listing::Items(Items { write, next: Some(Cursor::default()), entries, most }))
+        };
+        match *request {
+            Request::Dump(class, most) => items(write_cached, class != CLASS, if most == 0 { u64::MAX } else { most }),
+            Request::Crawl(has_class) => items(write_crawled, !has_class, u64::MAX),
+            Request::Stats(b"conns") => Some(Listing::Clients(0)),
+            _ => None,
+        }
+    }
+
+    /// Lists the next ones. Returns whether there may be more.
+    pub fn part(&mut self, store: &Store, out: &mut Output) -> bool {
+        match self {
+            Listing::Items(items) => items.part(store, out),
+            Listing::Clients(place) => (0..PART).all(|_| list_client(store, place, out)),
+        }
+    }
+}
+
+impl Items {
+    fn part(&mut self, store: &Store, out: &mut Output) -> bool {
+        let Some(cursor) = self.next.filter(|_| self.entries > 0) else { return false };
+        let (entries, next) = store.queue.look_from(cursor, PART.min(self.entries));
+        self.next = next;
+        self.entries -= entries.len();
+        for Entry { hash, number } in entries {
+            if self.most == 0 {
+                return false;
+            }
+            store.index.peek(hash, &mut |seen| {
+                if let Some((item, token)) = seen.ok().flatten() {
+                    if item.number() == Some(number) && store.is_live(item) {
+                        self.most -= 1;
+                        (self.write)(store, item, token, out);
+                    }
+                }
+            });
+        }
+        true
+    }
+}
+
+fn write_cached(store: &Store, item: &Item, _: Token, out: &mut Output) {
+    out.extend_from_slice(b"ITEM ");
+    out.extend_from_slice(item.key());
+    text!(out, " [{} b; {} s]\r\n", item.value().len(), store.clock.unix_end(item.deadline()));
+}
+
+fn write_crawled(store: &Store, item: &Item, token: Token, out: &mut Output) {
+    out.extend_from_slice(b"key=");
+    for byte in item.key() {
+        match byte {
+            b'0'..=b'9' | b'A'..=b'Z' | b'a'..=b'z' | b'-' | b'.' | b'_' | b'~' => out.push(*byte),
+            _ => text!(out, "%{byte:02X}"),
+        }
+    }
+    let end = Some(store.clock.unix_end(item.deadline())).filter(|end| *end > 0).map_or(-1, |end| end as i64);
+    let (born, fetched) = (store.clock.unix_time_of(item.born()), if item.was_fetched() { "yes" } else { "no" });
+    text!(out, " exp={end} la={born} cas={token} fetch={fetched} cls={CLASS} size={}\n", item.size());
+}
+
+/// Lists the client at this place or the next one behind it. Returns whether there is one.
+fn list_client(store: &Store, place: &mut usize, out: &mut Output) -> bool {
+    let listeners = store.seats.listeners();
+    if let Some(file) = listeners.get(*place) {
+        *place += 1;
+        write_address(out, *file, "addr", TcpStream::local_addr);
+        text!(out, "STAT {file}:state conn_listening\r\nSTAT {file}:secs_since_last_cmd {}\r\n", store.clock.uptime());
+        return true;
+    }
+    let Some((index, Seen { file, turn, state })) = store.seats.seen_from(*place - listeners.len()) else { return false };
+    *place = index + 1 + listeners.len();
+    write_address(out, file, "addr", TcpStream::peer_addr);
+    write_address(out, file, "listen_addr", TcpStream::local_addr);
+    let state = match state {
+        State::Command => "conn_read",
+        State::Block => "conn_nread",
+        State::Skipped => "conn_swallow",
+        State::Sent => "conn_mwrite",
+    };
+    let silent = store.clock.uptime().saturating_sub(turn.into());
+    text!(out, "STAT {file}:state {state}\r\nSTAT {file}:secs_since_last_cmd {silent}\r\n");
+    true
+}
+
+/// Writes an address of an open file. Its worker may close it meanwhile: then this is the address of another file, or none.
+fn write_address(out: &mut Output, file: RawFd, name: &str, of: fn(&TcpStream) -> std::io::Result<SocketAddr>) {
+    // SAFETY: the file is not closed here, and only asked for an address.
+    let stream = ManuallyDrop::new(unsafe { TcpStream::from_raw_fd(file) });
+    match of(&stream) {
+        Ok(address @ SocketAddr::V4(_)) => text!(out, "STAT {file}:{name} tcp:{address}\r\n"),
+        Ok(address) => text!(out, "STAT {file}:{name} tcp6:{address}\r\n"),
+        Err(_) => text!(out, "STAT {file}:{name} unix\r\n"),
+    }
+}

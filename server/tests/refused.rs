@@ -1,0 +1,288 @@
+//! Memory that the system refuses: each allocation in turn, and all for a while. Clients are told so, or cut off, and the server goes on. The index is the
+//! real one.
+use cefrodild::connection::{warm_up, Connection, Next};
+use cefrodild::listen::Stream;
+use cefrodild::memory::Spare;
+use cefrodild::objects::Objects;
+use cefrodild::options::{parse, Asked};
+use cefrodild::room::Room;
+use cefrodild::slabs;
+use cefrodild::store::Store;
+use cefrodild::worker::Worker;
+use std::alloc::{GlobalAlloc, Layout, System};
+use std::cell::Cell;
+use std::io::{ErrorKind, Read, Write};
+use std::os::unix::net::UnixStream;
+use std::ptr;
+use std::sync::{Arc, Mutex, MutexGuard, Once, PoisonError};
+
+/// Refuses some allocations of one thread.
+struct Refusing;
+
+thread_local! {
+    /// How many allocations succeed first, and how many are refused then.
+    static FIRST: Cell<usize> = const { Cell::new(usize::MAX) };
+    static REFUSED: Cell<usize> = const { Cell::new(0) };
+}
+
+fn is_refused() -> bool {
+    match (FIRST.get(), REFUSED.get()) {
+        (0, 0) | (usize::MAX, _) => false,
+        (0, left) => {
+            REFUSED.set(left - 1);
+            true
+        }
+        (first, _) => {
+            FIRST.set(first - 1);
+            false
+        }
+    }
+}
+
+// SAFETY: the system's allocator has all blocks.
+unsafe impl GlobalAlloc for Refusing {
+    unsafe fn alloc(&self, layout: Layout) -> *mut u8 {
+        if is_refused() {
+            return ptr::null_mut();
+        }
+        // SAFETY: the caller says that it may be called: here and below.
+        unsafe { System.alloc(layout) }
+    }
+
+    unsafe fn dealloc(&self, at: *mut u8, layout: Layout) {
+        // SAFETY: as above.
+        unsafe { System.dealloc(at, layout) }
+    }
+}
+
+#[global_allocator]
+static ALLOCATOR: Spare<Refusing> = Spare::new(Refusing);
+
+const LIMIT: u64 = 1 << 20;
+
+fn store() -> Store {
+    let Ok(Asked::Serve(options)) = parse(["-t1".to_owned()]) else { panic!("these are options") };
+    let room = Arc::new(Room::new(LIMIT));
+    let index = Objects::open(10_000, 1, &room, None).expect("there is memory");
+    Store::new(Box::new(index), room, options)
+}
+
+/// Makes a call, of whose allocations so many succeed and so many are refused then. Returns whether some were.
+fn refusing<T>(first: usize, refused: usize, call: impl FnOnce() -> T) -> (T, bool) {
+    FIRST.set(first);
+    REFUSED.set(refused);
+    let result = call();
+    FIRST.set(usize::MAX);
+    (result, REFUSED.get() < refused)
+}
+
+struct Client {
+    connection: Connection,
+    stream: UnixStream,
+}
+
+impl Client {
+    fn of(store: &Store) -> Client {
+        let (accepted, stream) = UnixStream::pair().expect("there are descriptors");
+        accepted.set_nonblocking(true).and(stream.set_nonblocking(true)).expect("they are sockets");
+        let seat = store.seats.take().expect("a seat is free");
+        Client { connection: Connection::new(Stream::Unix(mio::net::UnixStream::from_std(accepted)), seat), stream }
+    }
+
+    /// Gives the connection turns. Returns whether it goes on.
+    fn turns(&mut self, store: &Store) -> bool {
+        self.connection.read_again();
+        loop {
+            match self.connection.turn(store) {
+                Ok(Next::Turn) => {}
+                Ok(Next::Event) => return true,
+                _ => return false,
+            }
+        }
+    }
+
+    /// Sends this in parts, and reads what it is answered to this place. Returns how many bytes that has, or `None` if the connection has ended.
+    fn ask(&mut self, store: &Store, mut bytes: &[u8], answer: &mut [u8]) -> Option<usize> {
+        let mut read = 0;
+        loop {
+            let part = bytes.len().min(50_000);
+            match self.stream.write(&bytes[..part]) {
+                Ok(length) => bytes = &bytes[length..],
+                Err(why) => assert_eq!(why.kind(), ErrorKind::WouldBlock),
+            }
+            if !self.turns(store) {
+                return None;
+            }
+            match self.stream.read(&mut answer[read..]) {
+                Ok(length) => read += length,
+                Err(_) if bytes.is_empty() => return Some(read),
+                Err(_) => {}
+            }
+        }
+    }
+}
+
+/// What a client asks, and is answered unless memory is refused. An answer that is empty can be any.
+struct Step {
+    command: Vec<u8>,
+    answer: Vec<u8>,
+}
+
+fn step(command: &str, answer: &str) -> Step {
+    let bytes = |text: &str| text.replace('\n', "\r\n").into_bytes();
+    Step { command: bytes(command), answer: bytes(answer) }
+}
+
+const NO_MEMORY: &[u8] = b"SERVER_ERROR out of memory storing object\r\n";
+
+fn script() -> Vec<Step> {
+    let (large, small) = ("l".repeat(200_000), "s".repeat(5_000));
+    // The chunks of small items have no such ones.
+    let sets: String = (0..100).map(|key| format!("set {key} 0 0 1500 noreply\n{}\n", "x".repeat(1_500))).collect();
+    vec![
+        step("delete n\ndelete l\ndelete s\n", ""),
+        step(&format!("set l 0 0 {}\n{large}\n", large.len()), "STORED\n"),
+        step(&format!("get l\nset s 0 100 {0}\n{small}\nget s\n", small.len()), ""),
+        step("set n 0 0 1\n5\n", "STORED\n"),
+        step("incr n 5\nappend n 0 0 1\n7\nget n\n", ""),
+        step("ms m 2 T50\nab\nma m2 N0 J7 v\nmg m v t c k s f\n", ""),
+        step("stats\nstats items\nstats slabs\nstats conns\nlru_crawler metadump all\nstats cachedump 1 0\n", ""),
+        step("gat 5 n l s\ntouch n 7\ndelete s\nget s l\n", ""),
+        step(&sets, ""),
+    ]
+}
+
+/// What came of a script.
+#[derive(Debug, Default)]
+struct Ran {
+    cut_off: usize,
+    no_memory: usize,
+}
+
+/// Carries the script out, with some refusals. Returns what came of it, and whether an allocation was refused.
+fn run(store: &Store, script: &[Step], first: usize, refused: usize) -> (Ran, bool) {
+    let mut room = vec![0; 700_000];
+    refusing(first, refused, || {
+        let (mut client, mut ran) = (Client::of(store), Ran::default());
+        for Step { command, answer } in script {
+            let Some(length) = client.ask(store, command, &mut room) else {
+                ran.cut_off += 1;
+                client = Client::of(store);
+                continue;
+            };
+            let told = &room[..length];
+            ran.no_memory += usize::from(told == NO_MEMORY);
+            assert!(answer.is_empty() || told == answer || told == NO_MEMORY, "{}", told.escape_ascii());
+        }
+        store.expire();
+        store.index.sweep();
+        ran
+    })
+}
+
+/// What any store can do that has memory.
+fn ordinary() -> Vec<Step> {
+    let value = "v".repeat(100_000);
+    vec![
+        step(&format!("set l 0 0 {}\n{value}\n", value.len()), "STORED\n"),
+        step("get l\n", &format!("VALUE l 0 {}\n{value}\nEND\n", value.len())),
+        step("set n 0 0 1\n5\nincr n 1\n", "STORED\n6\n"),
+    ]
+}
+
+/// All goes well again.
+fn assert_well(store: &Store, ordinary: &[Step]) {
+    let mut client = Client::of(store);
+    let mut room = vec![0; 400_000];
+    for Step { command, answer } in ordinary {
+        let length = client.ask(store, command, &mut room).expect("it goes on");
+        assert!(room[..length] == answer[..]);
+    }
+    assert!(store.seats.bytes() == 0, "{}", store.seats.bytes());
+}
+
+/// One test at a time: what has left the index and is held is counted for the process.
+fn set_up() -> MutexGuard<'static, ()> {
+    static ONCE: Once = Once::new();
+    static TURN: Mutex<()> = Mutex::new(());
+    ONCE.call_once(|| slabs::set_up(64 << 20).expect("there are addresses"));
+    warm_up();
+    TURN.lock().unwrap_or_else(PoisonError::into_inner)
+}
+
+/// Runs the script again and again, with refusals from each allocation on. Returns how many allocations it makes, and what came of all runs.
+fn run_with_each(refused: usize) -> (usize, Ran) {
+    let (store, script, ordinary) = (store(), script(), ordinary());
+    let (ran, was_refused) = run(&store, &script, usize::MAX, 0);
+    assert!(ran.cut_off == 0 && ran.no_memory == 0 && !was_refused, "{ran:?}");
+    let mut all = Ran::default();
+    for first in 0.. {
+        let (ran, was_refused) = run(&store, &script, first, refused);
+        assert_well(&store, &ordinary);
+        if !was_refused {
+            return (first, all);
+        }
+        all.cut_off += ran.cut_off;
+        all.no_memory += ran.no_memory;
+    }
+    unreachable!("a script has an end")
+}
+
+#[test]
+fn each_allocation_of_a_script_is_refused() {
+    let _turn = set_up();
+    let (first, all) = run_with_each(1);
+    assert!(first > 100 && all.no_memory == 0 && all.cut_off < 10, "items give way, and it is asked again: {first} {all:?}");
+}
+
+#[test]
+fn so_are_twenty_in_a_row() {
+    let _turn = set_up();
+    let (_, all) = run_with_each(20);
+    assert!(all.no_memory > 3 && all.cut_off < 100, "{all:?}");
+}
+
+#[test]
+fn all_allocations_are_refused_for_a_while() {
+    let _turn = set_up();
+    let (store, script, ordinary) = (store(), script(), ordinary());
+    for first in 0..30 {
+        assert!(run(&store, &script, first, 200).1);
+        assert_well(&store, &ordinary);
+    }
+}
+
+/// Its clients have sent commands before it begins, and it ends when they are answered.
+#[test]
+fn each_allocation_of_a_worker_is_refused() {
+    let _turn = set_up();
+    let store = Arc::new(store());
+    let mut was_refused = true;
+    for first in 0.. {
+        if !was_refused {
+            break;
+        }
+        let clients: Vec<_> = (0..40).map(|_| Client::of(&store)).collect();
+        let (worker, inbox) = Worker::new(Arc::clone(&store)).expect("there is memory");
+        let mut streams = Vec::with_capacity(clients.len());
+        let (result, refused) = refusing(first, 1, || {
+            for Client { connection, mut stream } in clients {
+                stream
+                    .write_all(b"set k 0 0 2000\r\n")
+                    .and_then(|()| stream.write_all(&[b'x'; 2_000]))
+                    .expect("it takes a command");
+                stream.write_all(b"\r\n").expect("it takes a command");
+                // If it fails, the client has gone.
+                let _ = inbox.hand(connection);
+                streams.push(stream);
+            }
+            drop(inbox);
+            worker.run(0)
+        });
+        assert!(result.is_ok(), "{result:?}");
+        let stored = streams.iter_mut().map(|stream| stream.read(&mut [0; 100])).filter(|read| matches!(read, Ok(8))).count();
+        assert!(stored >= 39 - 30 * usize::from(refused), "{stored}");
+        assert_eq!(store.seats.taken(), 0);
+        was_refused = refused;
+    }
+}
