@@ -5,6 +5,7 @@ use crate::flight::Flights;
 use crate::generation::Generation;
 use crate::handle::AnyHandle;
 use crate::inner::Inner;
+use crate::key_locks::KeyLocks;
 use crate::map::Map;
 use crate::print::Printer;
 use crate::settings::Settings;
@@ -156,18 +157,20 @@ impl<K: ?Sized, V: Copy + Send + Sync + 'static, S: BuildHasher> Builder<K, V, S
         let mut handles = AnyHandle::open(width, shape, shards, self.settings.handles()).map_err(OpenError::of)?;
         let mut capacity = handles[0].capacity();
         let slots = Arc::new(Slots::new(handles));
-        let mut tiers = None;
+        let (mut tiers, mut locks) = (None, KeyLocks::new());
         if self.settings.small_table {
             let mut small = self.small_handles(width)?;
             let young = small[0].capacity();
             capacity += young;
             tiers = Some(Tiers::new(Arc::clone(&slots), small, capacity, young));
+            locks = KeyLocks::default();
         }
         let Settings { hasher, once, life, idle, .. } = self.settings;
         Ok(Map::of(Inner {
             capacity,
             slots,
             tiers,
+            locks,
             flights: Flights::new(),
             generation: Generation::new(),
             clock: Clock::new(),

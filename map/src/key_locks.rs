@@ -1,4 +1,5 @@
 //! A lock of keys. It is tried, and never waited for. No code of the caller runs under one.
+use crate::spread::{mixed, place_in};
 use std::sync::atomic::{AtomicBool, Ordering::Acquire, Ordering::Release};
 
 /// That of some keys.
@@ -16,6 +17,30 @@ impl KeyLock {
     pub fn lock(&self) -> Option<Guard<'_>> {
         let was_taken = self.is_taken.swap(true, Acquire);
         (!was_taken).then(|| Guard(self))
+    }
+}
+
+/// So two threads seldom meet at a lock.
+const LOCKS: usize = 64;
+
+/// The locks of all keys, in a map whose keys have nothing else in common.
+#[derive(Default)]
+pub(crate) struct KeyLocks(Box<[Line]>);
+
+/// A lock in a cache line of its own.
+#[derive(Default)]
+#[repr(align(64))]
+struct Line(KeyLock);
+
+impl KeyLocks {
+    pub fn new() -> KeyLocks {
+        KeyLocks((0..LOCKS).map(|_| Line::default()).collect())
+    }
+
+    /// The lock of the key, if no other thread has it.
+    #[inline]
+    pub fn lock(&self, key: u64) -> Option<Guard<'_>> {
+        self.0[place_in(self.0.len(), mixed(key))].0.lock()
     }
 }
 

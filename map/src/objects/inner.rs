@@ -71,9 +71,15 @@ impl<O: Held, S> ObjectInner<O, S> {
         self.is_of_this_generation(object) && !self.clock.has_passed(object.deadline().min(object.idle()))
     }
 
-    /// Whether no call has invalidated the objects that were made when it was.
+    /// Whether no call has invalidated the object since its put took effect. That may be now: what a call has put just now has no generation so far.
     #[inline]
     pub fn is_of_this_generation(&self, object: &O) -> bool {
+        object.generation() >= self.generation.now() || self.enters(object)
+    }
+
+    #[cold]
+    fn enters(&self, object: &O) -> bool {
+        object.enter(self.generation.now());
         object.generation() >= self.generation.now()
     }
 
@@ -148,7 +154,7 @@ impl<O: Held, S> ObjectInner<O, S> {
 }
 
 impl<K, V, S> ObjectInner<Object<K, V>, S> {
-    /// An object that is to be put, made in this generation.
+    /// An object that is to be put. `generation`: that of what it was made of, or `NONE`; then its put takes effect in that of now.
     pub fn object(&self, key: K, value: V, life: Option<Duration>, generation: u64) -> Box<Object<K, V>> {
         let idle = self.idle.map_or(NEVER, |idle| self.clock.deadline(idle));
         let mut object = Object::new(key, value, generation, self.deadline(life), idle);

@@ -158,10 +158,11 @@ impl<O: Held, S> ObjectInner<O, S> {
         self.weights.as_ref().is_some_and(|weights| weights.weigher.is_none())
     }
 
-    /// A put of this word, with the object's place in a queue: in that of the object that it has replaced, if there is one. If objects are counted, it
-    /// has the place of that one.
-    pub fn queued(&self, hash: u64, word: u64, mut done: Done, pinned: Option<Pinned<'_, O, S>>) -> Done {
-        let (Some(part), Some(pinned)) = (self.part(hash), pinned) else { return done };
+    /// A put of this word, which takes effect now at the latest, with the object's place in a queue: in that of the object that it has replaced, if there
+    /// is one. If objects are counted, it has the place of that one.
+    pub fn queued(&self, hash: u64, word: u64, mut done: Done, pinned: Pinned<'_, O, S>) -> Done {
+        pinned.object(word).enter(self.generation.now());
+        let Some(part) = self.part(hash) else { return done };
         let (object, old) = (pinned.object(word), done.replaced(&pinned));
         let line = old.map_or_else(|| part.queues.line_of_new(hash), O::line);
         if old.is_none() {

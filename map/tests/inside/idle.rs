@@ -75,7 +75,7 @@ fn each_lookup_and_write_is_a_use() {
 
 // When the index put what the key has.
 fn since(map: &Numbers) -> u64 {
-    let Some(crate::inner::Found::Live(_, since)) = map.inner.look(map.inner.print(&1u64), 1) else { panic!("it is there") };
+    let Some(crate::inner::Found::Live(_, since)) = map.inner.look(map.inner.print_now(&1u64), 1) else { panic!("it is there") };
     since
 }
 
