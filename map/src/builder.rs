@@ -157,20 +157,19 @@ impl<K: ?Sized, V: Copy + Send + Sync + 'static, S: BuildHasher> Builder<K, V, S
         let mut handles = AnyHandle::open(width, shape, shards, self.settings.handles()).map_err(OpenError::of)?;
         let mut capacity = handles[0].capacity();
         let slots = Arc::new(Slots::new(handles));
-        let (mut tiers, mut locks) = (None, KeyLocks::new());
+        let mut tiers = None;
         if self.settings.small_table {
             let mut small = self.small_handles(width)?;
             let young = small[0].capacity();
             capacity += young;
             tiers = Some(Tiers::new(Arc::clone(&slots), small, capacity, young));
-            locks = KeyLocks::default();
         }
         let Settings { hasher, once, life, idle, .. } = self.settings;
         Ok(Map::of(Inner {
             capacity,
             slots,
             tiers,
-            locks,
+            locks: KeyLocks::new(),
             flights: Flights::new(),
             generation: Generation::new(),
             clock: Clock::new(),

@@ -24,8 +24,7 @@ impl KeyLock {
 const LOCKS: usize = 64;
 
 /// The locks of all keys, in a map whose keys have nothing else in common.
-#[derive(Default)]
-pub(crate) struct KeyLocks(Box<[Line]>);
+pub(crate) struct KeyLocks([Line; LOCKS]);
 
 /// A lock in a cache line of its own.
 #[derive(Default)]
@@ -34,13 +33,13 @@ struct Line(KeyLock);
 
 impl KeyLocks {
     pub fn new() -> KeyLocks {
-        KeyLocks((0..LOCKS).map(|_| Line::default()).collect())
+        KeyLocks([const { Line(KeyLock { is_taken: AtomicBool::new(false) }) }; LOCKS])
     }
 
     /// The lock of the key, if no other thread has it.
     #[inline]
     pub fn lock(&self, key: u64) -> Option<Guard<'_>> {
-        self.0[place_in(self.0.len(), mixed(key))].0.lock()
+        self.0[place_in(LOCKS, mixed(key))].0.lock()
     }
 }
 
