@@ -8,7 +8,7 @@ use crate::flight::Flights;
 use crate::generation::Generation;
 use crate::print::Print;
 use crate::slots::Slots;
-use crate::stats::Kind;
+use crate::stats::{Kind, Stats};
 use crate::wait::{LISTS, LOOKS};
 use cefrodil::Handle;
 use std::hash::{BuildHasher, Hash};
@@ -135,6 +135,18 @@ impl<O: Held, S> ObjectInner<O, S> {
             let reason = if self.is_live(object) { reason } else { Reason::Expired };
             listener.0(object, reason);
         }
+    }
+
+    /// What the calls of all threads came to, and what waits to be freed.
+    pub fn stats(&self) -> Stats {
+        let (mut stats, is_weighed) = (self.slots.stats(), self.weights.as_ref().is_some_and(Weights::has_weigher));
+        self.epochs.each_waiting(|word| {
+            // SAFETY: the word was in this map's index, so it is one of `into_word` of these types. It waits, so no owner is made of it.
+            let object = unsafe { &*pointer::<O>(word) };
+            stats.waiting += 1;
+            stats.waiting_weight += if is_weighed { object.weight() } else { 0 };
+        });
+        stats
     }
 
     /// Frees these objects, which `Epochs` returned. A destructor that panics ends there: the call may be of another key, or a panic itself.

@@ -64,7 +64,7 @@ impl<K, V, S> ObjectMap<K, V, S> {
     /// How many entries the map has, expired ones included. While other threads write it is an estimate.
     #[must_use]
     pub fn len(&self) -> usize {
-        self.stats().entries()
+        self.inner.slots.stats().entries()
     }
 
     /// Whether [`len`](Self::len) is 0.
@@ -76,7 +76,7 @@ impl<K, V, S> ObjectMap<K, V, S> {
     /// What the calls of all threads came to.
     #[must_use]
     pub fn stats(&self) -> Stats {
-        self.inner.slots.stats()
+        self.inner.stats()
     }
 
     /// The sum of what the entries weigh, by the weigher of [`ObjectBuilder::max_weight`]; 0 without one. It counts what is about to be put.

@@ -98,6 +98,17 @@ fn a_lookup_writes_once_in_a_sixteenth_of_the_time() {
 }
 
 #[test]
+fn a_use_that_moves_its_key_begins_the_time_anew() {
+    let map = Numbers::builder(40).shards(1).time_to_idle(IDLE).open().unwrap();
+    (0..100).for_each(|key| done(map.insert(&(1_000 + key), key)));
+    map.insert(&1, 10).unwrap();
+    for _ in 0..3 {
+        turn(&map, 100);
+        assert_eq!(map.get(&1), Some(10));
+    }
+}
+
+#[test]
 fn the_time_to_live_ends_it_though_it_is_used() {
     let map = Numbers::builder(100).time_to_live(seconds(300)).time_to_idle(IDLE).open().unwrap();
     map.insert(&1, 10).unwrap();
