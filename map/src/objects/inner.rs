@@ -11,6 +11,7 @@ use crate::slots::Slots;
 use crate::stats::{Kind, Stats};
 use crate::wait::{LISTS, LOOKS};
 use cefrodil::Handle;
+use std::cell::Cell;
 use std::hash::{BuildHasher, Hash};
 use std::marker::PhantomData;
 use std::mem;
@@ -133,6 +134,7 @@ impl<O: Held, S> ObjectInner<O, S> {
         if let Some(listener) = &self.listener {
             let object = left.object();
             let reason = if self.is_live(object) { reason } else { Reason::Expired };
+            let _hearing = Hearing::begin();
             listener.0(object, reason);
         }
     }
@@ -174,6 +176,30 @@ impl<K, V, S> ObjectInner<Object<K, V>, S> {
             object.set_weight(weight);
         }
         object
+    }
+}
+
+/// So many calls of listeners may be within each other if puts make them.
+pub(crate) const MOST_HEARING: u32 = 16;
+
+thread_local! {
+    /// How many calls of listeners run in this thread.
+    pub(crate) static HEARING: Cell<u32> = const { Cell::new(0) };
+}
+
+/// One of them, until this is dropped.
+struct Hearing;
+
+impl Hearing {
+    fn begin() -> Hearing {
+        HEARING.set(HEARING.get() + 1);
+        Hearing
+    }
+}
+
+impl Drop for Hearing {
+    fn drop(&mut self) {
+        HEARING.set(HEARING.get() - 1);
     }
 }
 

@@ -1,7 +1,7 @@
 //! Puts of objects.
 use super::builder::Reason;
 use super::error::{AbsentError, IfError, Refused};
-use super::inner::ObjectInner;
+use super::inner::{ObjectInner, HEARING, MOST_HEARING};
 use super::map::ObjectMap;
 use super::object::{Held, Keyed, Object};
 use super::pinned::{Over, Pinned, Seen};
@@ -168,6 +168,7 @@ impl Fail {
             Fail::Changed { since } => IfError::Changed { since },
             Fail::Insert(InsertError::Spent) => IfError::Spent,
             Fail::Insert(InsertError::TooHeavy) => IfError::TooHeavy,
+            Fail::Insert(InsertError::TooDeep) => IfError::TooDeep,
             Fail::Insert(_) | Fail::Present => IfError::Held,
         }
     }
@@ -265,6 +266,9 @@ impl<O: Held, S> ObjectInner<O, S> {
 
     // `put` puts the word, as the last that it does with it, unless it fails.
     fn offer(&self, hash: u64, object: O::Owner, put: impl FnOnce(u64) -> Result<Done, Fail>) -> Offered<O> {
+        if self.listener.is_some() && HEARING.get() >= MOST_HEARING {
+            return Err((object, Fail::Insert(InsertError::TooDeep)));
+        }
         let (weight, part) = (object.weight(), self.part(hash));
         if part.is_some_and(|part| !part.take(weight)) {
             return Err((object, Fail::Insert(InsertError::TooHeavy)));
