@@ -12,13 +12,15 @@ pub type Value = Option<u64>;
 pub enum Did {
     /// The key had this.
     Saw(Value),
-    /// It had something else.
+    /// It had something else than what the call would have written over.
     Missed(Value),
+    /// It had nothing that the call could change. At an earlier try it may have had.
+    Tried,
     /// It had the first, and has the second.
     Changed(Value, Value),
     /// It has this, whatever it had.
     Set(Value),
-    /// It had nothing, and this was made, from that moment on, and put. It is not put only if another call wrote.
+    /// It had nothing, and this was made, from that moment on, and put. It is not put only if another call wrote, or tried to.
     Made { value: u64, from: u64, is_put: Option<bool> },
     /// It had this, or nothing: then another call was making this, and this one waited for it.
     Joined(u64),
@@ -36,6 +38,11 @@ pub struct Call {
 impl Call {
     fn is_write(&self) -> bool {
         matches!(self.did, Did::Changed(..) | Did::Set(_))
+    }
+
+    // Whether what was being made may be lost by this call.
+    fn may_outdate(&self) -> bool {
+        self.is_write() || matches!(self.did, Did::Missed(_) | Did::Tried)
     }
 
     fn is_beside(&self, other: &Call) -> bool {
@@ -91,12 +98,13 @@ impl History {
         let is = |is: bool, next: Value| is.then_some(next);
         match self.calls[call].did {
             Did::Saw(seen) => [is(seen == value, value), None],
+            Did::Tried => [is(value.is_none(), None), None],
             Did::Missed(seen) => [is(seen != value, value), None],
             Did::Changed(old, new) => [is(old == value, new), None],
             Did::Set(new) => [Some(new), None],
             Did::Made { value: made, from, is_put } => {
                 let may_put = value.is_none() && is_put != Some(false) && !self.has_written(done, from);
-                let may_lose = value.is_none() && is_put != Some(true) && self.is_beside_write(call);
+                let may_lose = value.is_none() && is_put != Some(true) && self.is_beside_writer(call);
                 [is(may_put, Some(made)), is(may_lose, None)]
             }
             Did::Joined(made) => [is(value == Some(made), value), is(value.is_none() && self.may_join(call, made), None)],
@@ -109,8 +117,8 @@ impl History {
         others.any(|(other, call)| done & 1 << other != 0 && call.is_write() && call.begin > from)
     }
 
-    fn is_beside_write(&self, call: usize) -> bool {
-        self.calls.iter().any(|other| other.is_write() && other.is_beside(&self.calls[call]))
+    fn is_beside_writer(&self, call: usize) -> bool {
+        self.calls.iter().any(|other| other.may_outdate() && other.is_beside(&self.calls[call]))
     }
 
     // Whether another call made this value beside this one, and no write came between its begin and this one.

@@ -1,6 +1,6 @@
 //! The calls of an `ObjectMap`.
-use crate::history::Did::{self, Changed, Joined, Made, Missed, Saw, Set};
-use crate::rounds::{Caller, Calls, Told, KEYS};
+use crate::history::Did::{self, Changed, Joined, Made, Missed, Saw, Set, Tried};
+use crate::rounds::{take_a_while, Caller, Calls, Told, KEYS};
 use cefrodil_map::{AbsentError, Board, IfError, Look, ObjectMap, Published};
 use std::cell::Cell;
 use std::time::Duration;
@@ -30,6 +30,7 @@ impl Objects {
         let mut from = None;
         let made = || {
             from = Some(caller.clock.next());
+            take_a_while(value);
             value
         };
         let found = self.map.get_or_insert_with(&key, made);
@@ -47,6 +48,7 @@ impl Objects {
             Board::Lead(lead) => lead,
         };
         let from = caller.clock.next();
+        take_a_while(value);
         match lead.try_publish(value) {
             Published::Put(_) => Told::Key(Made { value, from, is_put: Some(true) }),
             Published::Other(found) => Told::Key(Saw(Some(found))),
@@ -92,13 +94,14 @@ impl Objects {
         let seen = Cell::new(None);
         let change = |old: &u64| {
             seen.set(Some(*old));
+            take_a_while(value);
             value
         };
         let changed = match life {
             Some(life) => self.map.modify_for(&key, life, change),
             None => self.map.modify(&key, change),
         };
-        told(changed.map(|new| new.map_or(Saw(None), |_| Changed(seen.get(), Some(value)))))
+        told(changed.map(|new| new.map_or(Tried, |_| Changed(seen.get(), Some(value)))))
     }
 
     fn call_with_life(&self, caller: &mut Caller, key: u64, value: u64) -> Told {
@@ -129,6 +132,7 @@ impl Calls for Objects {
                 let seen = Cell::new(None);
                 let change = |old: Option<&u64>| {
                     seen.set(old.copied());
+                    take_a_while(value);
                     value
                 };
                 told(map.update(key, change).map(|_| Changed(seen.get(), Some(value))))

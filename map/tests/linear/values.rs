@@ -1,6 +1,6 @@
 //! The calls of a `Map`.
-use crate::history::Did::{self, Changed, Joined, Made, Saw, Set};
-use crate::rounds::{Caller, Calls, Told, KEYS};
+use crate::history::Did::{self, Changed, Joined, Made, Saw, Set, Tried};
+use crate::rounds::{take_a_while, Caller, Calls, Told, KEYS};
 use cefrodil_map::{Board, Inserted, Map, Published};
 use std::cell::Cell;
 use std::sync::atomic::{AtomicU64, Ordering::SeqCst};
@@ -42,6 +42,7 @@ impl Values {
         let mut from = None;
         let made = || {
             from = Some(caller.clock.next());
+            take_a_while(value);
             value
         };
         let found = self.map.get_or_insert_with(&key, made);
@@ -59,6 +60,7 @@ impl Values {
             Board::Lead(lead) => lead,
         };
         let from = caller.clock.next();
+        take_a_while(value);
         match lead.try_publish(value) {
             Published::Put(_) => Told::Key(Made { value, from, is_put: Some(true) }),
             Published::Other(found) => Told::Key(Saw(Some(found))),
@@ -71,13 +73,14 @@ impl Values {
         let seen = Cell::new(None);
         let change = |old| {
             seen.set(Some(old));
+            take_a_while(value);
             value
         };
         let changed = match life {
             Some(life) => self.map.modify_for(&key, life, change),
             None => self.map.modify(&key, change),
         };
-        told(changed.map(|new| new.map_or(Saw(None), |_| Changed(seen.get(), Some(value)))))
+        told(changed.map(|new| new.map_or(Tried, |_| Changed(seen.get(), Some(value)))))
     }
 
     fn call_with_life(&self, caller: &mut Caller, key: u64, value: u64) -> Told {
@@ -106,6 +109,7 @@ impl Calls for Values {
                 let mut seen = None;
                 let change = |old| {
                     seen = old;
+                    take_a_while(value);
                     value
                 };
                 told(map.update(&key, change).map(|_| Changed(seen, Some(value))))
