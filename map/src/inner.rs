@@ -60,21 +60,6 @@ impl<K: ?Sized, V, S> Drop for Inner<K, V, S> {
     }
 }
 
-impl<K: ?Sized, V, S> Inner<K, V, S> {
-    /// In a map with one table: makes a call while no other thread writes the key.
-    #[inline]
-    pub fn in_lock<T, E>(
-        &self,
-        key: u64,
-        call: impl FnOnce(&mut AnyHandle) -> Result<T, TurnError<E>>,
-    ) -> Result<T, TurnError<E>> {
-        self.slots.call(|handle| {
-            let _locked = self.locks.lock(key).ok_or(TurnError::Held)?;
-            call(handle)
-        })
-    }
-}
-
 impl<K: Key + ?Sized, V: Copy, S: BuildHasher> Inner<K, V, S> {
     /// By which a key is known whatever the generation: to flights.
     #[inline]

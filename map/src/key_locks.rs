@@ -1,5 +1,8 @@
 //! A lock of keys. It is tried, and never waited for. No code of the caller runs under one.
+use crate::handle::AnyHandle;
+use crate::inner::Inner;
 use crate::spread::{mixed, place_in};
+use cefrodil::TurnError;
 use std::sync::atomic::{AtomicBool, Ordering::Acquire, Ordering::Release};
 
 /// That of some keys.
@@ -40,6 +43,21 @@ impl KeyLocks {
     #[inline]
     pub fn lock(&self, key: u64) -> Option<Guard<'_>> {
         self.0[place_in(LOCKS, mixed(key))].0.lock()
+    }
+}
+
+impl<K: ?Sized, V, S> Inner<K, V, S> {
+    /// In a map with one table: makes a call while no other thread writes the key.
+    #[inline]
+    pub fn in_lock<T, E>(
+        &self,
+        key: u64,
+        call: impl FnOnce(&mut AnyHandle) -> Result<T, TurnError<E>>,
+    ) -> Result<T, TurnError<E>> {
+        self.slots.call(|handle| {
+            let _locked = self.locks.lock(key).ok_or(TurnError::Held)?;
+            call(handle)
+        })
     }
 }
 
