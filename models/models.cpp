@@ -11,6 +11,7 @@
 #include "rust_epochs.hpp"
 #include "rust_generations.hpp"
 #include "rust_flights.hpp"
+#include "rust_object_generations.hpp"
 #include "rust_slots.hpp"
 #include "rust_tiers.hpp"
 #include "rust_weights.hpp"
@@ -62,6 +63,7 @@ int main(int argc, char **argv) {
     explore<RustEpochs>("Rust epochs", schedules);
     explore<RustTiers>("Rust tiers", schedules);
     explore<RustGenerations>("Rust generations", schedules);
+    explore<RustObjectGenerations>("Rust generations of objects", schedules);
     explore<RustWeights>("Rust weights", schedules);
     return faults == 0 ? 0 : 1;
 }

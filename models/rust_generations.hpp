@@ -1,7 +1,7 @@
 // How the crate `cefrodil-map` invalidates all entries by one step, line by line. .ci/models checks that each quoted line is still there.
 //
-// One thread changes the store and invalidates all. Then it counts by an update. Another one makes an update, and a third one loads a value from the
-// store. After the invalidation no lookup finds an older value, nobody waits for one, and no count is lost.
+// One thread changes the store and invalidates all. Then it counts by an update. Another one makes an update or an insert, and a third one loads a value
+// from the store. After the invalidation no lookup finds an older value, nobody waits for one, and no count is lost but to an insert that is found.
 //
 // The index is one entry: its words are the generation and the value. A lookup is an acquire load, and a write acquire and release: the index promises no
 // less. A write on a condition compares the words, and not the moment.
@@ -12,20 +12,35 @@
 
 struct RustGenerations : rl::test_suite<RustGenerations, 3> {
     static constexpr unsigned interruptions = 2;
-    static constexpr std::array<std::string_view, 6> steps{"release of the generation", "acquire of the generation",   "one generation of a look and its put",
-                                                           "another look at the generation", "generation of the load", "end of the flights"};
+    static constexpr std::array<std::string_view, 9> steps{
+        "release of the generation", "acquire of the generation", "one generation of a look and its put",
+        "another look at the generation", "generation of the load", "end of the flights",
+        "lock of an insert", "lock of an update", "generation under the lock"};
 
     using Guard = std::lock_guard<explored::Mutex>;
     static constexpr std::memory_order all = std::memory_order_seq_cst, acquires = std::memory_order_acquire;
-    enum { none, older, newer, counted = 4, values = 8 };
+    enum { none, older, newer, inserted, counted = 4, values = 8 };
 
     explored::Atomic<int> generation{0}, store{older}, entry{older};
-    explored::Mutex flights{};
+    explored::Mutex flights{}, key_lock{};
     // Whether the load is in the list of flights, and what it has loaded.
     explored::Atomic<int> is_listed{0}, loaded{none};
 
     int now() const { return generation.load(explored::without("acquire of the generation") ? std::memory_order_relaxed : all); }
-    bool put(int there, int in, int value) { return entry.compare_exchange(there, in * values + value, std::memory_order_acq_rel); }
+    bool put(int there, int in, int value) {
+        const explored::Mutex::Off off("lock of an update");
+        const Guard guard(key_lock);                                      //| in map/src/update.rs
+                                                                          //| None => self.in_lock(print.key, |handle| handle.put_if(print.key, since, words)),
+        return entry.compare_exchange(there, in * values + value, std::memory_order_acq_rel);
+    }
+    void insert() {
+        const int early = now();
+        const explored::Mutex::Off off("lock of an insert");
+        const Guard guard(key_lock);                                      //| in map/src/inner.rs
+                                                                          //| self.in_lock(print.key, put).map(Inserted::of)
+        const int in = explored::without("generation under the lock") ? early : now(); //| date(&mut words);
+        entry.exchange(in * values + inserted, std::memory_order_acq_rel);
+    }
     int find() const {
         const int in = now(), there = entry.load(acquires);
         return there / values == in ? there % values : none;
@@ -47,7 +62,7 @@ struct RustGenerations : rl::test_suite<RustGenerations, 3> {
             const int there = entry.load(acquires);
             const bool is_other = there / values != in;
             if (is_other && now() != in && !explored::without("another look at the generation")) {
-                continue;                                                 //| Found::Other(_) if self.generation.now() != generation => continue,
+                continue;                                                 //| Found::Expired(_) | Found::Other(_) if self.generation.now() != generation => continue,
             }
             const int old = is_other ? none : there % values;
             const int of = explored::without("one generation of a look and its put") ? now() : in;
@@ -81,7 +96,7 @@ struct RustGenerations : rl::test_suite<RustGenerations, 3> {
 
     void thread(unsigned index) {
         if (index == 1) {
-            update(0);
+            rl::rand(2) == 0 ? update(0) : insert();
         } else if (index == 2) {
             load();
         } else {
@@ -95,7 +110,7 @@ struct RustGenerations : rl::test_suite<RustGenerations, 3> {
             update(counted);
         }
     }
-    void after() { RL_ASSERT(find() >= counted && find() % counted != older); }
+    void after() { RL_ASSERT((find() >= counted || find() == inserted) && find() % counted != older); }
 };
 
 #endif

@@ -5,6 +5,7 @@ use crate::flight::Flights;
 use crate::generation::Generation;
 use crate::handle::AnyHandle;
 use crate::inner::Inner;
+use crate::key_locks::KeyLocks;
 use crate::map::Map;
 use crate::print::Printer;
 use crate::settings::Settings;
@@ -168,6 +169,7 @@ impl<K: ?Sized, V: Copy + Send + Sync + 'static, S: BuildHasher> Builder<K, V, S
             capacity,
             slots,
             tiers,
+            locks: KeyLocks::new(),
             flights: Flights::new(),
             generation: Generation::new(),
             clock: Clock::new(),

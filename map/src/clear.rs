@@ -59,7 +59,7 @@ impl<K: Key + ?Sized, V: Copy, S> Map<K, V, S> {
             for key in self.keys(lists, tries)? {
                 let removed = slots.in_turn(tries, || match &self.inner.tiers {
                     Some(tiers) => tiers.remove(key),
-                    None => slots.call(|handle| handle.remove(key)),
+                    None => self.inner.in_lock(key, |handle| handle.remove(key)),
                 });
                 if let Removal::Removed { .. } = removed.map_err(ClearError::of_removal)? {
                     slots.count(Kind::Removed);
@@ -78,6 +78,9 @@ impl<K: Key + ?Sized, V: Copy, S> Map<K, V, S> {
             tiers.wait_for_moves(tries).map_err(ClearError::of_list)?;
         }
         keys.extend(self.inner.slots.in_turn(lists, || self.inner.slots.call(AnyHandle::keys)).map_err(ClearError::of_list)?);
+        // A key that has moved meanwhile is removed once.
+        keys.sort_unstable();
+        keys.dedup();
         Ok(keys)
     }
 }

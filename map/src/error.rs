@@ -44,6 +44,8 @@ pub enum InsertError {
     NoTimeToLive,
     /// The entry alone weighs more than all entries of the `ObjectMap` together may.
     TooHeavy,
+    /// A listener made the put, in a call within fifteen others of listeners. Without an end to that the thread would have no stack left.
+    TooDeep,
     /// The shard has made 2^62 changes of versions. Open a new map. It takes centuries to get there.
     Spent,
 }
@@ -135,6 +137,7 @@ pub(crate) const BUSY: &str = "writes disturbed each lookup";
 pub(crate) const HELD: &str = "other threads held the shard's turn";
 pub(crate) const CONTENDED: &str = "other threads changed the key each time";
 pub(crate) const TOO_HEAVY: &str = "the entry weighs more than the map may hold";
+pub(crate) const TOO_DEEP: &str = "a listener's put within too many calls of listeners";
 const NO_MEMORY: &str = "no memory";
 pub(crate) const SPENT: &str = "the shard has made all its changes";
 
@@ -167,6 +170,7 @@ impl Display for InsertError {
             InsertError::AllRecent => "the shard is full, and each entry was used again",
             InsertError::NoTimeToLive => "the map was opened without a time to live",
             InsertError::TooHeavy => TOO_HEAVY,
+            InsertError::TooDeep => TOO_DEEP,
             InsertError::Spent => SPENT,
         })
     }

@@ -4,12 +4,15 @@ use std::sync::atomic::{AtomicU64, Ordering::SeqCst};
 /// Counts how often all entries were invalidated. An entry keeps the number that it was put in: it is there while the map has the same one.
 pub(crate) struct Generation(AtomicU64);
 
+/// That of an object before its put has taken effect.
+pub(crate) const NONE: u64 = 0;
+
 impl Generation {
     pub fn new() -> Generation {
-        Generation(AtomicU64::new(0))
+        Generation(AtomicU64::new(NONE + 1))
     }
 
-    /// A call that puts something loads this once, before it looks at anything that it puts something by.
+    /// A call that puts what it makes of something loads this once, before it looks at that.
     #[inline]
     pub fn now(&self) -> u64 {
         self.0.load(SeqCst)

@@ -5,13 +5,14 @@ use crate::flight::Flights;
 use crate::generation::Generation;
 use crate::handle::{AnyHandle, MANY};
 use crate::key::Key;
+use crate::key_locks::KeyLocks;
 use crate::map::Inserted;
 use crate::print::{Print, Printer};
 use crate::slots::Slots;
 use crate::stats::{Counts, Kind};
 use crate::tiers::{Miss, Tiers, OF_SMALL};
 use crate::wait::LOOKS;
-use crate::words::{check, deadline, Entry, Layout, Seen, Words};
+use crate::words::{check, deadline, set_check, Entry, Layout, Seen, Words};
 use cefrodil::{PutIfError, Reply, TurnError};
 use std::hash::BuildHasher;
 use std::mem;
@@ -23,6 +24,8 @@ pub(crate) struct Inner<K: ?Sized, V, S> {
     pub slots: Arc<Slots<AnyHandle>>,
     /// With a small table: both of them.
     pub tiers: Option<Tiers>,
+    /// Without one, the locks of keys.
+    pub locks: KeyLocks,
     pub flights: Flights<V>,
     pub generation: Generation,
     pub clock: Clock,
@@ -328,14 +331,22 @@ impl<K: Key + ?Sized, V: Copy, S: BuildHasher> Inner<K, V, S> {
         tries: u32,
     ) -> Result<Inserted, InsertError> {
         let print = self.print(key);
-        let words = self.words(print.dated(self.generation.now()), value, self.deadline(life));
+        let mut words = self.words(print, value, self.deadline(life));
         if let Some(tiers) = &self.tiers {
             tiers.expect_put(print.key);
         }
         self.flights.detach(print);
+        // By who has the lock of the key: so nothing that was put in a later generation gives way to this.
+        let date = |words: &mut Words| set_check(words, print.dated(self.generation.now()).check);
         let put = match &self.tiers {
-            None => self.slots.in_turn(tries, || self.slots.call(|handle| handle.put(print.key, &words)).map(Inserted::of)),
-            Some(tiers) => tiers.put_within(tries, print.key, &words),
+            None => self.slots.in_turn(tries, || {
+                let put = |handle: &mut AnyHandle| {
+                    date(&mut words);
+                    handle.put(print.key, &words)
+                };
+                self.in_lock(print.key, put).map(Inserted::of)
+            }),
+            Some(tiers) => tiers.put_within(tries, print.key, &mut words, date),
         };
         match put {
             Ok(did) => {
@@ -363,7 +374,7 @@ impl<K: Key + ?Sized, V: Copy, S: BuildHasher> Inner<K, V, S> {
             };
             let taken = self.slots.in_turn(tries, || match &self.tiers {
                 Some(tiers) => tiers.take_if(print.key, since),
-                None => self.slots.call(|handle| handle.take_if(print.key, since)).map(|taken| taken.at),
+                None => self.in_lock(print.key, |handle| handle.take_if(print.key, since)).map(|taken| taken.at),
             });
             match taken {
                 Ok(_) => {

@@ -9,6 +9,7 @@ mod compute;
 mod error;
 mod filter;
 mod flight;
+mod forks;
 mod generation;
 mod handle;
 mod inner;

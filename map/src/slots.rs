@@ -2,6 +2,7 @@
 //!
 //! A thread claims a slot, and keeps its index until it ends. If all slots are claimed, a thread uses the shared handle, under a mutex, and
 //! tries to claim a slot again at its next call.
+use crate::forks::{count_forks, this_process};
 use crate::map::Inserted;
 use crate::stalls::Stalls;
 use crate::stats::{Counts, Kind, Stats};
@@ -12,7 +13,6 @@ use std::collections::HashMap;
 use std::hash::{BuildHasherDefault, Hasher};
 use std::iter::once;
 use std::panic::RefUnwindSafe;
-use std::process;
 use std::sync::atomic::{AtomicU64, AtomicUsize, Ordering::Relaxed};
 use std::sync::{Arc, Mutex, MutexGuard, PoisonError, Weak};
 
@@ -28,7 +28,7 @@ pub(crate) struct Slots<H> {
     shared_counts: Counts,
     stalls: Stalls,
     // The process that opened the map. In its forked child another thread may hold a lock for ever.
-    process: u32,
+    process: u64,
 }
 
 /// What one thread uses. The alignment keeps slots of different threads in different cache lines.
@@ -59,6 +59,7 @@ impl<H: 'static> Slots<H> {
     pub fn new(mut handles: Vec<H>) -> Slots<H> {
         static NEXT: AtomicU64 = AtomicU64::new(1);
         let shared = handles.pop().expect("opening makes one handle at least");
+        count_forks();
         let slots: Box<[Slot<H>]> = handles.into_iter().map(Slot::new).collect();
         Slots {
             // Relaxed: it is enough that no two numbers are the same.
@@ -69,7 +70,7 @@ impl<H: 'static> Slots<H> {
             shared: Mutex::new(shared),
             shared_counts: Counts::default(),
             stalls: Stalls::new(),
-            process: process::id(),
+            process: this_process(),
         }
     }
 
@@ -106,6 +107,7 @@ impl<H: 'static> Slots<H> {
     }
 
     /// Counts a put that did this.
+    #[inline]
     pub fn count_put(self: &Arc<Self>, did: Inserted) {
         self.count(if let Inserted::Renewed = did { Kind::Renewed } else { Kind::Added });
         if let Inserted::Evicted = did {
@@ -183,7 +185,13 @@ impl<H: 'static> Slots<H> {
 impl<H> Slots<H> {
     /// Whether this process opened the map, and not one from which it was forked.
     pub fn are_of_this_process(&self) -> bool {
-        self.process == process::id()
+        self.process == this_process()
+    }
+
+    /// The lock of the list of slots that no thread has claimed.
+    #[cfg(test)]
+    pub fn hold_free(&self) -> impl Drop + '_ {
+        lock(&self.free)
     }
 
     fn take_free(&self) -> Option<usize> {

@@ -36,6 +36,10 @@ pub struct Stats {
     pub stalled: Duration,
     /// Calls of the index by the shared handle. If there are many, open the map for more threads.
     pub shared: u64,
+    /// Objects that have left an `ObjectMap` or a `BytesMap` and wait to be freed. If there are many, a closure runs for long.
+    pub waiting: u64,
+    /// What those weigh, by the weigher of `max_weight`; 0 without one.
+    pub waiting_weight: u64,
 }
 
 /// What is counted. The order is that of `NUMBERS`.
@@ -98,8 +102,7 @@ impl Stats {
             sums.iter_mut().zip(&counts.0).for_each(|(sum, count)| *sum += count.load(Relaxed));
         }
         let [hits, misses, busy, expired, collided, added, renewed, evicted, removed, refused, shared] = sums;
-        let (given_up, stalled) = Default::default();
-        Stats { hits, misses, busy, expired, collided, added, renewed, evicted, removed, refused, given_up, stalled, shared }
+        Stats { hits, misses, busy, expired, collided, added, renewed, evicted, removed, refused, shared, ..Stats::default() }
     }
 
     /// How many entries these numbers leave.

@@ -161,15 +161,25 @@ impl Tiers {
         self.lines.of(key).fetch();
     }
 
-    /// Tries so often. Not a part of its caller, which is shorter then for a map with one table.
+    /// Tries so often. Each try calls `date` with the words when it has the key's lock. Not a part of its caller, which is shorter then for a map with
+    /// one table.
     #[inline(never)]
-    pub fn put_within(&self, tries: u32, key: u64, words: &Words) -> Result<Inserted, TurnError<PutError>> {
+    pub fn put_within(
+        &self,
+        tries: u32,
+        key: u64,
+        words: &mut Words,
+        date: impl Fn(&mut Words),
+    ) -> Result<Inserted, TurnError<PutError>> {
         let spot = self.lines.of(key);
-        self.main.in_turn(tries, || self.put(spot, words))
+        self.main.in_turn(tries, || {
+            let _locked = spot.lock().ok_or(TurnError::Held)?;
+            date(words);
+            self.put(spot, words)
+        })
     }
 
     fn put(&self, spot: Spot, words: &Words) -> Result<Inserted, TurnError<PutError>> {
-        let _locked = spot.lock().ok_or(TurnError::Held)?;
         if !self.is_full.load(Relaxed) && !self.is_small_used() {
             return self.put_main(spot, words);
         }
@@ -182,9 +192,18 @@ impl Tiers {
         })
     }
 
-    pub fn put_if_absent(&self, key: u64, words: &Words) -> Result<Inserted, TurnError<PutIfAbsentError>> {
+    /// `may_put` is asked by who has the key's lock.
+    pub fn put_if_absent(
+        &self,
+        key: u64,
+        words: &Words,
+        may_put: impl FnOnce() -> bool,
+    ) -> Result<Inserted, TurnError<PutIfAbsentError>> {
         let spot = self.lines.of(key);
         let _locked = spot.lock().ok_or(TurnError::Held)?;
+        if !may_put() {
+            return Err(TurnError::Call(PutIfAbsentError::Present { since: 0 }));
+        }
         self.small.call(|small| match self.place(small, spot).ok_or(TurnError::Held)? {
             Place::Main | Place::Small => Err(TurnError::Call(PutIfAbsentError::Present { since: 0 })),
             Place::Nowhere => self.put_beside_main(small, spot, words).map_err(|why| match why {

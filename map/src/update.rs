@@ -136,8 +136,8 @@ impl<K: Key + ?Sized, V: Copy, S: BuildHasher> Inner<K, V, S> {
             }
             let (old, since) = match found.ok_or(UpdateError::Busy)? {
                 Found::Live(entry, since) => (Some(entry), Some(since)),
-                // It may be the key's, of a later generation.
-                Found::Other(_) if self.generation.now() != generation => continue,
+                // It may be the key's, of a later generation. What had expired may have been live in this one until that ended.
+                Found::Expired(_) | Found::Other(_) if self.generation.now() != generation => continue,
                 Found::Expired(since) | Found::Other(since) => (None, Some(since)),
                 Found::Absent => match self.lacks(print, tries) {
                     Some(true) => (None, None),
@@ -150,19 +150,23 @@ impl<K: Key + ?Sized, V: Copy, S: BuildHasher> Inner<K, V, S> {
                 (None, Some(entry)) => entry.deadline,
                 _ => self.deadline(anew.or(self.life)),
             };
-            if self.put_over(print, since, &self.words(print, new, deadline), tries)? {
+            let words = self.words(print, new, deadline);
+            let is_put = match since {
+                Some(since) => self.put_over(print, since, &words, tries),
+                None => self.put_absent(print, generation, &words, tries),
+            };
+            if is_put? {
                 return Ok(Some(new));
             }
         }
         Err(UpdateError::Contended)
     }
 
-    // Puts the words if the key's last put was at the moment `since`, or if the key is absent. `false`: another thread was first.
-    fn put_over(&self, print: Print, since: Option<u64>, words: &Words, tries: u32) -> Result<bool, InsertError> {
-        let Some(since) = since else { return self.put_absent(print, words, tries) };
+    // Puts the words if the key's last put was at the moment `since`. `false`: another thread was first.
+    fn put_over(&self, print: Print, since: u64, words: &Words, tries: u32) -> Result<bool, InsertError> {
         let put = self.slots.in_turn(tries, || match &self.tiers {
             Some(tiers) => tiers.put_if(print.key, since, words),
-            None => self.slots.call(|handle| handle.put_if(print.key, since, words)),
+            None => self.in_lock(print.key, |handle| handle.put_if(print.key, since, words)),
         });
         match put {
             Ok(_) => {
@@ -175,10 +179,15 @@ impl<K: Key + ?Sized, V: Copy, S: BuildHasher> Inner<K, V, S> {
         }
     }
 
-    fn put_absent(&self, print: Print, words: &Words, tries: u32) -> Result<bool, InsertError> {
+    // Puts the words if the key is absent, and this generation has not ended before that was so.
+    fn put_absent(&self, print: Print, generation: u64, words: &Words, tries: u32) -> Result<bool, InsertError> {
+        let may_put = || self.generation.now() == generation;
         let put = self.slots.in_turn(tries, || match &self.tiers {
-            Some(tiers) => tiers.put_if_absent(print.key, words),
-            None => self.slots.call(|handle| handle.put_if_absent(print.key, words)).map(Inserted::of),
+            Some(tiers) => tiers.put_if_absent(print.key, words, may_put),
+            None => self.in_lock(print.key, |handle| match may_put() {
+                true => handle.put_if_absent(print.key, words).map(Inserted::of),
+                false => Err(TurnError::Call(PutIfAbsentError::Present { since: 0 })),
+            }),
         });
         match put {
             Ok(did) => {

@@ -97,6 +97,12 @@ pub(crate) fn check(words: &[u64]) -> u64 {
     words[0]
 }
 
+/// Gives an entry another check word.
+#[inline]
+pub(crate) fn set_check(words: &mut Words, check: u64) {
+    words[0] = check;
+}
+
 /// The deadline of an entry, whether it is used or not.
 #[inline]
 pub(crate) fn deadline(words: &[u64], layout: Layout) -> u64 {

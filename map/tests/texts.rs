@@ -43,7 +43,7 @@ fn each_error_has_its_text() {
     const NO_MEMORY: &str = "no memory";
     const SPENT: &str = "the shard has made all its changes";
     let index = cefrodil::OpenError::Processor;
-    let all: [(Box<dyn Error>, &str); 23] = [
+    let all: [(Box<dyn Error>, &str); 24] = [
         (Box::new(OpenError::Capacity), "the capacity must be at least 1, and at most 3774873 for each shard"),
         (Box::new(OpenError::Shards), "shards must be a power of two from 1 to 256"),
         (Box::new(OpenError::Threads), "at most 1023 threads can have a handle of their own"),
@@ -56,6 +56,7 @@ fn each_error_has_its_text() {
         (Box::new(InsertError::AllRecent), "the shard is full, and each entry was used again"),
         (Box::new(InsertError::NoTimeToLive), "the map was opened without a time to live"),
         (Box::new(InsertError::TooHeavy), "the entry weighs more than the map may hold"),
+        (Box::new(InsertError::TooDeep), "a listener's put within too many calls of listeners"),
         (Box::new(InsertError::Spent), SPENT),
         (Box::new(RemoveError::Busy), BUSY),
         (Box::new(RemoveError::Held), HELD),

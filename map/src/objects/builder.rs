@@ -140,7 +140,8 @@ impl<K, V, S> ObjectBuilder<K, V, S> {
     /// Who hears of each object that leaves the map, once. The thread whose call made it leave calls `listener` before that call returns. It
     /// hears nothing when the map is dropped.
     ///
-    /// `listener` may call the map. A put by it may make another object leave, and then it is called again. A listener that owns a clone of
+    /// `listener` may call the map. A put by it may make another object leave, and then it is called again, within the first call. The sixteenth call
+    /// within each other puts nothing: its put is refused with [`InsertError::TooDeep`](crate::InsertError::TooDeep). A listener that owns a clone of
     /// the map keeps it for ever. If `listener` panics, so does the call, which has made its change.
     pub fn listener(mut self, listener: impl Fn(&K, &V, Reason) + Send + Sync + 'static) -> Self {
         self.hears.listener = Some(Listener(Box::new(move |object, reason| listener(&object.key, &object.value, reason))));

@@ -95,7 +95,7 @@ impl<H: Head, S> BytesMap<H, S> {
     /// As [`ObjectMap::len`](crate::ObjectMap::len).
     #[must_use]
     pub fn len(&self) -> usize {
-        self.stats().entries()
+        self.inner.slots.stats().entries()
     }
 
     /// Whether [`len`](Self::len) is 0.
@@ -107,7 +107,7 @@ impl<H: Head, S> BytesMap<H, S> {
     /// As [`ObjectMap::stats`](crate::ObjectMap::stats).
     #[must_use]
     pub fn stats(&self) -> Stats {
-        self.inner.slots.stats()
+        self.inner.stats()
     }
 
     /// As [`ObjectMap::free_unused`](crate::ObjectMap::free_unused).

@@ -2,8 +2,10 @@
 use super::inner::ObjectInner;
 use super::map::ObjectMap;
 use super::object::{Held, Object};
+use super::pinned::Over;
 use super::put::{Fail, Put};
 use crate::error::UpdateError;
+use crate::generation::NONE;
 use std::borrow::Borrow;
 use std::hash::{BuildHasher, Hash};
 use std::time::Duration;
@@ -58,15 +60,26 @@ where
     }
 }
 
-// What is made of a value has its generation, so it ends with that.
+// What is made of a value has its generation, so it ends with that. What is made of one that has ended has that of the lookup. What is made where nothing
+// is has none before it is put.
 impl<K: Hash + Eq, V, S: BuildHasher> ObjectInner<Object<K, V>, S> {
     fn update(&self, mut key: K, mut change: impl FnMut(Option<&V>) -> V) -> Result<Put, UpdateError> {
         let hash = self.hash(&key);
         for _ in 0..self.tries {
             let (pinned, generation) = (self.pin(), self.generation.now());
+            let has_ended = || self.generation.now() != generation;
             let (seen, over) = pinned.place(hash, &key, self.tries).ok_or(UpdateError::Busy)?;
+            if seen.is_none() && has_ended() {
+                continue;
+            }
             let value = change(seen.map(|seen| &seen.object.value));
-            let object = self.object(key, value, None, seen.map_or(generation, |seen| seen.object.generation()));
+            let made_in = match (seen, over) {
+                (Some(seen), _) => seen.object.generation(),
+                (None, Over::Absent) if has_ended() => continue,
+                (None, Over::Absent) => NONE,
+                (None, _) => generation,
+            };
+            let object = self.object(key, value, None, made_in);
             self.detach(hash);
             let put = match seen {
                 Some(seen) => self.put_over_seen(&pinned, hash, object, seen),

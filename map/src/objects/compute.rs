@@ -157,7 +157,10 @@ impl<K: Eq, V: Clone, S> ObjectInner<Object<K, V>, S> {
             let mut offered = Some(object);
             let put = leader.put(|| self.put_over(hash, offered.take().expect("it is put once"), over, tries));
             match put {
-                None => return Published::Outdated(value),
+                None => {
+                    let written = offered.and_then(|object| self.find(hash, &object.key, tries));
+                    return written.map_or(Published::Outdated(value), Published::Other);
+                }
                 Some(Ok(done)) => {
                     self.end(done);
                     return Published::Put(value);

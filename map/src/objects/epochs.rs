@@ -154,6 +154,11 @@ impl Epochs {
         self.lists.iter().map(|list| lock(&list.0).objects.len()).sum()
     }
 
+    /// Calls `see` with each object that waits. Meanwhile it goes on waiting.
+    pub fn each_waiting(&self, mut see: impl FnMut(u64)) {
+        self.lists.iter().for_each(|list| lock(&list.0).objects.iter().for_each(|(_, word)| see(*word)));
+    }
+
     /// Whether those of each list wait in the order of their epochs.
     #[cfg(test)]
     pub fn are_in_order(&self) -> bool {

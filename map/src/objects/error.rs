@@ -1,5 +1,5 @@
 //! Why a call on objects failed.
-use crate::error::{InsertError, BUSY, CONTENDED, HELD, SPENT, TOO_HEAVY};
+use crate::error::{InsertError, BUSY, CONTENDED, HELD, SPENT, TOO_DEEP, TOO_HEAVY};
 use std::error::Error;
 use std::fmt::{self, Debug, Display, Formatter};
 
@@ -50,6 +50,8 @@ pub enum IfError {
     Held,
     /// As [`InsertError::TooHeavy`].
     TooHeavy,
+    /// As [`InsertError::TooDeep`].
+    TooDeep,
     /// As [`InsertError::Spent`].
     Spent,
 }
@@ -91,6 +93,7 @@ impl Display for IfError {
             IfError::Busy => BUSY,
             IfError::Held => HELD,
             IfError::TooHeavy => TOO_HEAVY,
+            IfError::TooDeep => TOO_DEEP,
             IfError::Spent => SPENT,
         })
     }

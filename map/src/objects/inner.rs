@@ -8,9 +8,10 @@ use crate::flight::Flights;
 use crate::generation::Generation;
 use crate::print::Print;
 use crate::slots::Slots;
-use crate::stats::Kind;
+use crate::stats::{Kind, Stats};
 use crate::wait::{LISTS, LOOKS};
 use cefrodil::Handle;
+use std::cell::Cell;
 use std::hash::{BuildHasher, Hash};
 use std::marker::PhantomData;
 use std::mem;
@@ -71,9 +72,15 @@ impl<O: Held, S> ObjectInner<O, S> {
         self.is_of_this_generation(object) && !self.clock.has_passed(object.deadline().min(object.idle()))
     }
 
-    /// Whether no call has invalidated the objects that were made when it was.
+    /// Whether no call has invalidated the object since its put took effect. That may be now: what a call has put just now has no generation so far.
     #[inline]
     pub fn is_of_this_generation(&self, object: &O) -> bool {
+        object.generation() >= self.generation.now() || self.enters(object)
+    }
+
+    #[cold]
+    fn enters(&self, object: &O) -> bool {
+        object.enter(self.generation.now());
         object.generation() >= self.generation.now()
     }
 
@@ -127,8 +134,21 @@ impl<O: Held, S> ObjectInner<O, S> {
         if let Some(listener) = &self.listener {
             let object = left.object();
             let reason = if self.is_live(object) { reason } else { Reason::Expired };
+            let _hearing = Hearing::begin();
             listener.0(object, reason);
         }
+    }
+
+    /// What the calls of all threads came to, and what waits to be freed.
+    pub fn stats(&self) -> Stats {
+        let (mut stats, is_weighed) = (self.slots.stats(), self.weights.as_ref().is_some_and(Weights::has_weigher));
+        self.epochs.each_waiting(|word| {
+            // SAFETY: the word was in this map's index, so it is one of `into_word` of these types. It waits, so no owner is made of it.
+            let object = unsafe { &*pointer::<O>(word) };
+            stats.waiting += 1;
+            stats.waiting_weight += if is_weighed { object.weight() } else { 0 };
+        });
+        stats
     }
 
     /// Frees these objects, which `Epochs` returned. A destructor that panics ends there: the call may be of another key, or a panic itself.
@@ -148,7 +168,7 @@ impl<O: Held, S> ObjectInner<O, S> {
 }
 
 impl<K, V, S> ObjectInner<Object<K, V>, S> {
-    /// An object that is to be put, made in this generation.
+    /// An object that is to be put. `generation`: that of what it was made of, or `NONE`; then its put takes effect in that of now.
     pub fn object(&self, key: K, value: V, life: Option<Duration>, generation: u64) -> Box<Object<K, V>> {
         let idle = self.idle.map_or(NEVER, |idle| self.clock.deadline(idle));
         let mut object = Object::new(key, value, generation, self.deadline(life), idle);
@@ -156,6 +176,30 @@ impl<K, V, S> ObjectInner<Object<K, V>, S> {
             object.set_weight(weight);
         }
         object
+    }
+}
+
+/// So many calls of listeners may be within each other if puts make them.
+pub(crate) const MOST_HEARING: u32 = 16;
+
+thread_local! {
+    /// How many calls of listeners run in this thread.
+    pub(crate) static HEARING: Cell<u32> = const { Cell::new(0) };
+}
+
+/// One of them, until this is dropped.
+struct Hearing;
+
+impl Hearing {
+    fn begin() -> Hearing {
+        HEARING.set(HEARING.get() + 1);
+        Hearing
+    }
+}
+
+impl Drop for Hearing {
+    fn drop(&mut self) {
+        HEARING.set(HEARING.get() - 1);
     }
 }
 

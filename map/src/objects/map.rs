@@ -29,7 +29,7 @@ use std::sync::Arc;
 /// An object that leaves the map is freed when no call can use it any more. The destructors of keys and values run in calls that write, in
 /// any thread, and in the drop of the last clone. They never run in a lookup. Objects wait for a write that frees them, or for
 /// [`free_unused`](ObjectMap::free_unused): fewer than 32, and all that left while a closure ran. So the map's memory has no bound while a
-/// closure sleeps. A panic in a destructor of what has left the map ends there.
+/// closure sleeps: copy an `Arc` out of the map for anything that may block. [`stats`](ObjectMap::stats) says how many wait. A panic in a destructor of what has left the map ends there.
 pub struct ObjectMap<K, V, S = RandomState> {
     pub(crate) inner: Arc<ObjectInner<Object<K, V>, S>>,
 }
@@ -64,7 +64,7 @@ impl<K, V, S> ObjectMap<K, V, S> {
     /// How many entries the map has, expired ones included. While other threads write it is an estimate.
     #[must_use]
     pub fn len(&self) -> usize {
-        self.stats().entries()
+        self.inner.slots.stats().entries()
     }
 
     /// Whether [`len`](Self::len) is 0.
@@ -76,7 +76,7 @@ impl<K, V, S> ObjectMap<K, V, S> {
     /// What the calls of all threads came to.
     #[must_use]
     pub fn stats(&self) -> Stats {
-        self.inner.slots.stats()
+        self.inner.stats()
     }
 
     /// The sum of what the entries weigh, by the weigher of [`ObjectBuilder::max_weight`]; 0 without one. It counts what is about to be put.

@@ -1,9 +1,10 @@
 //! What a map has on the heap for a key, and its address as the word of an entry.
 use super::queues::Line;
 use crate::clock::NEVER;
+use crate::generation::NONE;
 use std::borrow::Borrow;
 use std::ops::Deref;
-use std::sync::atomic::{AtomicU64, Ordering::Relaxed};
+use std::sync::atomic::{AtomicU64, Ordering::Relaxed, Ordering::SeqCst};
 
 /// What a map has on the heap for a key.
 ///
@@ -31,10 +32,13 @@ pub(crate) unsafe trait Held: Sized {
     /// Moves its deadline.
     fn set_deadline(&self, deadline: u64);
 
-    /// The generation that it was made in. By default it outlives all generations.
+    /// The generation in which its put took effect, or which it was given before; else `NONE`. By default it outlives all generations.
     fn generation(&self) -> u64 {
         u64::MAX
     }
+
+    /// Gives it this generation, unless it has one.
+    fn enter(&self, _generation: u64) {}
 
     /// When it expires if it is not used.
     fn idle(&self) -> u64 {
@@ -96,7 +100,7 @@ pub(crate) struct Object<K, V> {
     // Its weight, which stays, `USED` and `IN_MAIN`. Relaxed: they say nothing of other memory. If objects are counted, it has the moment of its entry in
     // place of the weight, or 0 before that is noted.
     weight: AtomicU64,
-    generation: u64,
+    generation: AtomicU64,
     pub value: V,
 }
 
@@ -107,7 +111,7 @@ const IN_MAIN: u64 = 1 << 62;
 
 impl<K, V> Object<K, V> {
     pub fn new(key: K, value: V, generation: u64, deadline: u64, idle: u64) -> Box<Object<K, V>> {
-        let [deadline, idle, weight] = [deadline, idle, 0].map(AtomicU64::new);
+        let [deadline, idle, weight, generation] = [deadline, idle, 0, generation].map(AtomicU64::new);
         Box::new(Object { key, deadline, idle, weight, generation, value })
     }
 
@@ -141,7 +145,13 @@ unsafe impl<K, V> Held for Object<K, V> {
 
     #[inline]
     fn generation(&self) -> u64 {
-        self.generation
+        self.generation.load(SeqCst)
+    }
+
+    fn enter(&self, generation: u64) {
+        if self.generation() == NONE {
+            let _ = self.generation.compare_exchange(NONE, generation, SeqCst, SeqCst);
+        }
     }
 
     fn idle(&self) -> u64 {

@@ -1,13 +1,14 @@
 //! Puts of objects.
 use super::builder::Reason;
 use super::error::{AbsentError, IfError, Refused};
-use super::inner::ObjectInner;
+use super::inner::{ObjectInner, HEARING, MOST_HEARING};
 use super::map::ObjectMap;
 use super::object::{Held, Keyed, Object};
 use super::pinned::{Over, Pinned, Seen};
 use super::queues::Queued;
 use super::weights::Place;
 use crate::error::InsertError;
+use crate::generation::NONE;
 use crate::map::Inserted;
 use cefrodil::{Entry, Handle, PutIfAbsentError, PutIfError, Replaced, Swapped, TurnError};
 use std::hash::{BuildHasher, Hash};
@@ -67,7 +68,7 @@ where
     pub fn put(&self, key: K, value: V, life: Option<Duration>) -> Result<Put, Refused<K, V>> {
         let inner = &self.inner;
         let hash = inner.hash(&key);
-        let object = inner.object(key, value, life, inner.generation.now());
+        let object = inner.object(key, value, life, NONE);
         inner.put(hash, object).map_err(|(object, why)| inner.refuse(*object, why))
     }
 
@@ -79,7 +80,7 @@ where
     pub fn put_if_absent(&self, key: K, value: V, life: Option<Duration>) -> Result<Put, Refused<K, V, AbsentError>> {
         let inner = &self.inner;
         let hash = inner.hash(&key);
-        let object = inner.object(key, value, life, inner.generation.now());
+        let object = inner.object(key, value, life, NONE);
         inner.put_new(hash, object, |object| &object.key).map_err(|(object, why)| inner.refuse(*object, why))
     }
 
@@ -92,8 +93,13 @@ where
     pub fn replace_if(&self, key: K, since: u64, value: V, life: Option<Duration>) -> Result<Put, Refused<K, V, IfError>> {
         let inner = &self.inner;
         let hash = inner.hash(&key);
-        let object = inner.object(key, value, life, inner.generation.now());
-        inner.replace(hash, since, object).map_err(|(object, why)| inner.refuse(*object, why))
+        match inner.generation_at(hash, &key, since) {
+            Ok(generation) => {
+                let object = inner.object(key, value, life, generation);
+                inner.replace(hash, since, object).map_err(|(object, why)| inner.refuse(*object, why))
+            }
+            Err(why) => Err(Refused { why: inner.refused(why), key, value }),
+        }
     }
 }
 
@@ -162,6 +168,7 @@ impl Fail {
             Fail::Changed { since } => IfError::Changed { since },
             Fail::Insert(InsertError::Spent) => IfError::Spent,
             Fail::Insert(InsertError::TooHeavy) => IfError::TooHeavy,
+            Fail::Insert(InsertError::TooDeep) => IfError::TooDeep,
             Fail::Insert(_) | Fail::Present => IfError::Held,
         }
     }
@@ -246,7 +253,7 @@ impl<O: Held, S> ObjectInner<O, S> {
     /// Like `put_over`, over an object that was seen, whose deadline the new one keeps. The lock keeps renewals from coming between.
     pub fn put_over_seen(&self, pinned: &Pinned<O, S>, hash: u64, object: O::Owner, seen: Seen<O>) -> Offered<O> {
         self.offer(hash, object, |word| {
-            let put = self.in_turn(self.tries, || {
+            let put = self.in_pinned_turn(self.tries, || {
                 self.in_stripe(hash, |handle| {
                     pinned.object(word).set_deadline(seen.object.deadline());
                     handle.try_swap_if(hash, seen.since, &[word])
@@ -259,6 +266,9 @@ impl<O: Held, S> ObjectInner<O, S> {
 
     // `put` puts the word, as the last that it does with it, unless it fails.
     fn offer(&self, hash: u64, object: O::Owner, put: impl FnOnce(u64) -> Result<Done, Fail>) -> Offered<O> {
+        if self.listener.is_some() && HEARING.get() >= MOST_HEARING {
+            return Err((object, Fail::Insert(InsertError::TooDeep)));
+        }
         let (weight, part) = (object.weight(), self.part(hash));
         if part.is_some_and(|part| !part.take(weight)) {
             return Err((object, Fail::Insert(InsertError::TooHeavy)));
@@ -286,27 +296,14 @@ impl<O: Held, S> ObjectInner<O, S> {
         })
     }
 
-    // The same, but in a map without a bound on weights nobody looks at the object after its put, so it isn't pinned.
-    fn in_turn<T, E>(
-        &self,
-        tries: u32,
-        put: impl FnMut() -> Result<T, TurnError<E>>,
-    ) -> Result<(T, Option<Pinned<'_, O, S>>), TurnError<E>> {
-        if self.weights.is_some() {
-            self.in_pinned_turn(tries, put).map(|(put, pinned)| (put, Some(pinned)))
-        } else {
-            self.slots.in_turn(tries, put).map(|put| (put, None))
-        }
-    }
-
     fn put_any(&self, hash: u64, word: u64, tries: u32) -> Result<Done, Fail> {
-        let put = self.in_turn(tries, || self.slots.call(|handle| handle.try_swap(hash, &[word])));
+        let put = self.in_pinned_turn(tries, || self.slots.call(|handle| handle.try_swap(hash, &[word])));
         let (swapped, pinned) = put.map_err(|why| Fail::Insert(InsertError::of(why)))?;
         Ok(self.queued(hash, word, self.swapped(swapped), pinned))
     }
 
     fn put_absent(&self, hash: u64, word: u64, tries: u32) -> Result<Done, Fail> {
-        let put = self.in_turn(tries, || self.slots.call(|handle| handle.try_swap_if_absent(hash, &[word])));
+        let put = self.in_pinned_turn(tries, || self.slots.call(|handle| handle.try_swap_if_absent(hash, &[word])));
         put.map(|(swapped, pinned)| self.queued(hash, word, self.swapped(swapped), pinned)).map_err(|why| match why {
             TurnError::Held => Fail::Insert(InsertError::Held),
             TurnError::Call(PutIfAbsentError::Present { .. }) => Fail::Present,
@@ -316,7 +313,7 @@ impl<O: Held, S> ObjectInner<O, S> {
     }
 
     fn put_at(&self, hash: u64, word: u64, since: u64, tries: u32) -> Result<Done, Fail> {
-        let put = self.in_turn(tries, || self.slots.call(|handle| handle.try_swap_if(hash, since, &[word])));
+        let put = self.in_pinned_turn(tries, || self.slots.call(|handle| handle.try_swap_if(hash, since, &[word])));
         let (replaced, pinned) = put.map_err(Fail::of_condition)?;
         Ok(self.queued(hash, word, self.replaced(replaced), pinned))
     }

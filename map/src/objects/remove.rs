@@ -74,6 +74,23 @@ where
 }
 
 impl<O: Held, S> ObjectInner<O, S> {
+    /// The generation of the key's object if that was put at the moment `since`, and no call has invalidated it. It may have expired.
+    pub fn generation_at<Q: ?Sized>(&self, hash: u64, key: &Q, since: u64) -> Result<u64, IfError>
+    where
+        O: Keyed<Q>,
+    {
+        match self.pin().look(hash, key, self.tries) {
+            Some(State::Live(seen) | State::Expired(seen)) if !self.is_of_this_generation(seen.object) => {
+                Err(IfError::NotThere { at: seen.at })
+            }
+            Some(State::Live(seen) | State::Expired(seen)) if seen.since == since => Ok(seen.object.generation()),
+            Some(State::Live(seen) | State::Expired(seen)) => Err(IfError::Changed { since: seen.since }),
+            Some(State::Other(seen)) => Err(IfError::NotThere { at: seen.at }),
+            Some(State::Absent { at }) => Err(IfError::NotThere { at }),
+            None => Err(IfError::Busy),
+        }
+    }
+
     /// Takes out the object under this hash if it was put at the moment `since`, and retires it. Returns the moment of the removal.
     pub fn take_if(&self, hash: u64, since: u64, reason: Reason) -> Result<u64, TurnError<PutIfError>> {
         let taken = self.slots.in_turn(self.tries, || self.slots.call(|handle| handle.try_take_if(hash, since)))?;
@@ -127,13 +144,10 @@ impl<O: Held, S: BuildHasher> ObjectInner<O, S> {
         O: Keyed<Q>,
     {
         let hash = self.hash(key);
-        match self.pin().look(hash, key, self.tries) {
-            Some(State::Live(seen) | State::Expired(seen)) if seen.since == since => {}
-            Some(State::Live(seen) | State::Expired(seen)) => return Err(IfError::Changed { since: seen.since }),
-            Some(State::Other(seen)) => return Err(IfError::NotThere { at: seen.at }),
-            Some(State::Absent { at }) => return Err(IfError::NotThere { at }),
-            None => return Err(self.refused(IfError::Busy)),
+        match self.generation_at(hash, key, since) {
+            Ok(_) => self.remove_stamped(hash, since),
+            Err(IfError::Busy) => Err(self.refused(IfError::Busy)),
+            Err(why) => Err(why),
         }
-        self.remove_stamped(hash, since)
     }
 }

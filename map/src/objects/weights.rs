@@ -89,6 +89,11 @@ impl<O> Weights<O> {
         self.weigher.as_ref().map(|weigher| weigher(object))
     }
 
+    /// Whether objects are weighed, and not counted.
+    pub fn has_weigher(&self) -> bool {
+        self.weigher.is_some()
+    }
+
     /// What all objects weigh by the weigher; 0 without one.
     pub fn sum(&self) -> u64 {
         self.parts.iter().filter_map(|part| part.sum.as_ref()).map(|sum| sum.load(Relaxed)).sum()
@@ -155,13 +160,14 @@ impl Part {
 impl<O: Held, S> ObjectInner<O, S> {
     // Whether the number of objects is bounded, and not their weight.
     fn counts_objects(&self) -> bool {
-        self.weights.as_ref().is_some_and(|weights| weights.weigher.is_none())
+        self.weights.as_ref().is_some_and(|weights| !weights.has_weigher())
     }
 
-    /// A put of this word, with the object's place in a queue: in that of the object that it has replaced, if there is one. If objects are counted, it
-    /// has the place of that one.
-    pub fn queued(&self, hash: u64, word: u64, mut done: Done, pinned: Option<Pinned<'_, O, S>>) -> Done {
-        let (Some(part), Some(pinned)) = (self.part(hash), pinned) else { return done };
+    /// A put of this word, which takes effect now at the latest, with the object's place in a queue: in that of the object that it has replaced, if there
+    /// is one. If objects are counted, it has the place of that one.
+    pub fn queued(&self, hash: u64, word: u64, mut done: Done, pinned: Pinned<'_, O, S>) -> Done {
+        pinned.object(word).enter(self.generation.now());
+        let Some(part) = self.part(hash) else { return done };
         let (object, old) = (pinned.object(word), done.replaced(&pinned));
         let line = old.map_or_else(|| part.queues.line_of_new(hash), O::line);
         if old.is_none() {

@@ -20,7 +20,7 @@ fn board(map: &Numbers) -> Leader<'_, u64> {
 
 // Puts the key, as a write does that has detached the flight of the key before this one.
 fn put(map: &Numbers, value: u64) {
-    let print = map.inner.print(&KEY);
+    let print = map.inner.print_now(&KEY);
     let words = map.inner.words(print, value, NEVER);
     map.inner.slots.call(|handle| handle.put(print.key, &words)).unwrap();
 }

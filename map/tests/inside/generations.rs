@@ -1,9 +1,13 @@
 //! Invalidations that come between the steps of a call.
+#[cfg(feature = "objects")]
+use super::done;
 use super::one_shard;
 use super::turns::{before_calls, calls};
 #[cfg(feature = "objects")]
 use crate::ObjectMap;
 use crate::{Board, Map};
+use std::cell::Cell;
+use std::rc::Rc;
 
 type Numbers = Map<u64, u64>;
 
@@ -23,6 +27,75 @@ fn an_update_that_began_before_loses_no_later_one() {
     });
     assert_eq!(calls(|| map.update(&1, |old| old.map_or(100, |old| old + 1))).1, Ok(11));
     assert_eq!(map.get(&1), Some(11));
+}
+
+// All is invalidated right before its call of the index, and then another thread puts the key, if it can.
+#[test]
+fn an_insert_that_began_before_destroys_no_later_value() {
+    for map in [open(), Map::new(1_000).unwrap()] {
+        map.insert(&1, 1).unwrap();
+        let (other, has_put) = (map.clone(), Rc::new(Cell::new(false)));
+        let tells = Rc::clone(&has_put);
+        before_calls(0, 1, move || {
+            other.invalidate_all();
+            tells.set(other.try_insert(&1, 20).is_ok());
+        });
+        calls(|| map.insert(&1, 10)).1.unwrap();
+        assert!(!has_put.get() || map.get(&1).is_some());
+        assert_eq!((map.insert(&1, 30).is_ok(), map.get(&1)), (true, Some(30)));
+    }
+}
+
+#[cfg(feature = "objects")]
+#[test]
+fn an_insert_of_an_object_that_began_before_destroys_no_later_one() {
+    for builder in [ObjectMap::<u64, u64>::builder(100), ObjectMap::builder(100).one_queue()] {
+        let map = builder.open().unwrap();
+        let other = map.clone();
+        before_calls(0, 1, move || {
+            other.invalidate_all();
+            other.insert(1, 20).unwrap();
+        });
+        // It comes after the other one.
+        calls(|| map.insert(1, 10)).1.unwrap();
+        assert_eq!(map.get(&1), Some(10));
+        map.invalidate_all();
+        assert_eq!(map.get(&1), None);
+    }
+}
+
+// It is invalidated between the lookup of the key and the put.
+#[test]
+fn what_is_put_where_nothing_was_is_found_or_was_invalidated() {
+    for map in [open(), Map::new(1_000).unwrap()] {
+        map.insert(&1, 1).unwrap();
+        let other = map.clone();
+        before_calls(0, 1, move || {
+            other.invalidate_all();
+            other.remove(&1).unwrap();
+            other.insert(&1, 2).unwrap();
+            other.remove(&1).unwrap();
+        });
+        // The key had a value until all was invalidated, so this came later.
+        assert_eq!(calls(|| map.update(&1, |old| old.unwrap_or(10))).1, Ok(10));
+        assert_eq!(map.get(&1), Some(10));
+    }
+}
+
+#[cfg(feature = "objects")]
+#[test]
+fn an_object_that_is_put_where_none_was_is_found_or_was_invalidated() {
+    type Put = fn(&ObjectMap<u64, u64>);
+    let puts: [Put; 2] =
+        [|map| done(map.update(1, |old| *old.unwrap_or(&10)).unwrap()), |map| done(map.insert_if_absent(1, 10).unwrap())];
+    for put in puts {
+        let map = ObjectMap::<u64, u64>::new(100).unwrap();
+        map.insert(1, 1).unwrap();
+        let other = map.clone();
+        before_calls(0, 1, move || other.invalidate_all());
+        calls(|| put(&map));
+        assert_eq!(map.get(&1), Some(10));
+    }
 }
 
 // The generation ends before a call of the index that the load makes, and its flight is about to be detached.

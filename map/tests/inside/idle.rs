@@ -75,7 +75,7 @@ fn each_lookup_and_write_is_a_use() {
 
 // When the index put what the key has.
 fn since(map: &Numbers) -> u64 {
-    let Some(crate::inner::Found::Live(_, since)) = map.inner.look(map.inner.print(&1u64), 1) else { panic!("it is there") };
+    let Some(crate::inner::Found::Live(_, since)) = map.inner.look(map.inner.print_now(&1u64), 1) else { panic!("it is there") };
     since
 }
 
@@ -95,6 +95,17 @@ fn a_lookup_writes_once_in_a_sixteenth_of_the_time() {
     assert_eq!(map.get(&1), Some(10));
     turn(&map, 151);
     assert_eq!(map.get(&1), None);
+}
+
+#[test]
+fn a_use_that_moves_its_key_begins_the_time_anew() {
+    let map = Numbers::builder(40).shards(1).time_to_idle(IDLE).open().unwrap();
+    (0..100).for_each(|key| done(map.insert(&(1_000 + key), key)));
+    map.insert(&1, 10).unwrap();
+    for _ in 0..3 {
+        turn(&map, 100);
+        assert_eq!(map.get(&1), Some(10));
+    }
 }
 
 #[test]

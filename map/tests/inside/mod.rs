@@ -10,6 +10,7 @@ mod expiry;
 mod fills;
 mod filters;
 mod flights;
+mod forks;
 mod generations;
 mod held;
 mod idle;

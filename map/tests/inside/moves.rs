@@ -247,7 +247,7 @@ fn a_lookup_ends_a_move_that_another_began() {
 }
 
 fn moment(map: &Numbers, key: u64) -> u64 {
-    match map.inner.look(map.inner.print(&key), 1) {
+    match map.inner.look(map.inner.print_now(&key), 1) {
         Some(Found::Live(_, since)) => since,
         _ => panic!("key {key} is not there"),
     }

@@ -37,7 +37,7 @@ fn a_write_that_is_held_tries_so_often_and_changes_nothing() {
     assert_eq!(calls(|| map.put(1, 11, None).map_err(|back| back.why)), (TRIES, Err(HELD)));
     let absent = AbsentError::Insert(HELD);
     assert_eq!(calls(|| map.insert_if_absent(2, 20).map_err(|back| back.why)), (1 + TRIES, Err(absent)));
-    assert_eq!(calls(|| map.replace_if(1, since, 11, None).map_err(|back| back.why)), (TRIES, Err(IfError::Held)));
+    assert_eq!(calls(|| map.replace_if(1, since, 11, None).map_err(|back| back.why)), (1 + TRIES, Err(IfError::Held)));
     assert_eq!(calls(|| map.update(1, |_| 11)), (1 + TRIES, Err(UPDATE_HELD)));
     assert_eq!(calls(|| map.update(2, |_| 20)), (1 + TRIES, Err(UPDATE_HELD)));
     assert_eq!(calls(|| map.modify(&1, |_| 11)), (1 + TRIES, Err(UPDATE_HELD)));

@@ -1,10 +1,12 @@
 //! The queue of a map with a bound on weights, and an eviction that gets no turn.
-use super::one_shard;
-use super::turns::Turn;
+use super::turns::{before_calls, calls, Turn};
+use super::{hold, one_shard};
 use crate::objects::{Held, Object};
 use crate::wait::IN_PAUSE;
 use crate::{BytesMap, Head, Line, ObjectMap};
 use cefrodil::Handle;
+use std::cell::RefCell;
+use std::rc::Rc;
 use std::sync::{Arc, Mutex, OnceLock};
 
 type Numbers = ObjectMap<u64, u64>;
@@ -149,4 +151,24 @@ fn an_entry_stays_whose_object_is_replaced_while_it_is_to_give_way() {
         assert_eq!(map.get(&key), Some(key));
     }
     assert_eq!((map.peek(&2), map.len()), (Ok(None), 3));
+}
+
+// While the queue is tidied, another thread has the turn.
+#[test]
+fn an_object_that_could_not_be_looked_at_gives_way_later() {
+    let map = Numbers::builder(4).shards(1).threads(1).open().unwrap();
+    map.insert(1, 10).unwrap();
+    for key in 2..6 {
+        let turn = Rc::new(RefCell::new(None));
+        let (slots, taken) = (Arc::clone(&map.inner.slots), Rc::clone(&turn));
+        // The fifth entry of a queue with two objects makes it too long.
+        if key == 5 {
+            before_calls(1, 1, move || drop(taken.replace(Some(hold(&slots)))));
+        }
+        calls(|| map.insert(key, 0)).1.unwrap();
+        drop(turn.take());
+        map.remove(&key).unwrap();
+    }
+    (10..20).for_each(|key| assert!(map.insert(key, 0).is_ok()));
+    assert_eq!((map.get(&1), map.len()), (None, 4));
 }

@@ -279,7 +279,7 @@ fn agrees(map: &impl Timed, life: u64) {
             }
         }
         let (mut stats, len, is_empty) = map.stats();
-        stats.shared = 0;
+        (stats.shared, stats.waiting) = (0, 0);
         assert_eq!((stats, len, is_empty), (model.counts, model.entries.len(), model.entries.is_empty()), "call {number}");
     }
     let counts = model.counts;

@@ -2,7 +2,8 @@
 use crate::ends::ends;
 use crate::ledger::{done, Ledger, Owned};
 use cefrodil_map::{AbsentError, IfError, Inserted, Look, ObjectMap, Reason};
-use std::hash::{BuildHasher, Hasher};
+use std::cell::Cell;
+use std::hash::{BuildHasher, Hash, Hasher};
 use std::sync::{Arc, Mutex};
 use std::time::Duration;
 
@@ -108,6 +109,45 @@ fn a_put_on_a_condition_sees_its_own_key_alone() {
     assert_eq!(*heard.lock().unwrap(), expected);
     drop((map, refused));
     ledger.each_once();
+}
+
+/// All keys have one hash. A comparison first does what the test wants then.
+#[derive(Clone)]
+struct Same(u64);
+
+thread_local! {
+    static BEFORE_EQ: Cell<Option<Box<dyn FnOnce()>>> = const { Cell::new(None) };
+}
+
+impl Hash for Same {
+    fn hash<H: Hasher>(&self, to: &mut H) {
+        to.write_u64(0);
+    }
+}
+
+impl PartialEq for Same {
+    fn eq(&self, other: &Same) -> bool {
+        if let Some(act) = BEFORE_EQ.take() {
+            act();
+        }
+        self.0 == other.0
+    }
+}
+
+impl Eq for Same {}
+
+#[test]
+fn a_computing_call_returns_what_was_written_meanwhile() {
+    let map = ObjectMap::<Same, u64>::new(100).unwrap();
+    map.insert(Same(2), 20).unwrap();
+    let other = map.clone();
+    // The write comes after the look that precedes the put.
+    let make = || {
+        BEFORE_EQ.set(Some(Box::new(move || done(other.insert(Same(1), 11).unwrap()))));
+        10
+    };
+    assert_eq!(map.get_or_insert_with(&Same(1), make), 11);
+    assert_eq!(map.get(&Same(1)), Some(11));
 }
 
 #[test]

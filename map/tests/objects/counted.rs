@@ -7,6 +7,7 @@ use std::ops::Range;
 use std::sync::atomic::{AtomicUsize, Ordering::SeqCst};
 use std::sync::Arc;
 use std::thread;
+use std::time::Duration;
 
 // The map forgets some keys that left, and takes some for others. With one hash for all runs these are always the same.
 type Hashes = BuildHasherDefault<DefaultHasher>;
@@ -146,4 +147,13 @@ fn put_and_remove() {
     }
     let left = (0..512).filter(|key| map.contains_key(key)).count();
     assert_eq!((left, map.len()), (0, 200));
+}
+
+#[test]
+fn what_had_expired_and_is_removed_makes_room() {
+    let map = ObjectMap::<u64, u64>::new(100).unwrap();
+    (0..80).for_each(|key| assert!(map.insert_for(key, 0, Duration::ZERO).is_ok()));
+    assert_eq!(map.remove_expired(), Ok(80));
+    (1_000..1_060).for_each(|key| assert!(map.insert(key, 1).is_ok()));
+    assert!((1_000..1_060).all(|key| map.contains_key(&key)));
 }

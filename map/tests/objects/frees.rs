@@ -213,3 +213,36 @@ fn keys_are_freed_with_their_values() {
         assert_eq!(map.get_with(key.as_str(), |value| value[2].clone()), Some(key));
     }
 }
+
+#[test]
+fn what_waits_to_be_freed_is_counted() {
+    let waits = |map: &Values| (map.stats().waiting, map.stats().waiting_weight, map.weight());
+    let ledger = Ledger::new(100);
+    let weighed = ObjectMap::builder(100).max_weight(30, |key: &u64, _: &Owned| *key).open().unwrap();
+    for (map, weight, sum) in [(weighed, 7, 3), (open(2), 0, 0)] {
+        (1..=4).for_each(|key| done(map.insert(key, ledger.make(key)).unwrap()));
+        let look = |_: &Owned| {
+            assert!(map.remove_with(&3, |_| ()).is_ok() && map.remove_with(&4, |_| ()).is_ok());
+            assert_eq!(waits(&map), (2, weight, sum));
+        };
+        assert!(map.get_with(&1, look).is_some());
+        assert_eq!((map.free_unused(), waits(&map)), (0, (0, 0, sum)));
+    }
+}
+
+// A thread retires an object and ends. Other threads free it while they write.
+#[test]
+fn what_a_thread_left_that_has_ended_is_freed_by_others() {
+    let ledger = Ledger::new(2_000);
+    let map = open(2);
+    map.insert(1, ledger.make(1)).unwrap();
+    thread::scope(|threads| {
+        let retire = || {
+            map.insert(2, ledger.make(2)).unwrap();
+            assert!(map.remove_with(&2, |_| ()).is_ok());
+        };
+        threads.spawn(retire).join().unwrap();
+    });
+    (0..1_000).for_each(|_| done(map.insert(3, ledger.make(3)).unwrap()));
+    assert!(ledger.has_dropped(1), "it is the second that was made");
+}

@@ -2,7 +2,7 @@
 use crate::ends::ends;
 use crate::executor::poll;
 use crate::loads::load_beside_invalidations;
-use cefrodil_map::{Board, Inserted, Look, ObjectMap, Reason};
+use cefrodil_map::{Board, IfError, Inserted, Look, ObjectMap, Reason};
 use std::sync::atomic::Ordering::SeqCst;
 use std::sync::{Arc, Mutex};
 use std::task::Poll;
@@ -63,6 +63,22 @@ fn each_call_takes_an_older_object_for_an_absent_one() {
         assert_eq!((lead.publish(11), map.get(&6), map.len() as u64), (11, Some(11), KEYS - 2));
         // Four of the others are of now.
         assert_eq!((map.remove_expired(), map.len()), (Ok(KEYS as usize - 6), 4));
+    }
+}
+
+#[test]
+fn a_token_of_before_replaces_nothing() {
+    type End = fn(&Numbers);
+    let ends: [End; 3] = [|map| map.invalidate_all(), |map| map.clear().unwrap(), |map| assert!(map.remove(&1).is_ok())];
+    for (map, end) in maps().iter().flat_map(|map| ends.map(|end| (map, end))) {
+        let since = map.put(1, 10, None).unwrap().at;
+        end(map);
+        let refused = map.replace_if(1, since, 11, None).unwrap_err();
+        assert!(matches!(refused.why, IfError::NotThere { .. }) && refused.value == 11);
+        assert_eq!(map.get(&1), None);
+        let since = map.put(1, 12, None).unwrap().at;
+        assert!(map.replace_if(1, since, 13, None).is_ok());
+        assert_eq!(map.get(&1), Some(13));
     }
 }
 

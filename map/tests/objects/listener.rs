@@ -1,6 +1,7 @@
 //! The listener hears of each object that leaves, once, and of no other.
 use crate::ledger::{done, next, Ledger, Owned};
 use cefrodil_map::{ObjectMap, Reason};
+use std::cell::Cell;
 use std::collections::hash_map::RandomState;
 use std::sync::atomic::{AtomicU32, AtomicU64, Ordering::SeqCst};
 use std::sync::{Arc, OnceLock};
@@ -79,6 +80,25 @@ fn it_may_call_the_map() {
         assert_eq!(here.or(there), Some(10 * key));
         assert!(here.is_none() || there.is_none());
     }
+}
+
+// Without an end to this the thread has no stack left at some depth.
+#[test]
+fn a_put_within_many_calls_of_listeners_is_refused() {
+    static MAP: OnceLock<ObjectMap<u64, u64>> = OnceLock::new();
+    static DEEPEST: AtomicU64 = AtomicU64::new(0);
+    thread_local!(static DEPTH: Cell<u64> = const { Cell::new(0) });
+    let put_back = |key: &u64, value: &u64, _| {
+        DEPTH.set(DEPTH.get() + 1);
+        DEEPEST.fetch_max(DEPTH.get(), SeqCst);
+        let put = MAP.get().unwrap().insert(*key, *value);
+        assert!(put.is_ok_and(|_| DEPTH.get() < 16) || DEPTH.get() == 16);
+        DEPTH.set(DEPTH.get() - 1);
+    };
+    let map = MAP.get_or_init(|| ObjectMap::builder(100).shards(1).listener(put_back).open().unwrap());
+    (0..1_000).for_each(|key| done(map.insert(key, key).unwrap()));
+    assert_eq!((DEEPEST.load(SeqCst), map.len()), (16, 100));
+    assert!(map.stats().refused >= 900);
 }
 
 // What has left and is still there is what the one has heard of and the other has not.

@@ -26,7 +26,7 @@ fn each_error_has_a_text() {
     let refused = Refused { why: InsertError::NoPlace, key: Cell::new(1), value: Cell::new(2) };
     assert_eq!(refused.to_string(), "there is no place for the key");
     assert_eq!(format!("{refused:?}"), "Refused { why: NoPlace, .. }");
-    let all: [(Box<dyn Error>, &str); 10] = [
+    let all: [(Box<dyn Error>, &str); 11] = [
         (Box::new(AbsentError::Present { since: 1 }), "the key has a value"),
         (Box::new(AbsentError::Busy), "writes disturbed each lookup"),
         (Box::new(AbsentError::Contended), "other threads changed the key each time"),
@@ -36,6 +36,7 @@ fn each_error_has_a_text() {
         (Box::new(IfError::Busy), "writes disturbed each lookup"),
         (Box::new(IfError::Held), "other threads held the shard's turn"),
         (Box::new(IfError::TooHeavy), "the entry weighs more than the map may hold"),
+        (Box::new(IfError::TooDeep), "a listener's put within too many calls of listeners"),
         (Box::new(IfError::Spent), "the shard has made all its changes"),
     ];
     for (error, text) in all {

@@ -1,0 +1,31 @@
+//! Whether this process is the one that opened a map. A forked child may have the same number, in a namespace of its own.
+use std::ffi::c_int;
+use std::sync::atomic::{AtomicU64, Ordering::Relaxed};
+use std::sync::Once;
+
+// How many forks made this process out of the one in which counting began. The child counts it before it does anything else.
+static FORKS: AtomicU64 = AtomicU64::new(0);
+
+type Handler = Option<extern "C" fn()>;
+
+extern "C" {
+    fn pthread_atfork(before: Handler, in_parent: Handler, in_child: Handler) -> c_int;
+}
+
+extern "C" fn count() {
+    FORKS.fetch_add(1, Relaxed);
+}
+
+/// From now on forks are counted, unless there is no memory for that.
+pub(crate) fn count_forks() {
+    static ONCE: Once = Once::new();
+    ONCE.call_once(|| {
+        // SAFETY: the handler makes one atomic step, which a child may make.
+        let _ = unsafe { pthread_atfork(None, None, Some(count)) };
+    });
+}
+
+/// Differs in a process and its forked children.
+pub(crate) fn this_process() -> u64 {
+    FORKS.load(Relaxed)
+}

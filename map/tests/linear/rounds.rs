@@ -1,0 +1,274 @@
+//! Rounds of random calls by several threads, which signals stop.
+use crate::history::{Call, Did, History};
+use std::ffi::{c_int, c_long};
+use std::process::{self, abort};
+use std::ptr;
+use std::sync::atomic::{AtomicU64, AtomicUsize, Ordering::SeqCst};
+use std::sync::{Barrier, Mutex};
+use std::thread;
+use std::time::{Duration, Instant};
+
+/// The keys of all calls.
+pub const KEYS: [u64; 2] = [1, 2];
+const THREADS: usize = 4;
+const MOST_CALLS: u64 = 8;
+
+/// What a call says: what it did with its key, or with all keys. `None`: it failed, so it says nothing.
+pub enum Told {
+    Key(Did),
+    All(Did),
+    Failed,
+}
+
+/// The calls of a map.
+pub trait Calls: Sync {
+    /// Makes a call for this key. If it puts a value, it is this one.
+    fn call(&self, caller: &mut Caller, key: u64, value: u64) -> Told;
+
+    /// Before a round, while no other call runs: the keys have nothing afterwards.
+    fn empty(&self);
+
+    /// How many lookups were kept from looking. If that grows in a round, the round says nothing.
+    fn busy(&self) -> u64;
+
+    /// How many entries were evicted. If that grows, a key may lose what it has at any time.
+    fn evicted(&self) -> u64;
+
+    /// What the key has, after the calls of a round.
+    fn find(&self, key: u64) -> Option<u64>;
+
+    /// Whether a call that waits for a value may get one that is not put.
+    fn joins(&self) -> bool;
+}
+
+/// Counts moments.
+pub struct Clock(AtomicU64);
+
+impl Clock {
+    pub fn next(&self) -> u64 {
+        self.0.fetch_add(1, SeqCst)
+    }
+}
+
+/// A thread that calls.
+pub struct Caller<'a> {
+    pub clock: &'a Clock,
+    /// A token of each key, and the value that it is of.
+    pub tokens: [Option<(u64, u64)>; KEYS.len()],
+    seed: u64,
+}
+
+impl Caller<'_> {
+    /// A random number below this one.
+    pub fn draw(&mut self, below: u64) -> u64 {
+        self.seed ^= self.seed << 13;
+        self.seed ^= self.seed >> 7;
+        self.seed ^= self.seed << 17;
+        self.seed % below
+    }
+}
+
+/// What a call computes takes a while, so that others come between.
+pub fn take_a_while(value: u64) {
+    match value % 4 {
+        0 => {}
+        1 => thread::yield_now(),
+        _ => thread::sleep(Duration::from_micros(value % 64)),
+    }
+}
+
+/// What came of all rounds.
+#[derive(Debug, Default)]
+pub struct Rounds {
+    /// Those that say something.
+    pub told: u64,
+    /// Those of them in which entries were evicted.
+    pub evicting: u64,
+    /// In which a call failed or was disturbed.
+    pub untold: u64,
+    /// The first history without an order.
+    pub wrong: Option<String>,
+}
+
+// What threads share in their rounds.
+struct Shared<'a> {
+    calls: &'a dyn Calls,
+    clock: Clock,
+    // Each thread's number for signals.
+    threads: [AtomicUsize; THREADS],
+    running: AtomicUsize,
+    // Calls, each with its key or for all.
+    histories: Mutex<Vec<(Option<u64>, Call)>>,
+    failed: AtomicUsize,
+    is_over: AtomicUsize,
+    start: Barrier,
+}
+
+impl Rounds {
+    /// Runs rounds for so long, and until one says something, or until one is wrong.
+    pub fn run(calls: &dyn Calls, time: Duration) -> Rounds {
+        handle_signals();
+        let shared = Shared {
+            calls,
+            clock: Clock(AtomicU64::new(0)),
+            threads: Default::default(),
+            running: AtomicUsize::new(0),
+            histories: Mutex::default(),
+            failed: AtomicUsize::new(0),
+            is_over: AtomicUsize::new(0),
+            start: Barrier::new(THREADS + 1),
+        };
+        let seed = 1 + u64::from(process::id()) * 1_000_003;
+        thread::scope(|threads| {
+            for thread in 0..THREADS {
+                let shared = &shared;
+                threads.spawn(move || shared.work(thread, seed + thread as u64));
+            }
+            shared.lead(time)
+        })
+    }
+}
+
+/// A call that panics ends the test: others would wait for its thread.
+struct EndsAll;
+
+impl Drop for EndsAll {
+    fn drop(&mut self) {
+        if thread::panicking() {
+            abort();
+        }
+    }
+}
+
+impl Shared<'_> {
+    fn lead(&self, time: Duration) -> Rounds {
+        let (mut rounds, begin) = (Rounds::default(), Instant::now());
+        while rounds.wrong.is_none() && (begin.elapsed() < time || rounds.told == 0 && rounds.untold < 1_000) {
+            self.calls.empty();
+            let (busy, evicted) = (self.calls.busy(), self.calls.evicted());
+            self.running.store(THREADS, SeqCst);
+            self.start.wait();
+            self.stop_threads();
+            self.start.wait();
+            let ended: Vec<_> = KEYS.map(|key| (Some(key), self.timed(THREADS, || Did::Saw(self.calls.find(key))))).into();
+            let mut calls = std::mem::take(&mut *self.histories.lock().unwrap());
+            calls.extend(ended);
+            let may_evict = self.calls.evicted() != evicted;
+            if self.failed.swap(0, SeqCst) > 0 || self.calls.busy() != busy {
+                rounds.untold += 1;
+            } else {
+                rounds.told += 1;
+                rounds.evicting += u64::from(may_evict);
+                rounds.wrong = KEYS.iter().find_map(|key| self.wrong(*key, &calls, may_evict));
+            }
+        }
+        self.is_over.store(1, SeqCst);
+        self.start.wait();
+        rounds
+    }
+
+    // The history of this key, if it has no order.
+    fn wrong(&self, key: u64, calls: &[(Option<u64>, Call)], may_evict: bool) -> Option<String> {
+        let mine = calls.iter().filter(|(of, _)| of.is_none_or(|of| of == key)).map(|(_, call)| *call);
+        let mut calls: Vec<Call> = mine.collect();
+        calls.sort_by_key(|call| call.begin);
+        let made: Vec<u64> =
+            calls.iter().filter_map(|call| if let Did::Made { value, .. } = call.did { Some(value) } else { None }).collect();
+        for call in &mut calls {
+            match call.did {
+                Did::Joined(value) if !self.calls.joins() || !made.contains(&value) => call.did = Did::Saw(Some(value)),
+                _ => {}
+            }
+        }
+        let mut history = History::new(calls, may_evict);
+        (!history.has_order()).then(|| format!("key {key}\n{history:?}"))
+    }
+
+    fn timed(&self, thread: usize, call: impl FnOnce() -> Did) -> Call {
+        let begin = self.clock.next();
+        let did = call();
+        Call { begin, end: self.clock.next(), thread, did }
+    }
+
+    // Sends signals to the threads until all have made their calls.
+    fn stop_threads(&self) {
+        let mut number = 0;
+        while self.running.load(SeqCst) > 0 {
+            // SAFETY: the thread has told its number, and does not end before this has returned.
+            unsafe { pthread_kill(self.threads[number % THREADS].load(SeqCst), SIGUSR1) };
+            number += 1;
+            (0..number % 7 * 200).for_each(|_| std::hint::spin_loop());
+            thread::yield_now();
+        }
+    }
+
+    fn work(&self, thread: usize, seed: u64) {
+        let _ends_all = EndsAll;
+        // SAFETY: it takes nothing.
+        self.threads[thread].store(unsafe { pthread_self() }, SeqCst);
+        let mut caller = Caller { clock: &self.clock, tokens: [None; KEYS.len()], seed };
+        let mut value = (thread as u64 + 1) << 40;
+        loop {
+            self.start.wait();
+            if self.is_over.load(SeqCst) == 1 {
+                break;
+            }
+            caller.tokens = [None; KEYS.len()];
+            let mut calls = Vec::new();
+            for _ in 0..1 + caller.draw(MOST_CALLS) {
+                value += 1;
+                self.call(&mut caller, thread, value, &mut calls);
+            }
+            self.histories.lock().unwrap().extend(calls);
+            self.running.fetch_sub(1, SeqCst);
+            self.start.wait();
+        }
+    }
+
+    fn call(&self, caller: &mut Caller, thread: usize, value: u64, calls: &mut Vec<(Option<u64>, Call)>) {
+        let key = KEYS[caller.draw(KEYS.len() as u64) as usize];
+        let begin = self.clock.next();
+        let told = self.calls.call(caller, key, value);
+        let end = self.clock.next();
+        match told {
+            Told::Key(did) => calls.push((Some(key), Call { begin, end, thread, did })),
+            Told::All(did) => calls.push((None, Call { begin, end, thread, did })),
+            Told::Failed => drop(self.failed.fetch_add(1, SeqCst)),
+        }
+    }
+}
+
+const SIGUSR1: c_int = 10;
+
+#[repr(C)]
+struct Time {
+    seconds: c_long,
+    nanoseconds: c_long,
+}
+
+extern "C" {
+    fn signal(number: c_int, handler: extern "C" fn(c_int)) -> usize;
+    fn pthread_self() -> usize;
+    fn pthread_kill(thread: usize, number: c_int) -> c_int;
+    fn nanosleep(time: *const Time, left: *mut Time) -> c_int;
+    fn sched_yield() -> c_int;
+}
+
+// The thread stops for a moment, wherever it is.
+extern "C" fn stop(_: c_int) {
+    static SIGNALS: AtomicU64 = AtomicU64::new(0);
+    let time = Time { seconds: 0, nanoseconds: 20_000 };
+    // SAFETY: a handler may call both. `time` is a time.
+    unsafe {
+        if SIGNALS.fetch_add(1, SeqCst) % 3 == 0 {
+            nanosleep(&time, ptr::null_mut());
+        } else {
+            sched_yield();
+        }
+    }
+}
+
+fn handle_signals() {
+    // SAFETY: the handler changes nothing of the thread.
+    unsafe { signal(SIGUSR1, stop) };
+}
