@@ -49,15 +49,23 @@ template <class K, class V, class Hash, class Equal> struct KeyedObjects {
     [[gnu::always_inline]] Seen look(Pinned &pinned, const Identity &known, Key key, uint32_t most, uint64_t generation) const {
         return own(pinned.look(known.index, most, generation), key);
     }
-    // Puts a key that is absent, or says `present`.
-    Changed insert(const Identity &known, Key key, Own &object) {
+    // The key's object, also if it has ended. It is no use of it.
+    Seen look_at_all(const Identity &known, Key key) {
+        Pinned pinned(objects);
+        return own(pinned.look_at_all(known.index, objects.turns().tries()), key);
+    }
+    // Puts a key that is absent, or says `present`. What is there gives way if it has ended, or is another key's.
+    Changed insert(const Identity &known, Key key, Own &object, bool is_computed = false) {
         for (uint32_t repeat = 0;; repeat++) {
             const Seen seen = look(Pinned(objects), known, key, objects.turns().tries(), object->generation());
             if (seen.status != Status::absent) {
                 return Entries::refused(seen.status == Status::ok ? Status::present : seen.status);
             }
-            const Changed put = seen.since != 0 ? objects.put_over(known.index, seen.since, object) : objects.put_absent(known.index, object);
+            Changed put = seen.since != 0 ? objects.put_over(known.index, seen.since, object) : objects.put_absent(known.index, object, is_computed);
             if (!is_lost(put.status)) {
+                if (put.renewed) {
+                    objects.gave_way(put);
+                }
                 return put;
             }
             if (repeat >= objects.turns().tries()) {

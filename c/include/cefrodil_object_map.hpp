@@ -190,14 +190,17 @@ template <class K, class V, class Hash = SipHash<K>, class Equal = std::equal_to
         }
         const inside::Identity known = inner_->identities.of(key);
         inner_->flights_of(known).outdate(known);
-        const uint64_t generation = inner_->generation();
         for (uint32_t repeat = 0;; repeat++) {
-            const Seen seen = inner_->look(Pinned(inner_->objects), known, key, inner_->objects.turns().tries(), generation);
+            const Seen seen = inner_->look_at_all(known, key);
             if (seen.status != Status::ok) {
                 return seen.status;
             }
             const Ending taken{inner_->objects, inner_->objects.take(known.index, seen.since)};
             if (taken.change.old != nullptr) {
+                // What has ended is absent, but is removed all the same: an update that found it before must not renew it.
+                if (inner_->objects.has_ended(*taken.change.old, inner_->generation())) {
+                    return Status::absent;
+                }
                 see(static_cast<const V &>(taken.change.old->value));
             }
             if (taken.change.status != Status::changed || repeat >= inner_->objects.turns().tries()) {
@@ -215,11 +218,9 @@ template <class K, class V, class Hash = SipHash<K>, class Equal = std::equal_to
             if (found) {
                 return {Status::ok, std::move(*found), false};
             }
-            Changed put = Objects::refused(Status::no_memory);
-            std::optional<Computed<V>> computed = compute(key, function, put);
             // No listener and no destructor runs while others wait for the flight.
-            static_cast<void>(inner_->objects.end(put));
-            if (computed) {
+            Ending put{inner_->objects, Objects::refused(Status::no_memory)};
+            if (std::optional<Computed<V>> computed = compute(key, function, put.change)) {
                 return std::move(*computed);
             }
         }
@@ -279,16 +280,20 @@ template <class K, class V, class Hash = SipHash<K>, class Equal = std::equal_to
         V value = function();
         Own object = inner_->objects.make(key, [&]() -> const V & { return value; }, generation);
         const Status status = flight.land([&] {
-            put = object ? inner_->objects.put_new(known.index, object) : put;
-            return put.status == Status::changed ? Status::present : put.status;
+            put = object ? inner_->insert(known, key, object, true) : put;
+            return put.status;
         });
         return Computed<V>{status, std::move(value), true};
     }
-    // Ends a removal, also if a function of the user's throws.
+    // Ends a change, also if a function of the user's throws.
     struct Ending {
         Objects &objects;
         Changed change;
-        ~Ending() { static_cast<void>(objects.end(change)); }
+        ~Ending() {
+            if (change.old != nullptr || change.put.since != 0) {
+                static_cast<void>(objects.end(change));
+            }
+        }
     };
     // Replaces the value, until no other thread is first.
     template <class Function> Status renew(Key key, const Life &life, Function &function) {
@@ -323,16 +328,18 @@ template <class K, class V, class Hash = SipHash<K>, class Equal = std::equal_to
             return {Status::no_memory, false, false};
         }
         inner_->flights_of(known).outdate(known);
-        Changed change = make(known, object);
+        Ending made{objects, make(known, object)};
+        Changed &change = made.change;
         if constexpr (std::is_same_v<Value, V> && std::is_move_assignable_v<V>) {
             if (object) {
                 value = std::move(object->value);
             }
         }
         if (change.renewed && !Equal()(change.old->key, key)) {
-            change.why = Left::evicted, change.renewed = false, change.evicted = true;
+            objects.gave_way(change);
         }
-        return {inner_->objects.end(change), change.renewed, change.evicted};
+        const Status status = objects.end(change);
+        return {status, change.renewed, change.evicted};
     }
     inside::OwnedPointer<Inner> inner_{};
     // The index hashes what a hash of the user's may have spread badly.

@@ -36,10 +36,12 @@ static void deadlines() {
     heard.clear();
     now = 1100;
     MUST(!numbers.find(1) && !numbers.contains(2) && numbers.look(1, [](uint64_t) {}) == Status::absent && numbers.size() == 2);
-    MUST(numbers.update(2, [](uint64_t old) { return old + 1; }) == Status::absent && numbers.erase(2) == Status::absent);
+    MUST(numbers.update(2, [](uint64_t old) { return old + 1; }) == Status::absent);
     MUST(numbers.insert(1, 12).status == Status::ok && numbers.find(1) == 12u && numbers.size() == 2);
     MUST(heard.size() == 1 && heard[0] == std::make_pair(uint64_t(1), Left::expired));
-    MUST(numbers.erase_expired() == Status::ok && numbers.size() == 1 && heard.size() == 2 && heard[1] == std::make_pair(uint64_t(2), Left::expired));
+    // It is gone, and the function does not see it.
+    const auto see = [](uint64_t) { MUST(false); };
+    MUST(numbers.erase(2, see) == Status::absent && numbers.size() == 1 && heard.size() == 2 && heard[1] == std::make_pair(uint64_t(2), Left::expired));
     MUST(numbers.erase_expired() == Status::ok && numbers.size() == 1 && numbers.find(1) == 12u);
     // A put over a value begins the time anew.
     now = 1150;

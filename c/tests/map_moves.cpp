@@ -288,7 +288,45 @@ static void calls_are_repeated_while_they_are_busy() {
     MUST(numbers.table.find({the_key, the_key}, value) == Status::busy && !value && busy_lookups == 0 && numbers.find(the_key) == 10);
 }
 
+// A move can't take the key out of the small table, which another thread has. A write has the moment of the main table's entry, and has not tried the
+// key's lock yet. It changes the copy, too.
+static void a_write_sees_the_copy_of_a_move_that_ends_before_its_lock() {
+    for (const bool erases : {true, false}) {
+        Numbers numbers;
+        Numbers::with_young(numbers);
+        std::atomic<bool> is_at_lock{false}, has_moved{false};
+        Status status = Status::closed;
+        std::thread writer;
+        const auto write = [&] {
+            before_lock = [&] {
+                is_at_lock = true;
+                while (!has_moved) {
+                    std::this_thread::yield();
+                }
+            };
+            status = erases ? numbers.erase(the_key) : numbers.update(the_key, next).status;
+        };
+        numbers.while_held([&] {
+            // After the put into the main table.
+            before = 4;
+            act = [&] {
+                writer = std::thread(write);
+                while (!is_at_lock) {
+                    std::this_thread::yield();
+                }
+            };
+            MUST(numbers.find(the_key) == 10 && !act && numbers.where(the_key) == In::both);
+            has_moved = true;
+            writer.join();
+        });
+        const bool is_changed = status == Status::ok;
+        MUST(numbers.find(the_key) == (!is_changed ? 10u : erases ? 0u : 11u));
+        MUST(!is_changed || numbers.where(the_key) != In::both);
+    }
+}
+
 int main() {
+    a_write_sees_the_copy_of_a_move_that_ends_before_its_lock();
     a_lookup_finds_a_key_that_moves_meanwhile();
     a_lookup_finds_it_though_a_pass_comes_back_that_knows_of_the_move();
     a_lookup_finds_a_key_that_is_evicted_while_it_moves();
