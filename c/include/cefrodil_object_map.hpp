@@ -191,20 +191,16 @@ template <class K, class V, class Hash = SipHash<K>, class Equal = std::equal_to
         const inside::Identity known = inner_->identities.of(key);
         inner_->flights_of(known).outdate(known);
         for (uint32_t repeat = 0;; repeat++) {
-            const Seen seen = inner_->look_at_all(known, key);
-            if (seen.status != Status::ok) {
+            const Seen seen = inner_->look_to_take(known, key);
+            if (seen.object == nullptr) {
                 return seen.status;
             }
             const Ending taken{inner_->objects, inner_->objects.take(known.index, seen.since)};
-            if (taken.change.old != nullptr) {
-                // What has ended is absent, but is removed all the same: an update that found it before must not renew it.
-                if (inner_->objects.has_ended(*taken.change.old, inner_->generation())) {
-                    return Status::absent;
-                }
+            if (taken.change.status == Status::ok && seen.status == Status::ok) {
                 see(static_cast<const V &>(taken.change.old->value));
             }
             if (taken.change.status != Status::changed || repeat >= inner_->objects.turns().tries()) {
-                return taken.change.status;
+                return taken.change.status == Status::ok ? seen.status : taken.change.status;
             }
         }
     }
