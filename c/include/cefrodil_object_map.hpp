@@ -251,6 +251,9 @@ template <class K, class V, class Hash = SipHash<K>, class Equal = std::equal_to
     // The sum of the weights, exact while no call writes. What other calls are about to put counts, and what has left does not, though it may wait to
     // be freed. Without a weigher 0.
     uint64_t weight() const noexcept { return inner_ ? inner_->objects.weight() : 0; }
+    // How many objects have left the map and wait to be freed, and what they weigh. `meter` has the same.
+    uint64_t waiting() const noexcept { return inner_ ? inner_->objects.waiting().number() : 0; }
+    uint64_t waiting_weight() const noexcept { return inner_ ? inner_->objects.waiting().weight() : 0; }
     // What the lookups of this map came to, each counted once: the calls of look, find, get, contains and find_or_compute. As by cefrodil::map.
     Meter meter() const noexcept { return inner_ ? inner_->objects.turns().meter() : Meter(nullptr); }
 

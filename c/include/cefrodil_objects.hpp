@@ -20,6 +20,13 @@ namespace cefrodil {
 
 namespace inside {
 
+// How many listeners of this thread run within each other. Within so many a call that writes is refused, so that the stack does not overflow.
+inline constexpr uint32_t most_listeners = 16;
+inline uint32_t &listeners() noexcept {
+    static thread_local uint32_t depth = 0;
+    return depth;
+}
+
 // The entries of a map of objects, and what has left them.
 template <class K, class V> class Objects {
   public:
@@ -57,6 +64,7 @@ template <class K, class V> class Objects {
         const uint32_t room = each != 0 && share_of(more, shards) != 0 ? more : options.entries;
         const Status status = turns_.open(room, shards, options.passes, options.tries, mix);
         is_open_ = status == Status::ok;
+        waiting_ = is_open_ && turns_.lines() ? &turns_.lines()->waiting() : &uncounted_;
         const auto grow = [&] {
             if (each != 0) {
                 weights_.open(shards, each, each, true);
@@ -211,6 +219,7 @@ template <class K, class V> class Objects {
         return status;
     }
     size_t free_now() noexcept { return free(epochs_.free_now()); }
+    const Waiting &waiting() const noexcept { return *waiting_; }
     // The weights of all objects that are there, with those that calls are about to put. Without a weigher 0.
     uint64_t weight() const noexcept { return rules_.weigher ? weights_.sum() : 0; }
     uint64_t capacity() const noexcept { return weights_ && !rules_.weigher ? weights_.bound() : turns_.capacity(); }
@@ -225,6 +234,9 @@ template <class K, class V> class Objects {
         return tried;
     }
     template <class Take> Changed removed(Left why, Take take) noexcept {
+        if (is_too_deep()) {
+            return refused(Status::too_deep);
+        }
         const Swapped<1> taken = turns_.repeated([&](Slot<1> &slot) {
             const Swapped<1> tried = take(slot);
             slot.add(tried.status == Status::ok ? -1 : 0);
@@ -266,9 +278,16 @@ template <class K, class V> class Objects {
             object.use();
         }
         if (is_live && clock_.has_idle()) {
-            object.idle_deadline.store(clock_.idle_deadline(), std::memory_order_relaxed);
+            use_again(object);
         }
         return is_live;
+    }
+    // Begins the time to idle anew, if a sixteenth of it has passed: threads that find the object then seldom store in it.
+    void use_again(Dated &object) noexcept {
+        const uint64_t next = clock_.idle_deadline();
+        if (object.idle_deadline.load(std::memory_order_relaxed) < next - clock_.idle_time() / 16) {
+            object.idle_deadline.store(next, std::memory_order_relaxed);
+        }
     }
     template <class Made, class Key, class Give>
     Own made(typename Each::Kind kind, const Key &key, const Give &give, uint64_t generation, [[maybe_unused]] uint64_t deadline = never) const {
@@ -292,6 +311,9 @@ template <class K, class V> class Objects {
     }
     // `put` is called with the key's lock, at each try.
     template <class Put> [[gnu::always_inline]] Changed offered(uint64_t index, Own &object, Put put) noexcept {
+        if (is_too_deep()) {
+            return refused(Status::too_deep);
+        }
         return weights_ ? offered_weighed(index, Heavy::of(*object), object, put) : ended(object, turns_.locked(index, put));
     }
     template <class Put> [[gnu::noinline]] Changed offered_weighed(uint64_t index, Heavy &heavy, Own &object, Put &put) noexcept {
@@ -320,12 +342,11 @@ template <class K, class V> class Objects {
     void leave(Heavy &object, bool evicted) noexcept { weights_.of(object.place.index).leave(object, evicted); }
     void retire(const Changed &change) noexcept {
         if (rules_.listener) {
+            listeners()++;
             rules_.listener(change.old->key, change.old->value, has_ended(*change.old, generation_.now()) ? Left::expired : change.why);
+            listeners()--;
         }
-        // Relaxed: a number says nothing of other memory.
-        if (rules_.weigher) {
-            waiting_.fetch_add(Heavy::of(*change.old).weight, std::memory_order_relaxed);
-        }
+        waiting_->add(1, weight_of(*change.old));
         static_cast<void>(free(epochs_.retire(*change.old)));
     }
     // Removes objects until the others are within the bound: `next` first, if there is one. Whether any was removed. It gives up if there is none left, or
@@ -351,7 +372,7 @@ template <class K, class V> class Objects {
     }
     // Frees what it can if more than a sixteenth of the bound waits. Without a weigher nothing is counted.
     void free_much() noexcept {
-        if (rules_.weigher && waiting_.load(std::memory_order_relaxed) > weights_.bound() / 16) {
+        if (rules_.weigher && waiting_->weight() > weights_.bound() / 16) {
             static_cast<void>(free_now());
         }
     }
@@ -370,12 +391,13 @@ template <class K, class V> class Objects {
         for (Retired *next = nullptr; first != nullptr; first = next, count++) {
             next = first->next;
             const Own object(static_cast<Each *>(first));
-            if (rules_.weigher) {
-                waiting_.fetch_sub(Heavy::of(*object).weight, std::memory_order_relaxed);
-            }
+            waiting_->subtract(1, weight_of(*object));
         }
         return count;
     }
+    uint64_t weight_of(Each &object) const noexcept { return rules_.weigher ? Heavy::of(object).weight : 0; }
+    // Whether the call comes from so many listeners within each other that it is refused.
+    bool is_too_deep() const noexcept { return rules_.listener && listeners() >= most_listeners; }
 
     Turns<1> turns_{};
     Generation generation_{};
@@ -384,8 +406,8 @@ template <class K, class V> class Objects {
     const Rules rules_;
     const Clock clock_;
     PartedWeights weights_{};
-    // The sum of the weights of what has left and waits to be freed.
-    std::atomic<uint64_t> waiting_{0};
+    // What has left and waits to be freed.
+    Waiting uncounted_{}, *waiting_ = &uncounted_;
 };
 
 } // namespace inside

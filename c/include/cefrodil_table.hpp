@@ -308,6 +308,9 @@ template <class V, class Times = Timeless> class Table : private Packing<V, Time
             const uint64_t generation = begun();
             const Identity known = in_generation(key, generation);
             const Entry entry = look(known, false);
+            if (entry.status == Status::ok && Times::is_due(entry.ends)) {
+                use(known, entry.since, pack(known, entry.ends, *entry.value));
+            }
             if (entry.status != Status::absent) {
                 return {entry.status == Status::ok ? Status::present : entry.status, false, false};
             }

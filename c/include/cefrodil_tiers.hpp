@@ -293,10 +293,16 @@ template <size_t Words> class Tiers {
     // Puts a key that the main table doesn't have. A young one is put into the small table, whether that has it or not.
     Written put_beside_main(Slot<Words> &slot, const Spot &spot, const Value &value) noexcept {
         between_->settle(slot.notes);
-        if (!between_->is_full.load(std::memory_order_relaxed) || spot.take_note()) {
+        const bool is_full = between_->is_full.load(std::memory_order_relaxed), is_noted = is_full && spot.take_note();
+        if (is_noted || !is_full) {
             const std::optional<bool> in_small = is_in_small(slot, spot);
             if (!in_small || !*in_small) {
-                return in_small ? put_main(slot, spot, value) : refused(Status::held);
+                const Written put = in_small ? put_main(slot, spot, value) : refused(Status::held);
+                // The next try finds the note again.
+                if (is_noted && put.status == Status::held) {
+                    spot.note();
+                }
+                return put;
             }
         }
         const Written put = put_small(slot, spot, value);

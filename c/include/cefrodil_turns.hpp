@@ -154,6 +154,8 @@ template <size_t Words> class Turns {
     uint64_t keys() const noexcept { return static_cast<uint64_t>(std::max<int64_t>(0, passes_.keys())); }
     uint64_t capacity() const noexcept { return capacity_; }
     Meter meter() const noexcept { return passes_.shared().meter(); }
+    // What the meter reads. Null: nothing is counted.
+    const std::shared_ptr<Lines> &lines() const noexcept { return Counting::lines(passes_.shared()); }
     uint64_t shared_calls() const noexcept { return passes_.shared_calls(); }
 
   private:
@@ -165,9 +167,8 @@ template <size_t Words> class Turns {
     }
     // Counts a call that ends without an answer, if it slept.
     [[gnu::cold]] [[gnu::noinline]] void give_up(uint32_t most) noexcept {
-        const std::shared_ptr<Lines> &lines = Counting::lines(passes_.shared());
-        if (lines && most > sleeps_from) {
-            lines->stalls().give_up();
+        if (lines() && most > sleeps_from) {
+            lines()->stalls().give_up();
         }
     }
     [[gnu::cold]] [[gnu::noinline]] Seen get_again(uint64_t key, uint32_t most, std::array<uint64_t, Words> &value) noexcept {

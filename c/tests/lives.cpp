@@ -197,9 +197,26 @@ static void threads(uint64_t calls) {
     threads_find_nothing_that_has_ended(map, calls);
 }
 
+// A lookup begins the time to idle anew if more than a sixteenth of it has passed. So threads that find an object seldom store in it.
+static void idle_time_moves_by_a_sixteenth() {
+    now = 0;
+    Numbers numbers;
+    MUST(numbers.open({1000}, living(forever, nanoseconds(1600))) == Status::ok && numbers.insert(1, 10).status == Status::ok);
+    MUST(numbers.insert(2, 20).status == Status::ok);
+    now = 100;
+    MUST(numbers.find(1) == 10u);
+    now = 101;
+    MUST(numbers.find(2) == 20u);
+    now = 1600;
+    MUST(!numbers.peek(1).value && numbers.peek(2).value == 20u);
+    now = 1701;
+    MUST(!numbers.peek(2).value);
+}
+
 int main(int argc, char **argv) {
     const uint64_t less = argc > 1 ? std::strtoull(argv[1], nullptr, 10) : 1;
     deadlines();
+    idle_time_moves_by_a_sixteenth();
     lives_of_entries();
     idle();
     computed();

@@ -325,6 +325,29 @@ static void a_write_sees_the_copy_of_a_move_that_ends_before_its_lock() {
     }
 }
 
+// A key that left the small table goes to the main one when it is put again, also if the first try is held there.
+static void a_put_that_is_held_keeps_the_note() {
+    Numbers numbers;
+    Numbers::with_young(numbers).evict(the_key);
+    MUST(numbers.put(200, 0) == Status::ok && numbers.where(the_key) == In::none);
+    std::atomic<int> step{0};
+    std::thread holding([&] {
+        Numbers::Writing writing;
+        Numbers::Slot *const slot = numbers.table.tiers().turns().own_slot();
+        MUST(slot != nullptr && slot->handle.hold(writing) == Status::ok);
+        for (step = 1; step != 2;) {
+            std::this_thread::yield();
+        }
+    });
+    while (step != 1) {
+        std::this_thread::yield();
+    }
+    MUST(numbers.put(the_key, 11) == Status::held);
+    step = 2;
+    holding.join();
+    MUST(numbers.put(the_key, 12) == Status::ok && numbers.where(the_key) == In::main);
+}
+
 int main() {
     a_write_sees_the_copy_of_a_move_that_ends_before_its_lock();
     a_lookup_finds_a_key_that_moves_meanwhile();
@@ -340,5 +363,6 @@ int main() {
     a_move_waits_for_no_write();
     a_write_on_a_condition_tells_the_tables_apart();
     calls_are_repeated_while_they_are_busy();
+    a_put_that_is_held_keeps_the_note();
     return outcome("map_moves");
 }

@@ -115,6 +115,19 @@ static void idle() {
     MUST(!only_idle.find(3));
 }
 
+// So does an insert that finds its key.
+static void idle_after_an_insert() {
+    now = 0;
+    Numbers numbers;
+    MUST(numbers.open({1000}, living(forever, nanoseconds(1600))) == Status::ok && numbers.insert(1, 10).status == Status::ok);
+    now = 1000;
+    MUST(numbers.insert(1, 11).status == Status::present);
+    now = 2000;
+    MUST(numbers.peek(1).value == 10u);
+    now = 2600;
+    MUST(!numbers.peek(1).value);
+}
+
 // A lookup that moves the key to the main table begins its time to idle anew, too.
 static void idle_in_two_tables() {
     now = 0;
@@ -225,6 +238,7 @@ int main(int argc, char **argv) {
     deadlines();
     lives_of_entries();
     idle();
+    idle_after_an_insert();
     idle_in_two_tables();
     expired_in_the_small_table();
     for (const auto to_idle : {forever, nanoseconds(1024), nanoseconds(std::chrono::hours(1))}) {
