@@ -30,21 +30,32 @@
 //
 // Entries that end: `rules.lives.time_to_live = std::chrono::minutes(30)`. A put begins the time anew, also over a value, and may say another time:
 // `insert_for`. An update does not, but `update_for` does. `time_to_idle` ends what no call has found or put for so long. What has expired is absent for
-// all calls. It stays until it is overwritten or evicted, or by `erase_expired` removed; the listener then hears `Left::expired`.
+// all calls. It stays until it is overwritten or evicted, or removed by `erase` or `erase_expired`; the listener then hears `Left::expired`. A call that
+// finds an object begins its time to idle anew if a sixteenth of it has passed. So an entry may end a sixteenth of its time to idle sooner.
 //
 // This header is plain C++ and is not proved. The index below it is. The map's own part is an argument by hand: map/SAFETY.md of Cefrodil's repository.
 // Whoever finds an object keeps it until its call ends. An object that has left the map is freed by a later call that writes, once no call can have
 // found it. So a value's destructor runs in any thread that writes, and under no lock of the map. While a function of `look` runs, all objects that
-// leave the map wait for it.
+// leave the map wait for it, above any bound. Copy a std::shared_ptr out of it for anything that may block. `waiting` and `waiting_weight` say how many
+// objects wait, and `meter` does.
 //
 // Keys are compared. Two keys whose hashes of 64 bits are the same can't be in the map at once: the later one replaces the earlier.
 //
 // It can be compiled with -fno-exceptions and -fno-rtti. Then a put that finds no memory for its object returns no_memory all the same. If a call finds no
 // memory for anything else, the program ends.
 //
+// The listener may call the map. If it writes, it hears of what leaves then, within itself. Within 16 listeners of a thread its writes are refused:
+// `too_deep`.
+//
 // What you promise is what cefrodil_map.hpp lists, and: keys and values may be read by several threads at once, and destroyed by any of them. The
-// listener, the weigher and destructors throw nothing. No key or value that is destroyed by `close` or by the map's destructor calls the map. A
-// reference that `look` passes is not kept. No call throws, but what your functions and types throw. Then the map is as it was, unless an update was repeated.
+// listener and destructors throw nothing. The weigher and `Equal` don't call the map. No key or value that is destroyed by `close` or by the map's
+// destructor calls the map. A reference that `look` passes is not kept.
+//
+// No call throws, but what your functions and types throw. What a throw leaves behind:
+// - `insert_or_assign`: if `Equal` throws, the value was put. Otherwise the map is as it was.
+// - `erase` with a function: if the function throws, the key is removed. If `Equal` throws, the map is as it was.
+// - `find_or_compute`: if a copy or a move of a V throws, its value may have been put. Otherwise the map is as it was, and the next caller computes.
+// - Any other call: the map is as it was. A V that was moved to a put may be lost with it.
 #ifndef CEFRODIL_OBJECT_MAP_HPP
 #define CEFRODIL_OBJECT_MAP_HPP
 

@@ -12,8 +12,8 @@
 //     }
 //
 // It has all calls of cefrodil::map, and insert_for, insert_or_assign_for, update_for and erase_expired. Values have up to 40 bytes. What has expired is
-// absent for all calls, and so is what invalidate_all has ended. It takes room until others overwrite or evict it, or until erase_expired, and `size`
-// counts it.
+// absent for all calls, and so is what invalidate_all has ended. It takes room until others overwrite or evict it, or until erase or erase_expired, and
+// `size` counts it.
 //
 // A put begins both times anew, also over a value. An update and each call that finds the entry begin the time to idle anew, but `peek` does not. For that
 // a lookup writes the entry again, if more than a sixteenth of the time has passed since the last such write. It waits for its turn as a write does. So
