@@ -32,6 +32,13 @@ template <class K, class V> struct ObjectRules {
 
 namespace inside {
 
+// How many listeners of this thread run within each other. Within so many a call that writes is refused, so that the stack does not overflow.
+inline constexpr uint32_t most_listeners = 16;
+inline uint32_t &listeners() noexcept {
+    static thread_local uint32_t depth = 0;
+    return depth;
+}
+
 // An object of a map. Its address is the word of an entry in the index.
 template <class K, class V> struct Object : Retired {
     // What it is made as: this alone, a WeighedObject, or a MortalObject.

@@ -20,13 +20,6 @@ namespace cefrodil {
 
 namespace inside {
 
-// How many listeners of this thread run within each other. Within so many a call that writes is refused, so that the stack does not overflow.
-inline constexpr uint32_t most_listeners = 16;
-inline uint32_t &listeners() noexcept {
-    static thread_local uint32_t depth = 0;
-    return depth;
-}
-
 // The entries of a map of objects, and what has left them.
 template <class K, class V> class Objects {
   public:
@@ -250,13 +243,7 @@ template <class K, class V> class Objects {
         return {taken.status, old, why, false, false, {0, 0}, std::nullopt};
     }
     static bool is_mortal(const Each &object) noexcept { return object.kind() == Each::mortal; }
-    bool has_expired(Each &object) const noexcept {
-        if (!is_mortal(object)) {
-            return false;
-        }
-        const Dated &dated = Dated::of(object);
-        return clock_.has_passed(dated.deadline) || clock_.has_passed(dated.idle_deadline.load(std::memory_order_relaxed));
-    }
+    bool has_expired(Each &object) const noexcept { return is_mortal(object) && Dated::of(object).has_ended(clock_); }
     // A call of this generation has found it. Whether it has not ended: then it is used.
     [[gnu::always_inline]] bool is_used(Each &object, uint64_t generation) noexcept {
         const uint64_t head = object.head.load(std::memory_order_acquire);
@@ -278,16 +265,9 @@ template <class K, class V> class Objects {
             object.use();
         }
         if (is_live && clock_.has_idle()) {
-            use_again(object);
+            object.begin_idle(clock_);
         }
         return is_live;
-    }
-    // Begins the time to idle anew, if a sixteenth of it has passed: threads that find the object then seldom store in it.
-    void use_again(Dated &object) noexcept {
-        const uint64_t next = clock_.idle_deadline();
-        if (object.idle_deadline.load(std::memory_order_relaxed) < next - clock_.idle_time() / 16) {
-            object.idle_deadline.store(next, std::memory_order_relaxed);
-        }
     }
     template <class Made, class Key, class Give>
     Own made(typename Each::Kind kind, const Key &key, const Give &give, uint64_t generation, [[maybe_unused]] uint64_t deadline = never) const {
@@ -370,7 +350,7 @@ template <class K, class V> class Objects {
         }
         return has_evicted;
     }
-    // Frees what it can if more than a sixteenth of the bound waits. Without a weigher nothing is counted.
+    // Frees what it can if more than a sixteenth of the bound waits. Without a weigher nothing weighs.
     void free_much() noexcept {
         if (rules_.weigher && waiting_->weight() > weights_.bound() / 16) {
             static_cast<void>(free_now());
