@@ -1,8 +1,9 @@
 // The generations of c/include/cefrodil_generations.hpp, beside flights: the headers' own code, with atomics, locks and fences of Relacy.
 //
-// A thread changes the store, invalidates all, and puts the key. Another thread puts the key, too, and a third one computes it from the store. Once
-// all is invalidated nothing is found that was computed from the older store. At the end one of the two puts is found. The index is one entry, with
-// the generation in which its call began. Its lookup is an acquire load, and its writes acquire and release: the index promises no less.
+// A thread changes the store, looks the key up, invalidates all, and puts the key. Another thread puts the key, too, and a third one computes it from
+// the store. Once all is invalidated nothing is found that was computed from the older store. At the end one of the two puts is found: not the second
+// one if that was found before all was invalidated. The index is one entry with its generation. Its lookup is an acquire load, and its writes acquire
+// and release: the index promises no less. The lock is that of the key.
 #ifndef CXX_GENERATIONS_HPP
 #define CXX_GENERATIONS_HPP
 
@@ -11,7 +12,7 @@
 
 struct CxxGenerations : rl::test_suite<CxxGenerations, 3> {
     static constexpr unsigned interruptions = 2;
-    static constexpr std::array<std::string_view, 3> steps{"generation before the function", "second look at the generation", "generation of an entry"};
+    static constexpr std::array<std::string_view, 3> steps{"generation before the function", "lock of a put", "generation of an entry"};
 
     struct Parts {
         template <class T> struct Atomic : explored::Atomic<T> {
@@ -30,6 +31,8 @@ struct CxxGenerations : rl::test_suite<CxxGenerations, 3> {
     cefrodil::inside::GenerationOf<Parts> generation{};
     cefrodil::inside::FlightsOf<Parts> flights{};
     const cefrodil::inside::Identity key{1, 1};
+    explored::Mutex lock{};
+    explored::Plain<bool> was_found{false}; // the second put, before all was invalidated
 
     static uint64_t word(int value, uint64_t generation) { return generation * 16 + static_cast<uint64_t>(value); }
     int find() const {
@@ -39,13 +42,9 @@ struct CxxGenerations : rl::test_suite<CxxGenerations, 3> {
     // As in cefrodil_table.hpp and cefrodil_map.hpp.
     void put(int value) {
         flights.outdate(key);
-        for (uint64_t now = generation.now(), next = 0;; now = next) {
-            entry.exchange(word(value, now), std::memory_order_acq_rel);
-            next = explored::without("second look at the generation") ? now : generation.now();
-            if (next == now) {
-                return;
-            }
-        }
+        const explored::Mutex::Off off("lock of a put");
+        const std::lock_guard<explored::Mutex> guard(lock);
+        entry.exchange(word(value, generation.now()), std::memory_order_acq_rel);
     }
     cefrodil::Status put_if_absent(int value, uint64_t now) {
         for (;;) {
@@ -56,6 +55,7 @@ struct CxxGenerations : rl::test_suite<CxxGenerations, 3> {
             if (there != 0 && generation.now() != now) {
                 return cefrodil::Status::stale;
             }
+            const std::lock_guard<explored::Mutex> guard(lock);
             if (entry.compare_exchange(there, word(value, now), std::memory_order_acq_rel)) {
                 return cefrodil::Status::ok;
             }
@@ -81,6 +81,7 @@ struct CxxGenerations : rl::test_suite<CxxGenerations, 3> {
     void thread(unsigned index) {
         if (index == 0) {
             store.store(newer, std::memory_order_release);
+            was_found.set(find() == second_put);
             invalidate_all();
             RL_ASSERT(find() != older);
             put(first_put);
@@ -90,7 +91,7 @@ struct CxxGenerations : rl::test_suite<CxxGenerations, 3> {
             find_or_compute();
         }
     }
-    void after() { RL_ASSERT(find() == first_put || find() == second_put); }
+    void after() { RL_ASSERT(find() == first_put || (find() == second_put && !was_found.get())); }
 };
 
 #endif

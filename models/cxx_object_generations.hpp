@@ -1,8 +1,8 @@
 // The generations of objects of c/include/cefrodil_objects.hpp, with the header's own count of generations.
 //
 // A thread puts a key, invalidates all, and puts the key again. Another one puts the key meanwhile, and a third one inserts it. Once all is
-// invalidated, the first object is not found. At the end one of the others is found. The index is the number of an object, and each object has the
-// generation in which its call began.
+// invalidated, the first object is not found. At the end one of the others is found. The index is the number of an object, and each object has a
+// generation. The lock is that of the key.
 #ifndef CXX_OBJECT_GENERATIONS_HPP
 #define CXX_OBJECT_GENERATIONS_HPP
 
@@ -11,7 +11,7 @@
 
 struct CxxObjectGenerations : rl::test_suite<CxxObjectGenerations, 3> {
     static constexpr unsigned interruptions = 2;
-    static constexpr std::array<std::string_view, 3> steps{"second look at the generation", "generation of an object", "newer generations are found"};
+    static constexpr std::array<std::string_view, 3> steps{"lock of a put", "generation of an object", "newer generations are found"};
 
     struct Parts {
         template <class T> struct Atomic : explored::Atomic<T> {
@@ -26,6 +26,7 @@ struct CxxObjectGenerations : rl::test_suite<CxxObjectGenerations, 3> {
     std::array<explored::Atomic<uint64_t>, 5> heads{{explored::Atomic<uint64_t>(0), explored::Atomic<uint64_t>(0), explored::Atomic<uint64_t>(0),
                                                      explored::Atomic<uint64_t>(0), explored::Atomic<uint64_t>(0)}};
     cefrodil::inside::GenerationOf<Parts> generation{};
+    explored::Mutex lock{};
 
     bool is_there(uint64_t object, uint64_t now) const {
         const uint64_t own = object == none ? 0 : heads[object].load(std::memory_order_acquire);
@@ -38,21 +39,22 @@ struct CxxObjectGenerations : rl::test_suite<CxxObjectGenerations, 3> {
     }
     // As in cefrodil_objects.hpp.
     void put(uint64_t object) {
-        const uint64_t begun = generation.now();
-        heads[object].store(begun, std::memory_order_release);
+        const explored::Mutex::Off off("lock of a put");
+        const std::lock_guard<explored::Mutex> guard(lock);
+        heads[object].store(generation.now(), std::memory_order_release);
         entry.exchange(object, std::memory_order_acq_rel);
-        const uint64_t now = explored::without("second look at the generation") ? begun : generation.now();
-        if (now != begun) {
-            heads[object].store(now, std::memory_order_release);
-        }
     }
     // As in cefrodil_keyed_objects.hpp.
     void insert(uint64_t object) {
-        const uint64_t begun = generation.now();
-        heads[object].store(begun, std::memory_order_release);
-        for (;;) {
+        for (uint64_t begun = generation.now();;) {
             const uint64_t there = entry.load(std::memory_order_acquire);
-            if (is_there(there, begun) || entry.compare_exchange(there, object, std::memory_order_acq_rel)) {
+            if (is_there(there, begun)) {
+                return;
+            }
+            const std::lock_guard<explored::Mutex> guard(lock);
+            begun = there == none ? generation.now() : begun;
+            heads[object].store(begun, std::memory_order_release);
+            if (entry.compare_exchange(there, object, std::memory_order_acq_rel)) {
                 return;
             }
         }

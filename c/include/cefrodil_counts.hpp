@@ -32,6 +32,8 @@ struct Counts {
     uint64_t refusals = 0;  // writes that were refused: no_path, all_recent or spent
     uint64_t given_up = 0;  // calls of a map that were held or busy at each try, for over a tenth of a second
     uint64_t stalled = 0;   // for how many seconds calls have given up so, if one did in the last ten: then a thread stopped within a write
+    // Objects that have left an object_map and wait to be freed, and what they weigh by its weigher. While a function of `look` runs, none is freed.
+    uint64_t waiting = 0, waiting_weight = 0;
 
     // Which part of the lookups that were not busy found their key: 0 to 1. Without any, 0.
     double hit_rate() const noexcept { return hits == 0 ? 0 : static_cast<double>(hits) / static_cast<double>(hits + misses); }
@@ -84,6 +86,23 @@ class Stalls {
     std::atomic<uint64_t> number_{0};
 };
 
+// Objects that have left a map and wait to be freed. Relaxed: a number says nothing of other memory.
+class Waiting {
+  public:
+    void add(uint64_t objects, uint64_t weight) noexcept {
+        number_.fetch_add(objects, std::memory_order_relaxed);
+        if (weight != 0) {
+            weight_.fetch_add(weight, std::memory_order_relaxed);
+        }
+    }
+    void subtract(uint64_t objects, uint64_t weight) noexcept { add(0 - objects, 0 - weight); }
+    uint64_t number() const noexcept { return number_.load(std::memory_order_relaxed); }
+    uint64_t weight() const noexcept { return weight_.load(std::memory_order_relaxed); }
+
+  private:
+    std::atomic<uint64_t> number_{0}, weight_{0};
+};
+
 // The lines of handles that were opened together.
 struct LineGroup {
     explicit LineGroup(size_t handles) : lines(handles) {}
@@ -130,14 +149,17 @@ class Lines {
         for (const LineGroup *group = last_.load(std::memory_order_acquire); group != nullptr; group = group->before) {
             group->add_to(all);
         }
-        return {all[hits], all[misses], all[busy], all[held], all[evictions], all[refusals], stalls_.number(), stalls_.length()};
+        return {all[hits],          all[misses],       all[busy],        all[held],         all[evictions],
+                all[refusals],      stalls_.number(),  stalls_.length(), waiting_.number(), waiting_.weight()};
     }
     Stalls &stalls() noexcept { return stalls_; }
+    Waiting &waiting() noexcept { return waiting_; }
 
   private:
     std::atomic<LineGroup *> last_{nullptr};
     const Maker maker_{};
     Stalls stalls_{};
+    Waiting waiting_{};
 };
 
 // A handle's line. A handle that was opened by a call of C has none.
@@ -258,7 +280,9 @@ inline std::string prometheus(const std::vector<std::pair<std::string, Counts>> 
                         {"evictions_total", "counter", "Puts that evicted another key.", &Counts::evictions},
                         {"refusals_total", "counter", "Writes that were refused.", &Counts::refusals},
                         {"given_up_total", "counter", "Calls of a map that were held or busy at each try.", &Counts::given_up},
-                        {"stalled_seconds", "gauge", "For how long calls of a map have given up.", &Counts::stalled}};
+                        {"stalled_seconds", "gauge", "For how long calls of a map have given up.", &Counts::stalled},
+                        {"waiting_objects", "gauge", "Objects that have left a map and wait to be freed.", &Counts::waiting},
+                        {"waiting_weight", "gauge", "What the objects weigh that wait to be freed.", &Counts::waiting_weight}};
     std::string text;
     for (const Row &row : rows) {
         const std::string name = std::string("cefrodil_") + row.name;

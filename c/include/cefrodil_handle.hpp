@@ -59,7 +59,9 @@ enum class Status : uint32_t {
     // By the puts of an object_map with a bound on weights: the entry alone weighs more. Nothing was put, and an earlier value stays.
     too_heavy = 1003,
     // By object_map::update alone: the function made no new value, and the earlier one stays.
-    declined = 1004
+    declined = 1004,
+    // By the writes of an object_map that its listener makes, within 16 listeners of the thread: nothing was done.
+    too_deep = 1005
 };
 
 namespace inside {
@@ -107,6 +109,9 @@ inline const char *text(Status status) noexcept {
     }
     if (status == Status::too_heavy) {
         return "the entry weighs more than the map may hold";
+    }
+    if (status == Status::too_deep) {
+        return "too many listeners within each other";
     }
     return status == Status::stale ? "the store may have changed since the value was read" : cefrodil_text(static_cast<uint32_t>(status));
 }

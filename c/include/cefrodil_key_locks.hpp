@@ -1,8 +1,11 @@
-// A lock of keys, for cefrodil_key_lines.hpp. It is tried, and never waited for. No code of the user runs under one.
+// Locks of keys, for cefrodil_turns.hpp and cefrodil_key_lines.hpp. A lock is tried, and never waited for. No code of the user runs under one.
 #ifndef CEFRODIL_KEY_LOCKS_HPP
 #define CEFRODIL_KEY_LOCKS_HPP
 
+#include "cefrodil_spread.hpp"
+#include <array>
 #include <atomic>
+#include <cstdint>
 
 namespace cefrodil {
 
@@ -32,6 +35,18 @@ class KeyLock {
 
   private:
     std::atomic<bool> is_taken_{false};
+};
+
+// Those of all keys of a map with one table. There are so many that two threads seldom meet at one.
+class KeyLocks {
+  public:
+    KeyLock &of(uint64_t key) noexcept { return lines_[place_in(lines_.size(), mixed(key))].lock; }
+
+  private:
+    struct alignas(64) Line {
+        KeyLock lock{};
+    };
+    std::array<Line, 64> lines_{};
 };
 
 } // namespace inside

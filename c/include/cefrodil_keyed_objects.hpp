@@ -49,15 +49,29 @@ template <class K, class V, class Hash, class Equal> struct KeyedObjects {
     [[gnu::always_inline]] Seen look(Pinned &pinned, const Identity &known, Key key, uint32_t most, uint64_t generation) const {
         return own(pinned.look(known.index, most, generation), key);
     }
-    // Puts a key that is absent, or says `present`.
-    Changed insert(const Identity &known, Key key, Own &object) {
+    // The key's object, for its removal, which is no use of it. If it has ended it is absent, but is removed all the same: an update that found it before
+    // must not renew it.
+    Seen look_to_take(const Identity &known, Key key) {
+        const uint64_t now = generation();
+        Pinned pinned(objects);
+        Seen seen = own(pinned.look_at_all(known.index, objects.turns().tries()), key);
+        if (seen.object != nullptr && objects.has_ended(*seen.object, now)) {
+            seen.status = Status::absent;
+        }
+        return seen;
+    }
+    // Puts a key that is absent, or says `present`. What is there gives way if it has ended, or is another key's.
+    Changed insert(const Identity &known, Key key, Own &object, bool is_computed = false) {
         for (uint32_t repeat = 0;; repeat++) {
             const Seen seen = look(Pinned(objects), known, key, objects.turns().tries(), object->generation());
             if (seen.status != Status::absent) {
                 return Entries::refused(seen.status == Status::ok ? Status::present : seen.status);
             }
-            const Changed put = seen.since != 0 ? objects.put_over(known.index, seen.since, object) : objects.put_absent(known.index, object);
+            Changed put = seen.since != 0 ? objects.put_over(known.index, seen.since, object) : objects.put_absent(known.index, object, is_computed);
             if (!is_lost(put.status)) {
+                if (put.renewed) {
+                    objects.gave_way(put);
+                }
                 return put;
             }
             if (repeat >= objects.turns().tries()) {

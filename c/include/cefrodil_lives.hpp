@@ -57,6 +57,17 @@ class Clock {
 
 // When an object ends. Relaxed: a deadline says nothing of other memory.
 struct Mortal {
+    bool has_ended(const Clock &clock) const noexcept {
+        return clock.has_passed(deadline) || clock.has_passed(idle_deadline.load(std::memory_order_relaxed));
+    }
+    // Begins the time to idle anew, if a sixteenth of it has passed: so threads that find the object seldom store in it.
+    void begin_idle(const Clock &clock) noexcept {
+        const uint64_t next = clock.idle_deadline();
+        if (idle_deadline.load(std::memory_order_relaxed) < next - clock.idle_time() / 16) {
+            idle_deadline.store(next, std::memory_order_relaxed);
+        }
+    }
+
     uint64_t deadline = never; // written before the object is put
     std::atomic<uint64_t> idle_deadline{never};
 };

@@ -16,10 +16,10 @@ namespace cefrodil {
 // happened, or invalidate_all had been called since its put.
 enum class Left { replaced, evicted, removed, expired };
 
-// What a map of objects does beside keeping them. None of these functions throws.
+// What a map of objects does beside keeping them. The listener and the clock throw nothing.
 template <class K, class V> struct ObjectRules {
     // Hears of each object that leaves the map, before it is freed, in the call that made it leave; but not of those that `close` frees. It may call
-    // the map.
+    // the map, but within 16 listeners of a thread a call that writes is refused: too_deep.
     std::function<void(const K &, const V &, Left)> listener = nullptr;
     // What an entry weighs, in any unit, such as bytes. It is asked once, by the thread that puts the entry, and must not call the map. None: the map is
     // bounded by its number of entries alone.
@@ -31,6 +31,13 @@ template <class K, class V> struct ObjectRules {
 };
 
 namespace inside {
+
+// How many listeners of this thread run within each other. Within so many a call that writes is refused, so that the stack does not overflow.
+inline constexpr uint32_t most_listeners = 16;
+inline uint32_t &listeners() noexcept {
+    static thread_local uint32_t depth = 0;
+    return depth;
+}
 
 // An object of a map. Its address is the word of an entry in the index.
 template <class K, class V> struct Object : Retired {

@@ -30,21 +30,32 @@
 //
 // Entries that end: `rules.lives.time_to_live = std::chrono::minutes(30)`. A put begins the time anew, also over a value, and may say another time:
 // `insert_for`. An update does not, but `update_for` does. `time_to_idle` ends what no call has found or put for so long. What has expired is absent for
-// all calls. It stays until it is overwritten or evicted, or by `erase_expired` removed; the listener then hears `Left::expired`.
+// all calls. It stays until it is overwritten or evicted, or removed by `erase` or `erase_expired`; the listener then hears `Left::expired`. A call that
+// finds an object begins its time to idle anew if a sixteenth of it has passed. So an entry may end a sixteenth of its time to idle sooner.
 //
 // This header is plain C++ and is not proved. The index below it is. The map's own part is an argument by hand: map/SAFETY.md of Cefrodil's repository.
 // Whoever finds an object keeps it until its call ends. An object that has left the map is freed by a later call that writes, once no call can have
 // found it. So a value's destructor runs in any thread that writes, and under no lock of the map. While a function of `look` runs, all objects that
-// leave the map wait for it.
+// leave the map wait for it, above any bound. Copy a std::shared_ptr out of it for anything that may block. `waiting` and `waiting_weight` say how many
+// objects wait, and `meter` does.
 //
 // Keys are compared. Two keys whose hashes of 64 bits are the same can't be in the map at once: the later one replaces the earlier.
 //
 // It can be compiled with -fno-exceptions and -fno-rtti. Then a put that finds no memory for its object returns no_memory all the same. If a call finds no
 // memory for anything else, the program ends.
 //
+// The listener may call the map. If it writes, it hears of what leaves then, within itself. Within 16 listeners of a thread its writes are refused:
+// `too_deep`.
+//
 // What you promise is what cefrodil_map.hpp lists, and: keys and values may be read by several threads at once, and destroyed by any of them. The
-// listener, the weigher and destructors throw nothing. No key or value that is destroyed by `close` or by the map's destructor calls the map. A
-// reference that `look` passes is not kept. No call throws, but what your functions and types throw. Then the map is as it was, unless an update was repeated.
+// listener and destructors throw nothing. The weigher and `Equal` don't call the map. No key or value that is destroyed by `close` or by the map's
+// destructor calls the map. A reference that `look` passes is not kept.
+//
+// No call throws, but what your functions and types throw. What a throw leaves behind:
+// - `insert_or_assign`: if `Equal` throws, the value was put. Otherwise the map is as it was.
+// - `erase` with a function: if the function throws, the key is removed. If `Equal` throws, the map is as it was.
+// - `find_or_compute`: if a copy or a move of a V throws, its value may have been put. Otherwise the map is as it was, and the next caller computes.
+// - Any other call: the map is as it was. A V that was moved to a put may be lost with it.
 #ifndef CEFRODIL_OBJECT_MAP_HPP
 #define CEFRODIL_OBJECT_MAP_HPP
 
@@ -190,18 +201,17 @@ template <class K, class V, class Hash = SipHash<K>, class Equal = std::equal_to
         }
         const inside::Identity known = inner_->identities.of(key);
         inner_->flights_of(known).outdate(known);
-        const uint64_t generation = inner_->generation();
         for (uint32_t repeat = 0;; repeat++) {
-            const Seen seen = inner_->look(Pinned(inner_->objects), known, key, inner_->objects.turns().tries(), generation);
-            if (seen.status != Status::ok) {
+            const Seen seen = inner_->look_to_take(known, key);
+            if (seen.object == nullptr) {
                 return seen.status;
             }
             const Ending taken{inner_->objects, inner_->objects.take(known.index, seen.since)};
-            if (taken.change.old != nullptr) {
+            if (taken.change.status == Status::ok && seen.status == Status::ok) {
                 see(static_cast<const V &>(taken.change.old->value));
             }
             if (taken.change.status != Status::changed || repeat >= inner_->objects.turns().tries()) {
-                return taken.change.status;
+                return taken.change.status == Status::ok ? seen.status : taken.change.status;
             }
         }
     }
@@ -215,11 +225,9 @@ template <class K, class V, class Hash = SipHash<K>, class Equal = std::equal_to
             if (found) {
                 return {Status::ok, std::move(*found), false};
             }
-            Changed put = Objects::refused(Status::no_memory);
-            std::optional<Computed<V>> computed = compute(key, function, put);
             // No listener and no destructor runs while others wait for the flight.
-            static_cast<void>(inner_->objects.end(put));
-            if (computed) {
+            Ending put{inner_->objects, Objects::refused(Status::no_memory)};
+            if (std::optional<Computed<V>> computed = compute(key, function, put.change)) {
                 return std::move(*computed);
             }
         }
@@ -254,6 +262,9 @@ template <class K, class V, class Hash = SipHash<K>, class Equal = std::equal_to
     // The sum of the weights, exact while no call writes. What other calls are about to put counts, and what has left does not, though it may wait to
     // be freed. Without a weigher 0.
     uint64_t weight() const noexcept { return inner_ ? inner_->objects.weight() : 0; }
+    // How many objects have left the map and wait to be freed, and what they weigh. `meter` has the same.
+    uint64_t waiting() const noexcept { return inner_ ? inner_->objects.waiting().number() : 0; }
+    uint64_t waiting_weight() const noexcept { return inner_ ? inner_->objects.waiting().weight() : 0; }
     // What the lookups of this map came to, each counted once: the calls of look, find, get, contains and find_or_compute. As by cefrodil::map.
     Meter meter() const noexcept { return inner_ ? inner_->objects.turns().meter() : Meter(nullptr); }
 
@@ -279,16 +290,20 @@ template <class K, class V, class Hash = SipHash<K>, class Equal = std::equal_to
         V value = function();
         Own object = inner_->objects.make(key, [&]() -> const V & { return value; }, generation);
         const Status status = flight.land([&] {
-            put = object ? inner_->objects.put_new(known.index, object) : put;
-            return put.status == Status::changed ? Status::present : put.status;
+            put = object ? inner_->insert(known, key, object, true) : put;
+            return put.status;
         });
         return Computed<V>{status, std::move(value), true};
     }
-    // Ends a removal, also if a function of the user's throws.
+    // Ends a change, also if a function of the user's throws.
     struct Ending {
         Objects &objects;
         Changed change;
-        ~Ending() { static_cast<void>(objects.end(change)); }
+        ~Ending() {
+            if (change.old != nullptr || change.put.since != 0) {
+                static_cast<void>(objects.end(change));
+            }
+        }
     };
     // Replaces the value, until no other thread is first.
     template <class Function> Status renew(Key key, const Life &life, Function &function) {
@@ -323,16 +338,18 @@ template <class K, class V, class Hash = SipHash<K>, class Equal = std::equal_to
             return {Status::no_memory, false, false};
         }
         inner_->flights_of(known).outdate(known);
-        Changed change = make(known, object);
+        Ending made{objects, make(known, object)};
+        Changed &change = made.change;
         if constexpr (std::is_same_v<Value, V> && std::is_move_assignable_v<V>) {
             if (object) {
                 value = std::move(object->value);
             }
         }
         if (change.renewed && !Equal()(change.old->key, key)) {
-            change.why = Left::evicted, change.renewed = false, change.evicted = true;
+            objects.gave_way(change);
         }
-        return {inner_->objects.end(change), change.renewed, change.evicted};
+        const Status status = objects.end(change);
+        return {status, change.renewed, change.evicted};
     }
     inside::OwnedPointer<Inner> inner_{};
     // The index hashes what a hash of the user's may have spread badly.

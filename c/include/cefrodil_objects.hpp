@@ -57,6 +57,7 @@ template <class K, class V> class Objects {
         const uint32_t room = each != 0 && share_of(more, shards) != 0 ? more : options.entries;
         const Status status = turns_.open(room, shards, options.passes, options.tries, mix);
         is_open_ = status == Status::ok;
+        waiting_ = is_open_ && turns_.lines() ? &turns_.lines()->waiting() : &uncounted_;
         const auto grow = [&] {
             if (each != 0) {
                 weights_.open(shards, each, each, true);
@@ -87,6 +88,12 @@ template <class K, class V> class Objects {
             Each *const object = Each::found_at(word[0]);
             return objects_.is_used(*object, generation) ? Seen{Status::ok, object, seen.since} : Seen{Status::absent, nullptr, seen.since};
         }
+        // The same, also what has ended. It is no use of the object.
+        Seen look_at_all(uint64_t index, uint32_t most) noexcept {
+            std::array<uint64_t, 1> word;
+            const inside::Seen seen = objects_.turns_.get(slot_, index, most, word);
+            return {seen.status, seen.status == Status::ok ? Each::found_at(word[0]) : nullptr, seen.since};
+        }
         // Counts a lookup of the map.
         [[gnu::always_inline]] void count(Status status) noexcept { objects_.turns_.count(slot_, status); }
         // The same as `look`, which is no use of the object. It takes the turn at the key's shard, so the status may be held, and never busy.
@@ -100,9 +107,8 @@ template <class K, class V> class Objects {
         }
         // The moment of the put of what is under a number, if that has expired or is of an older generation, or else 0.
         uint64_t expired(uint64_t index, uint64_t generation) noexcept {
-            std::array<uint64_t, 1> word;
-            const inside::Seen seen = objects_.turns_.get(slot_, index, objects_.turns_.looks(), word);
-            return seen.status == Status::ok && objects_.has_ended(*Each::found_at(word[0]), generation) ? seen.since : 0;
+            const Seen seen = look_at_all(index, objects_.turns_.looks());
+            return seen.object != nullptr && objects_.has_ended(*seen.object, generation) ? seen.since : 0;
         }
 
       private:
@@ -134,48 +140,43 @@ template <class K, class V> class Objects {
         const bool is_mortal = clock_.has_lives() || deadline != never;
         return is_mortal ? make_mortal(key, give, generation, deadline) : make(key, give, generation);
     }
+    // For a call of this generation.
+    bool has_ended(Each &object, uint64_t generation) const noexcept { return object.generation() < generation || has_expired(object); }
     uint64_t deadline_after(std::chrono::nanoseconds life) const noexcept { return clock_.deadline_after(life); }
     static uint64_t deadline_of(Each &object) noexcept { return is_mortal(object) ? Dated::of(object).deadline : never; }
-    // Puts whatever is there.
+    // Puts whatever is there. The object gets the generation with the key's lock, so what gives way is of no newer one.
     [[gnu::always_inline]] Changed put(uint64_t index, Own &object) noexcept {
-        const Epochs::Pinned pinned(epochs_, turns_.place());
-        Each &put = *object;
-        const Changed change = offered(index, object, [&] {
-            return turns_.repeated([&](Slot<1> &slot) { return counted(slot, slot.handle.try_swap(index, object->word())); });
-        });
-        // It may have replaced an object of the next generation. Another call may have removed it by now, but it is not freed.
-        if (const uint64_t now = generation_.now(); change.status == Status::ok && put.generation() != now) {
-            put.end_making(put.kind(), now);
-        }
-        return change;
-    }
-    // Puts only where nothing is. present: something is.
-    Changed put_absent(uint64_t index, Own &object) noexcept {
-        return offered(index, object, [&] {
-            return turns_.repeated([&](Slot<1> &slot) { return counted(slot, slot.handle.try_swap_if_absent(index, object->word())); });
+        return offered(index, object, [&](Slot<1> &slot) {
+            object->end_making(object->kind(), generation_.now());
+            return counted(slot, slot.handle.try_swap(index, object->word()));
         });
     }
-    // The same, also over what has expired. present: something else is there.
-    Changed put_new(uint64_t index, Own &object) noexcept {
-        Changed put = put_absent(index, object);
-        if (put.status == Status::present) {
-            const uint64_t since = Pinned(*this).expired(index, object->generation());
-            put = since != 0 ? put_over(index, since, object) : put;
-        }
-        return put;
+    // Puts only where nothing is. present: something is. What was computed keeps the generation in which that began.
+    Changed put_absent(uint64_t index, Own &object, bool is_computed) noexcept {
+        return offered(index, object, [&](Slot<1> &slot) {
+            if (!is_computed) {
+                object->end_making(object->kind(), generation_.now());
+            }
+            return counted(slot, slot.handle.try_swap_if_absent(index, object->word()));
+        });
     }
     // Puts over what was put at that moment.
     Changed put_over(uint64_t index, uint64_t since, Own &object) noexcept {
-        return offered(index, object, [&] {
-            return turns_.repeated([&](Slot<1> &slot) { return slot.handle.try_swap_if(index, since, object->word()); });
-        });
+        return offered(index, object, [&](Slot<1> &slot) { return slot.handle.try_swap_if(index, since, object->word()); });
+    }
+    // What gave way is no older value of the key: it is another key's, or had ended.
+    void gave_way(Changed &change) noexcept {
+        change.why = Left::evicted, change.renewed = false, change.evicted = true;
+        if (!has_ended(*change.old, generation_.now())) {
+            turns_.call([](Slot<1> &slot) { slot.count(evictions, 1); });
+        }
     }
     // Removes what was put at that moment.
     Changed take(uint64_t index, uint64_t since, Left why = Left::removed) noexcept {
         return removed(why, [&](Slot<1> &slot) { return slot.handle.try_take_if(index, since); });
     }
-    // Ends a change: the listener hears of what gave way, and then it is retired. Then objects leave until the others are within the bound on weights,
-    // and `evicted` is set if any did. Call it when the caller has no pin of its own any more.
+    // Ends a change, once: the listener hears of what gave way, and then it is retired. Then objects leave until the others are within the bound on
+    // weights, and `evicted` is set if any did. Call it when the caller has no pin of its own any more.
     Status end(Changed &change) noexcept {
         if (change.old != nullptr) {
             retire(change);
@@ -183,6 +184,7 @@ template <class K, class V> class Objects {
         if (change.put.since != 0) {
             change.evicted = shrink(change.put, change.victim) || change.evicted;
         }
+        change.old = nullptr, change.put.since = 0;
         free_much();
         return change.status;
     }
@@ -210,6 +212,7 @@ template <class K, class V> class Objects {
         return status;
     }
     size_t free_now() noexcept { return free(epochs_.free_now()); }
+    const Waiting &waiting() const noexcept { return *waiting_; }
     // The weights of all objects that are there, with those that calls are about to put. Without a weigher 0.
     uint64_t weight() const noexcept { return rules_.weigher ? weights_.sum() : 0; }
     uint64_t capacity() const noexcept { return weights_ && !rules_.weigher ? weights_.bound() : turns_.capacity(); }
@@ -224,6 +227,9 @@ template <class K, class V> class Objects {
         return tried;
     }
     template <class Take> Changed removed(Left why, Take take) noexcept {
+        if (is_too_deep()) {
+            return refused(Status::too_deep);
+        }
         const Swapped<1> taken = turns_.repeated([&](Slot<1> &slot) {
             const Swapped<1> tried = take(slot);
             slot.add(tried.status == Status::ok ? -1 : 0);
@@ -237,15 +243,7 @@ template <class K, class V> class Objects {
         return {taken.status, old, why, false, false, {0, 0}, std::nullopt};
     }
     static bool is_mortal(const Each &object) noexcept { return object.kind() == Each::mortal; }
-    // For a call of this generation.
-    bool has_ended(Each &object, uint64_t generation) const noexcept { return object.generation() < generation || has_expired(object); }
-    bool has_expired(Each &object) const noexcept {
-        if (!is_mortal(object)) {
-            return false;
-        }
-        const Dated &dated = Dated::of(object);
-        return clock_.has_passed(dated.deadline) || clock_.has_passed(dated.idle_deadline.load(std::memory_order_relaxed));
-    }
+    bool has_expired(Each &object) const noexcept { return is_mortal(object) && Dated::of(object).has_ended(clock_); }
     // A call of this generation has found it. Whether it has not ended: then it is used.
     [[gnu::always_inline]] bool is_used(Each &object, uint64_t generation) noexcept {
         const uint64_t head = object.head.load(std::memory_order_acquire);
@@ -267,14 +265,14 @@ template <class K, class V> class Objects {
             object.use();
         }
         if (is_live && clock_.has_idle()) {
-            object.idle_deadline.store(clock_.idle_deadline(), std::memory_order_relaxed);
+            object.begin_idle(clock_);
         }
         return is_live;
     }
     template <class Made, class Key, class Give>
     Own made(typename Each::Kind kind, const Key &key, const Give &give, uint64_t generation, [[maybe_unused]] uint64_t deadline = never) const {
-        Made *const object = new (std::nothrow) Made(key, give);
-        if (object == nullptr) {
+        std::unique_ptr<Made> object(new (std::nothrow) Made(key, give));
+        if (!object) {
             return Own();
         }
         if constexpr (!std::is_same_v<Made, Each>) {
@@ -285,14 +283,18 @@ template <class K, class V> class Objects {
             object->idle_deadline.store(clock_.idle_deadline(), std::memory_order_relaxed);
         }
         object->end_making(kind, generation);
-        return Own(object);
+        return Own(object.release());
     }
     template <class Key, class Give>
     [[gnu::cold]] [[gnu::noinline]] Own make_mortal(const Key &key, const Give &give, uint64_t generation, uint64_t deadline) const {
         return made<Dated>(Each::mortal, key, give, generation, deadline);
     }
+    // `put` is called with the key's lock, at each try.
     template <class Put> [[gnu::always_inline]] Changed offered(uint64_t index, Own &object, Put put) noexcept {
-        return weights_ ? offered_weighed(index, Heavy::of(*object), object, put) : ended(object, put());
+        if (is_too_deep()) {
+            return refused(Status::too_deep);
+        }
+        return weights_ ? offered_weighed(index, Heavy::of(*object), object, put) : ended(object, turns_.locked(index, put));
     }
     template <class Put> [[gnu::noinline]] Changed offered_weighed(uint64_t index, Heavy &heavy, Own &object, Put &put) noexcept {
         Weights &weights = weights_.of(index);
@@ -304,7 +306,7 @@ template <class K, class V> class Objects {
         heavy.place.index = index;
         heavy.end_making(heavy.kind(), heavy.generation());
         weights.add(heavy.weight);
-        const Swapped<1> swapped = put();
+        const Swapped<1> swapped = turns_.locked(index, put);
         Changed change = ended(object, swapped);
         if (change.status != Status::ok) {
             weights.subtract(heavy.weight);
@@ -320,12 +322,11 @@ template <class K, class V> class Objects {
     void leave(Heavy &object, bool evicted) noexcept { weights_.of(object.place.index).leave(object, evicted); }
     void retire(const Changed &change) noexcept {
         if (rules_.listener) {
+            listeners()++;
             rules_.listener(change.old->key, change.old->value, has_ended(*change.old, generation_.now()) ? Left::expired : change.why);
+            listeners()--;
         }
-        // Relaxed: a number says nothing of other memory.
-        if (rules_.weigher) {
-            waiting_.fetch_add(Heavy::of(*change.old).weight, std::memory_order_relaxed);
-        }
+        waiting_->add(1, weight_of(*change.old));
         static_cast<void>(free(epochs_.retire(*change.old)));
     }
     // Removes objects until the others are within the bound: `next` first, if there is one. Whether any was removed. It gives up if there is none left, or
@@ -349,9 +350,9 @@ template <class K, class V> class Objects {
         }
         return has_evicted;
     }
-    // Frees what it can if more than a sixteenth of the bound waits. Without a weigher nothing is counted.
+    // Frees what it can if more than a sixteenth of the bound waits. Without a weigher nothing weighs.
     void free_much() noexcept {
-        if (rules_.weigher && waiting_.load(std::memory_order_relaxed) > weights_.bound() / 16) {
+        if (rules_.weigher && waiting_->weight() > weights_.bound() / 16) {
             static_cast<void>(free_now());
         }
     }
@@ -370,12 +371,13 @@ template <class K, class V> class Objects {
         for (Retired *next = nullptr; first != nullptr; first = next, count++) {
             next = first->next;
             const Own object(static_cast<Each *>(first));
-            if (rules_.weigher) {
-                waiting_.fetch_sub(Heavy::of(*object).weight, std::memory_order_relaxed);
-            }
+            waiting_->subtract(1, weight_of(*object));
         }
         return count;
     }
+    uint64_t weight_of(Each &object) const noexcept { return rules_.weigher ? Heavy::of(object).weight : 0; }
+    // Whether the call comes from so many listeners within each other that it is refused.
+    bool is_too_deep() const noexcept { return rules_.listener && listeners() >= most_listeners; }
 
     Turns<1> turns_{};
     Generation generation_{};
@@ -384,8 +386,8 @@ template <class K, class V> class Objects {
     const Rules rules_;
     const Clock clock_;
     PartedWeights weights_{};
-    // The sum of the weights of what has left and waits to be freed.
-    std::atomic<uint64_t> waiting_{0};
+    // What has left and waits to be freed.
+    Waiting uncounted_{}, *waiting_ = &uncounted_;
 };
 
 } // namespace inside

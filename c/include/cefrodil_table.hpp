@@ -20,7 +20,8 @@ template <class V> struct Found {
 };
 
 // The answer of a put. `renewed`: it overwrote the key's value; or, by `insert_or_assign`, that of a key with the same hash, which is lost.
-// `evicted`: another key's entry is lost. An entry that was put before invalidate_all counts as another key's, but for `insert_or_assign`.
+// `evicted`: another key's entry is lost. An entry that has expired or was put before invalidate_all counts as another key's, but for
+// `insert_or_assign`.
 struct Stored {
     Status status;
     bool renewed;
@@ -45,6 +46,7 @@ template <class V, class Times = Timeless> class Table : private Packing<V, Time
         std::optional<V> value;
         uint64_t since;
         Ends ends;
+        bool has_expired; // absent: the entry is the key's, and of this generation
     };
 
     Table() = default;
@@ -114,83 +116,61 @@ template <class V, class Times = Timeless> class Table : private Packing<V, Time
             }
             const Status status = tiers_.lacks(key.index);
             if (status != Status::present || repeat >= turns().tries()) {
-                return {status == Status::present ? Status::changed : status, std::nullopt, 0, {}};
+                return {status == Status::present ? Status::changed : status, std::nullopt, 0, {}, false};
             }
         }
     }
-    // Puts whatever is there.
+    // Puts whatever is there. The generation is read with the key's lock, so what gives way is of no newer one.
     Stored put(const Identity &key, const V &value, const Life &life = {}) noexcept {
-        const uint64_t generation = generation_.now();
-        const Stored put = stored(tiers_.put(key.index, pack(in_generation(key, generation), Times::ends(life, generation), value)));
-        // It may have overwritten an entry of the next generation.
-        if (put.status == Status::ok && generation_.now() != generation) {
-            static_cast<void>(this->put(key, value, life));
-        }
-        return put;
+        const Ends ends = Times::ends(life);
+        return stored(tiers_.put(key.index, [&] { return pack_in(generation_.now(), key, ends, value); }));
     }
+    // Puts if the key is absent. An entry of an older generation gives way, and so does another key's entry under the same number.
     Stored put_if_absent(const Identity &key, const V &value, const Life &life = {}) noexcept {
+        const Ends ends = Times::ends(life);
         for (;;) {
-            const Stored put = put_if_absent_in(generation_.now(), key, value, life);
+            const Stored put = put_new(key, value, ends, [this] { return generation_.now(); });
             if (put.status != Status::stale) {
                 return put;
             }
         }
     }
-    // The same, as an entry of this generation. An entry of an older one gives way, and so does another key's entry under the same number. stale: a newer
-    // generation has begun, and what is there may be of it.
-    Stored put_if_absent_in(uint64_t generation, const Identity &key, const V &value, const Life &life = {}) noexcept {
-        const Identity known = in_generation(key, generation);
-        const Words packed = pack(known, Times::ends(life, generation), value);
-        for (uint32_t repeat = 0;; repeat++) {
-            const Stored put = stored(tiers_.put_if_absent(key.index, packed));
-            if (put.status != Status::present) {
-                return put;
-            }
-            const Entry entry = look(known, false);
-            if (entry.status != Status::absent) {
-                return {entry.status == Status::ok ? Status::present : entry.status, false, false};
-            }
-            if (generation_.now() != generation) {
-                return {Status::stale, false, false};
-            }
-            const Status status = entry.since != 0 ? put_over(known, entry.since, packed) : Status::changed;
-            if (!is_lost(status) || repeat >= turns().tries()) {
-                return {is_lost(status) ? Status::changed : status, false, status == Status::ok};
-            }
-        }
+    // The same, as an entry of this generation. stale: a newer one has begun, and what is there may be of it.
+    Stored put_if_absent_in(uint64_t generation, const Identity &key, const V &value) noexcept {
+        return put_new(key, value, Times::ends({}), [generation] { return generation; });
     }
 
     // Puts what the function makes of the key's value. If the key is absent, puts `first`, or nothing if that is null. The new entry has the generation in
     // which the old one was found.
     template <class Function> Found<V> update(const Identity &key, const V *first, const Function &function, const Life &life = {}) {
         for (uint32_t repeat = 0;; repeat++) {
-            const uint64_t generation = generation_.now();
-            const Identity known = in_generation(key, generation);
+            const Identity known = now(key);
             const Entry entry = look(known, true);
             if (entry.status != Status::ok && (entry.status != Status::absent || first == nullptr)) {
                 return {entry.status, std::nullopt};
             }
             const Found<V> tried =
-                entry.value ? renew(known, entry, function, life) : Found<V>{put_if_absent_in(generation, key, *first).status, *first};
+                entry.value ? renew(known, entry, function, life) : Found<V>{put_if_absent(key, *first).status, *first};
             if (tried.status == Status::ok) {
                 return tried;
             }
-            const bool is_late = is_lost(tried.status) || tried.status == Status::present || tried.status == Status::stale;
+            const bool is_late = is_lost(tried.status) || tried.status == Status::present;
             if (!is_late || repeat >= turns().tries()) {
                 return {is_late ? Status::changed : tried.status, std::nullopt};
             }
         }
     }
 
+    // An entry that has expired is absent, but is removed all the same: an update that found it before must not renew it.
     Status erase(const Identity &key) noexcept {
         for (uint32_t repeat = 0;; repeat++) {
             const Entry entry = look(now(key), false);
-            if (entry.status != Status::ok) {
+            if (entry.status != Status::ok && !entry.has_expired) {
                 return entry.status;
             }
             const Status status = tiers_.take_if(key.index, entry.since);
             if (status != Status::changed || repeat >= turns().tries()) {
-                return status;
+                return status == Status::ok ? entry.status : status;
             }
         }
     }
@@ -268,6 +248,9 @@ template <class V, class Times = Timeless> class Table : private Packing<V, Time
         if (seen.status == Status::ok) {
             entry.ends = ends_of(packed);
         }
+        if constexpr (Times::moments != 0) {
+            entry.has_expired = seen.status == Status::absent && seen.since != 0 && packed[0] == key.check;
+        }
         return entry;
     }
     // Begins the time to idle of an entry anew. If the entry has moved or was changed, looks it up again.
@@ -313,6 +296,34 @@ template <class V, class Times = Timeless> class Table : private Packing<V, Time
     // Whether the entry is another one than was looked up.
     static bool is_lost(Status status) noexcept { return status == Status::changed || status == Status::absent; }
 
+    Words pack_in(uint64_t generation, const Identity &key, const Ends &ends, const V &value) const noexcept {
+        return pack(in_generation(key, generation), Times::in_generation(ends, generation), value);
+    }
+    // Puts if the key is absent, as an entry of the generation that `begun()` says at each try.
+    template <class Begun> Stored put_new(const Identity &key, const V &value, const Ends &ends, const Begun &begun) noexcept {
+        for (uint32_t repeat = 0;; repeat++) {
+            const Stored put = stored(tiers_.put_if_absent(key.index, [&] { return pack_in(begun(), key, ends, value); }));
+            if (put.status != Status::present) {
+                return put;
+            }
+            const uint64_t generation = begun();
+            const Identity known = in_generation(key, generation);
+            const Entry entry = look(known, false);
+            if (entry.status == Status::ok && Times::is_due(entry.ends)) {
+                use(known, entry.since, pack(known, entry.ends, *entry.value));
+            }
+            if (entry.status != Status::absent) {
+                return {entry.status == Status::ok ? Status::present : entry.status, false, false};
+            }
+            if (generation_.now() != generation) {
+                return {Status::stale, false, false};
+            }
+            const Status status = entry.since != 0 ? put_over(known, entry.since, pack_in(generation, key, ends, value)) : Status::changed;
+            if (!is_lost(status) || repeat >= turns().tries()) {
+                return {is_lost(status) ? Status::changed : status, false, status == Status::ok};
+            }
+        }
+    }
     static Stored stored(const Written &written) noexcept { return {written.status, written.renewed, written.evicted.has_value()}; }
     Status put_over(const Identity &key, uint64_t since, const Words &packed) noexcept { return tiers_.put_if(key.index, since, packed).status; }
     // Puts what the function makes of an entry's value, if the entry is still the same.

@@ -77,17 +77,18 @@ template <size_t Words> class Tiers {
         });
     }
 
-    Written put(uint64_t key, const Value &value) noexcept {
-        return between_ ? put_in_two(key, value) : turns_.write([&](Handle<Words> &handle) { return handle.try_put(key, value); });
+    // `give()` returns what is put. It is called with the key's lock, at each try.
+    template <class Give> Written put(uint64_t key, const Give &give) noexcept {
+        return between_ ? put_in_two(key, give) : turns_.write(key, [&](Handle<Words> &handle) { return handle.try_put(key, give()); });
     }
-    Written put_if_absent(uint64_t key, const Value &value) noexcept {
-        return between_ ? put_in_two_if_absent(key, value)
-                        : turns_.write([&](Handle<Words> &handle) { return handle.try_put_if_absent(key, value); });
+    template <class Give> Written put_if_absent(uint64_t key, const Give &give) noexcept {
+        return between_ ? put_in_two_if_absent(key, give)
+                        : turns_.write(key, [&](Handle<Words> &handle) { return handle.try_put_if_absent(key, give()); });
     }
     // `since` is of `get`.
     Written put_if(uint64_t key, uint64_t since, const Value &value) noexcept {
         if (!between_) {
-            return turns_.write([&](Handle<Words> &handle) { return handle.try_put_if(key, since, value); });
+            return turns_.write(key, [&](Handle<Words> &handle) { return handle.try_put_if(key, since, value); });
         }
         return change_if(key, since, refused(Status::held), refused(Status::changed), [&](Slot<Words> &, Handle<Words> &handle, uint64_t moment) {
             return handle.try_put_if(key, moment, value);
@@ -264,12 +265,12 @@ template <size_t Words> class Tiers {
         return status == CEFRODIL_BUSY ? std::nullopt : std::optional<bool>(status == CEFRODIL_OK);
     }
 
-    [[gnu::noinline]] Written put_in_two(uint64_t key, const Value &value) noexcept {
+    template <class Give> [[gnu::noinline]] Written put_in_two(uint64_t key, const Give &give) noexcept {
         const Spot spot = between_->lines.of(key);
         spot.fetch();
         return turns_.repeated([&](Slot<Words> &slot) {
             const KeyLock::Guard locked = spot.lock();
-            return locked ? put_locked(slot, spot, value) : refused(Status::held);
+            return locked ? put_locked(slot, spot, give()) : refused(Status::held);
         });
     }
     Written put_locked(Slot<Words> &slot, const Spot &spot, const Value &value) noexcept {
@@ -282,20 +283,26 @@ template <size_t Words> class Tiers {
         }
         return *in_main ? put_main(slot, spot, value) : put_beside_main(slot, spot, value);
     }
-    [[gnu::noinline]] Written put_in_two_if_absent(uint64_t key, const Value &value) noexcept {
+    template <class Give> [[gnu::noinline]] Written put_in_two_if_absent(uint64_t key, const Give &give) noexcept {
         return turns_.repeated([&](Slot<Words> &slot) {
             return in_place(slot, key, refused(Status::held), [&](Place at, const Spot &spot) {
-                return at == Place::nowhere ? put_beside_main(slot, spot, value) : refused(Status::present);
+                return at == Place::nowhere ? put_beside_main(slot, spot, give()) : refused(Status::present);
             });
         });
     }
     // Puts a key that the main table doesn't have. A young one is put into the small table, whether that has it or not.
     Written put_beside_main(Slot<Words> &slot, const Spot &spot, const Value &value) noexcept {
         between_->settle(slot.notes);
-        if (!between_->is_full.load(std::memory_order_relaxed) || spot.take_note()) {
+        const bool is_full = between_->is_full.load(std::memory_order_relaxed), is_noted = is_full && spot.take_note();
+        if (is_noted || !is_full) {
             const std::optional<bool> in_small = is_in_small(slot, spot);
             if (!in_small || !*in_small) {
-                return in_small ? put_main(slot, spot, value) : refused(Status::held);
+                const Written put = in_small ? put_main(slot, spot, value) : refused(Status::held);
+                // The next try finds the note again.
+                if (is_noted && put.status == Status::held) {
+                    spot.note();
+                }
+                return put;
             }
         }
         const Written put = put_small(slot, spot, value);
@@ -342,16 +349,17 @@ template <size_t Words> class Tiers {
     // Makes the change in the table of which `since` is. If the key is elsewhere by now, or nowhere, it was changed.
     template <class Answer, class Change> Answer change_if(uint64_t key, uint64_t since, Answer held, Answer changed, Change change) noexcept {
         return turns_.repeated([&](Slot<Words> &slot) {
-            if (!is_of_small(since) && !between_->has_copies.load()) {
-                const KeyLock::Guard locked = between_->lines.of(key).lock();
-                return locked ? change(slot, slot.handle, since) : held;
+            const Spot spot = between_->lines.of(key);
+            const KeyLock::Guard locked = spot.lock();
+            // A move may leave a copy until this has the lock.
+            if (locked && !is_of_small(since) && !between_->has_copies.load()) {
+                return change(slot, slot.handle, since);
             }
-            return in_place(slot, key, held, [&](Place at, const Spot &) {
-                if (at != (is_of_small(since) ? Place::small : Place::main)) {
-                    return changed;
-                }
-                return change(slot, at == Place::small ? slot.small : slot.handle, since & ~of_small);
-            });
+            const std::optional<Place> at = locked ? place(slot, spot) : std::nullopt;
+            if (!at || *at != (is_of_small(since) ? Place::small : Place::main)) {
+                return at ? changed : held;
+            }
+            return change(slot, *at == Place::small ? slot.small : slot.handle, since & ~of_small);
         });
     }
 

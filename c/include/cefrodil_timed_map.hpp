@@ -12,8 +12,8 @@
 //     }
 //
 // It has all calls of cefrodil::map, and insert_for, insert_or_assign_for, update_for and erase_expired. Values have up to 40 bytes. What has expired is
-// absent for all calls, and so is what invalidate_all has ended. It takes room until others overwrite or evict it, or until erase_expired, and `size`
-// counts it.
+// absent for all calls, and so is what invalidate_all has ended. It takes room until others overwrite or evict it, or until erase or erase_expired, and
+// `size` counts it.
 //
 // A put begins both times anew, also over a value. An update and each call that finds the entry begin the time to idle anew, but `peek` does not. For that
 // a lookup writes the entry again, if more than a sixteenth of the time has passed since the last such write. It waits for its turn as a write does. So
@@ -48,9 +48,13 @@ class Timed {
     Timed() : Timed(Lives()) {}
     explicit Timed(const Lives &lives) : clock_(lives), last_bits_(last_bits_for(clock_)) {}
 
-    Ends ends(const Life &life, uint64_t generation) const noexcept { return {deadline(life), idle_deadline(generation)}; }
+    Ends ends(const Life &life) const noexcept { return {deadline(life), clock_.idle_deadline()}; }
+    // The same with the last bits of the generation: the last moment up to that deadline that has them.
+    Ends in_generation(const Ends &ends, uint64_t generation) const noexcept { return {ends[0], ends[1] - ((ends[1] - generation) & last_bits_)}; }
     // Those of what replaces an entry with such ends, in its generation.
-    Ends renewed(const Ends &old, const Life &life) const noexcept { return {life ? deadline(life) : old[0], idle_deadline(old[1])}; }
+    Ends renewed(const Ends &old, const Life &life) const noexcept {
+        return in_generation({life ? deadline(life) : old[0], clock_.idle_deadline()}, old[1]);
+    }
     bool have_passed(const Ends &ends) const noexcept { return clock_.has_passed(std::min(ends[0], ends[1])); }
     // Whether they are those of an entry of this generation. Generations are told apart by their last bits: 2^32 in a row or, with a time to idle, at
     // least one for each 512 ns of it.
@@ -60,11 +64,6 @@ class Timed {
 
   private:
     uint64_t deadline(const Life &life) const noexcept { return life ? clock_.deadline_after(*life) : clock_.deadline(); }
-    // The last moment up to the deadline that has the last bits of the generation.
-    uint64_t idle_deadline(uint64_t generation) const noexcept {
-        const uint64_t deadline = clock_.idle_deadline();
-        return deadline - ((deadline - generation) & last_bits_);
-    }
     // They take less than 1/256 of the time to idle, or, without one, 32 bits of a deadline that is never reached.
     static uint64_t last_bits_for(const Clock &clock) noexcept {
         const uint64_t most = clock.has_idle() ? clock.idle_time() / 256 : uint64_t(1) << 32;

@@ -16,7 +16,8 @@ struct Timeless {
     struct Life {};
     using Ends = std::array<uint64_t, 0>;
 
-    static Ends ends(Life, uint64_t) noexcept { return {}; }
+    static Ends ends(Life) noexcept { return {}; }
+    static Ends in_generation(const Ends &, uint64_t) noexcept { return {}; }
     static Ends renewed(const Ends &, Life) noexcept { return {}; }
     static bool have_passed(const Ends &) noexcept { return false; }
     static bool are_of(const Ends &, uint64_t) noexcept { return true; }

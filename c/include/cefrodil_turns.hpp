@@ -2,6 +2,7 @@
 #ifndef CEFRODIL_TURNS_HPP
 #define CEFRODIL_TURNS_HPP
 
+#include "cefrodil_key_locks.hpp"
 #include "cefrodil_passes.hpp"
 #include <algorithm>
 #include <array>
@@ -121,9 +122,16 @@ template <size_t Words> class Turns {
         }
         return status;
     }
-    // Makes a put, and counts a new key.
-    template <class Write> Written write(Write make) noexcept {
+    // The same with the key's lock.
+    template <class Call> auto locked(uint64_t key, Call call) noexcept {
         return repeated([&](Slot<Words> &slot) {
+            const KeyLock::Guard guard = locks_.of(key).lock();
+            return guard ? call(slot) : held_of<decltype(call(slot))>();
+        });
+    }
+    // Makes a put with the key's lock, and counts a new key.
+    template <class Write> Written write(uint64_t key, Write make) noexcept {
+        return locked(key, [&](Slot<Words> &slot) {
             const Written tried = make(slot.handle);
             slot.add(tried.status == Status::ok && !tried.renewed && !tried.evicted ? 1 : 0);
             return tried;
@@ -146,14 +154,21 @@ template <size_t Words> class Turns {
     uint64_t keys() const noexcept { return static_cast<uint64_t>(std::max<int64_t>(0, passes_.keys())); }
     uint64_t capacity() const noexcept { return capacity_; }
     Meter meter() const noexcept { return passes_.shared().meter(); }
+    // What the meter reads. Null: nothing is counted.
+    const std::shared_ptr<Lines> &lines() const noexcept { return Counting::lines(passes_.shared()); }
     uint64_t shared_calls() const noexcept { return passes_.shared_calls(); }
 
   private:
+    // The answer of a call that another thread keeps from its lock.
+    template <class Written> static Written held_of() noexcept {
+        Written answer{};
+        answer.status = Status::held;
+        return answer;
+    }
     // Counts a call that ends without an answer, if it slept.
     [[gnu::cold]] [[gnu::noinline]] void give_up(uint32_t most) noexcept {
-        const std::shared_ptr<Lines> &lines = Counting::lines(passes_.shared());
-        if (lines && most > sleeps_from) {
-            lines->stalls().give_up();
+        if (lines() && most > sleeps_from) {
+            lines()->stalls().give_up();
         }
     }
     [[gnu::cold]] [[gnu::noinline]] Seen get_again(uint64_t key, uint32_t most, std::array<uint64_t, Words> &value) noexcept {
@@ -179,6 +194,7 @@ template <size_t Words> class Turns {
     static constexpr uint32_t all_stripes = 4096, stripes_of_a_shard = 64;
 
     Passes<Words> passes_{};
+    KeyLocks locks_{};
     uint32_t tries_ = 0, looks_ = 0;
     uint64_t capacity_ = 0;
 };

@@ -274,10 +274,16 @@ static void printed() {
                                  "cefrodil_given_up_total{cache=\"names\"} 7\ncefrodil_given_up_total{cache=\"a\\\"b\\\\c\\nd\"} 0\n"
                                  "# HELP cefrodil_stalled_seconds For how long calls of a map have given up.\n"
                                  "# TYPE cefrodil_stalled_seconds gauge\n"
-                                 "cefrodil_stalled_seconds{cache=\"names\"} 8\ncefrodil_stalled_seconds{cache=\"a\\\"b\\\\c\\nd\"} 0\n";
+                                 "cefrodil_stalled_seconds{cache=\"names\"} 8\ncefrodil_stalled_seconds{cache=\"a\\\"b\\\\c\\nd\"} 0\n"
+                                 "# HELP cefrodil_waiting_objects Objects that have left a map and wait to be freed.\n"
+                                 "# TYPE cefrodil_waiting_objects gauge\n"
+                                 "cefrodil_waiting_objects{cache=\"names\"} 9\ncefrodil_waiting_objects{cache=\"a\\\"b\\\\c\\nd\"} 0\n"
+                                 "# HELP cefrodil_waiting_weight What the objects weigh that wait to be freed.\n"
+                                 "# TYPE cefrodil_waiting_weight gauge\n"
+                                 "cefrodil_waiting_weight{cache=\"names\"} 10\ncefrodil_waiting_weight{cache=\"a\\\"b\\\\c\\nd\"} 0\n";
     Counts most_hits;
     most_hits.hits = UINT64_MAX;
-    MUST(prometheus({{"names", {1, 2, 3, 4, 5, 6, 7, 8}}, {"a\"b\\c\nd", most_hits}}) == expected);
+    MUST(prometheus({{"names", {1, 2, 3, 4, 5, 6, 7, 8, 9, 10}}, {"a\"b\\c\nd", most_hits}}) == expected);
 }
 
 int main() {

@@ -98,7 +98,34 @@ static int children_end_well() {
     return ended;
 }
 
+// How often a lock of these passes was taken.
+static int locks = 0;
+struct CountedLocks {
+    template <class T> using Atomic = std::atomic<T>;
+    struct Mutex {
+        void lock() { locks++; }
+        void unlock() {}
+    };
+};
+
+// A thread of the parent's may have had the lock of the passes when the process forked. So a child takes it at no thread's end.
+static void a_child_takes_no_lock_for_its_pass() {
+    cefrodil::inside::FreePassesOf<CountedLocks> passes(3);
+    const size_t pass = passes.take();
+    MUST(pass != 0 && locks == 1);
+    const pid_t child = fork();
+    if (child == 0) {
+        passes.give(pass);
+        _exit(locks == 1 ? 0 : 2);
+    }
+    int status = -1;
+    MUST(waitpid(child, &status, 0) == child && WIFEXITED(status) && WEXITSTATUS(status) == 0);
+    passes.give(pass);
+    MUST(locks == 2 && passes.count() == 2);
+}
+
 int main() {
+    a_child_takes_no_lock_for_its_pass();
     const auto shape = cefrodil::shape_for_items(2000);
     MUST(shape && map.open({100000}) == Status::ok && small_first.open({KEYS, 1, 64, 10000, true}) == Status::ok);
     MUST(cefrodil::open(*shape, 1, 3, handles) == Status::ok);

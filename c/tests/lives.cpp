@@ -36,10 +36,12 @@ static void deadlines() {
     heard.clear();
     now = 1100;
     MUST(!numbers.find(1) && !numbers.contains(2) && numbers.look(1, [](uint64_t) {}) == Status::absent && numbers.size() == 2);
-    MUST(numbers.update(2, [](uint64_t old) { return old + 1; }) == Status::absent && numbers.erase(2) == Status::absent);
+    MUST(numbers.update(2, [](uint64_t old) { return old + 1; }) == Status::absent);
     MUST(numbers.insert(1, 12).status == Status::ok && numbers.find(1) == 12u && numbers.size() == 2);
     MUST(heard.size() == 1 && heard[0] == std::make_pair(uint64_t(1), Left::expired));
-    MUST(numbers.erase_expired() == Status::ok && numbers.size() == 1 && heard.size() == 2 && heard[1] == std::make_pair(uint64_t(2), Left::expired));
+    // It is gone, and the function does not see it.
+    const auto see = [](uint64_t) { MUST(false); };
+    MUST(numbers.erase(2, see) == Status::absent && numbers.size() == 1 && heard.size() == 2 && heard[1] == std::make_pair(uint64_t(2), Left::expired));
     MUST(numbers.erase_expired() == Status::ok && numbers.size() == 1 && numbers.find(1) == 12u);
     // A put over a value begins the time anew.
     now = 1150;
@@ -195,9 +197,26 @@ static void threads(uint64_t calls) {
     threads_find_nothing_that_has_ended(map, calls);
 }
 
+// A lookup begins the time to idle anew if more than a sixteenth of it has passed. So threads that find an object seldom store in it.
+static void idle_time_moves_by_a_sixteenth() {
+    now = 0;
+    Numbers numbers;
+    MUST(numbers.open({1000}, living(forever, nanoseconds(1600))) == Status::ok && numbers.insert(1, 10).status == Status::ok);
+    MUST(numbers.insert(2, 20).status == Status::ok);
+    now = 100;
+    MUST(numbers.find(1) == 10u);
+    now = 101;
+    MUST(numbers.find(2) == 20u);
+    now = 1600;
+    MUST(!numbers.peek(1).value && numbers.peek(2).value == 20u);
+    now = 1701;
+    MUST(!numbers.peek(2).value);
+}
+
 int main(int argc, char **argv) {
     const uint64_t less = argc > 1 ? std::strtoull(argv[1], nullptr, 10) : 1;
     deadlines();
+    idle_time_moves_by_a_sixteenth();
     lives_of_entries();
     idle();
     computed();

@@ -288,7 +288,68 @@ static void calls_are_repeated_while_they_are_busy() {
     MUST(numbers.table.find({the_key, the_key}, value) == Status::busy && !value && busy_lookups == 0 && numbers.find(the_key) == 10);
 }
 
+// A move can't take the key out of the small table, which another thread has. A write has the moment of the main table's entry, and has not tried the
+// key's lock yet. It changes the copy, too.
+static void a_write_sees_the_copy_of_a_move_that_ends_before_its_lock() {
+    for (const bool erases : {true, false}) {
+        Numbers numbers;
+        Numbers::with_young(numbers);
+        std::atomic<bool> is_at_lock{false}, has_moved{false};
+        Status status = Status::closed;
+        std::thread writer;
+        const auto write = [&] {
+            before_lock = [&] {
+                is_at_lock = true;
+                while (!has_moved) {
+                    std::this_thread::yield();
+                }
+            };
+            status = erases ? numbers.erase(the_key) : numbers.update(the_key, next).status;
+        };
+        numbers.while_held([&] {
+            // After the put into the main table.
+            before = 4;
+            act = [&] {
+                writer = std::thread(write);
+                while (!is_at_lock) {
+                    std::this_thread::yield();
+                }
+            };
+            MUST(numbers.find(the_key) == 10 && !act && numbers.where(the_key) == In::both);
+            has_moved = true;
+            writer.join();
+        });
+        const bool is_changed = status == Status::ok;
+        MUST(numbers.find(the_key) == (!is_changed ? 10u : erases ? 0u : 11u));
+        MUST(!is_changed || numbers.where(the_key) != In::both);
+    }
+}
+
+// A key that left the small table goes to the main one when it is put again, also if the first try is held there.
+static void a_put_that_is_held_keeps_the_note() {
+    Numbers numbers;
+    Numbers::with_young(numbers).evict(the_key);
+    MUST(numbers.put(200, 0) == Status::ok && numbers.where(the_key) == In::none);
+    std::atomic<int> step{0};
+    std::thread holding([&] {
+        Numbers::Writing writing;
+        Numbers::Slot *const slot = numbers.table.tiers().turns().own_slot();
+        MUST(slot != nullptr && slot->handle.hold(writing) == Status::ok);
+        for (step = 1; step != 2;) {
+            std::this_thread::yield();
+        }
+    });
+    while (step != 1) {
+        std::this_thread::yield();
+    }
+    MUST(numbers.put(the_key, 11) == Status::held);
+    step = 2;
+    holding.join();
+    MUST(numbers.put(the_key, 12) == Status::ok && numbers.where(the_key) == In::main);
+}
+
 int main() {
+    a_write_sees_the_copy_of_a_move_that_ends_before_its_lock();
     a_lookup_finds_a_key_that_moves_meanwhile();
     a_lookup_finds_it_though_a_pass_comes_back_that_knows_of_the_move();
     a_lookup_finds_a_key_that_is_evicted_while_it_moves();
@@ -302,5 +363,6 @@ int main() {
     a_move_waits_for_no_write();
     a_write_on_a_condition_tells_the_tables_apart();
     calls_are_repeated_while_they_are_busy();
+    a_put_that_is_held_keeps_the_note();
     return outcome("map_moves");
 }

@@ -288,7 +288,8 @@ static void a_copy_goes_like_any_key() {
     MUST(numbers.where(the_key) == In::main && numbers.find(the_key) == 10 && numbers.size() == 44);
 }
 
-// Another thread begins the next generation and puts the key between two calls of the index. One table, where a write has no lock meanwhile.
+// Another thread begins the next generation and puts the key before a call of the index, in a map with one table. A put of this thread has the key's
+// lock then: so the other put is held, and this one is of the generation before. Otherwise this thread finds what the other one has put.
 static void a_write_beside_the_next_generation() {
     Numbers::Table table;
     MUST(table.open(40, 1, 64, 5, CEFRODIL_MIX_FULL, false) == Status::ok);
@@ -298,29 +299,31 @@ static void a_write_beside_the_next_generation() {
         static_cast<void>(table.find(key, value));
         return value.value_or(0);
     };
+    Status other = Status::closed;
     const auto put_later = [&] {
         table.generation().begin_next();
-        MUST(table.put(key, 20).status == Status::ok);
+        other = table.put(key, 20).status;
     };
     MUST(table.put(key, 10).status == Status::ok && found() == 10);
     table.generation().begin_next();
     MUST(found() == 0 && table.put(key, 11).status == Status::ok && found() == 11);
-    // A put over that of the next generation is found.
     before_call(0, put_later);
-    MUST(table.put(key, 12).status == Status::ok && found() == 12);
-    // No entry of the next generation is taken for an older one.
-    table.generation().begin_next();
-    const uint32_t calls = calls_of([&] { MUST(table.put_if_absent(key, 13).status == Status::ok); });
-    MUST(calls == 3);
-    for (uint32_t others = 0; others < calls; others++) {
+    MUST(table.put(key, 12).status == Status::ok && other == Status::held && found() == 0);
+    MUST(calls_of([&] { MUST(table.put_if_absent(key, 13).status == Status::ok); }) == 3);
+    // The first and the last of these calls is a put. The second one looks at what is there.
+    const uint64_t inserted[] = {14, 20, 0}, updated[] = {21, 15, 21, 0}, first = 15;
+    for (uint32_t others = 0; others < 3; others++) {
         table.generation().begin_next();
         before_call(others, put_later);
-        MUST(table.put_if_absent(key, 14).status == Status::present && found() == 20);
+        const Status own = table.put_if_absent(key, 14).status;
+        MUST(own == (others == 1 ? Status::present : Status::ok) && other == (others == 1 ? Status::ok : Status::held) && found() == inserted[others]);
+    }
+    // Here a look is the first one.
+    for (uint32_t others = 0; others < 4; others++) {
         table.generation().begin_next();
-        const uint64_t first = 15;
         before_call(others, put_later);
-        const auto updated = table.update(key, &first, [](uint64_t old) { return old + 1; });
-        MUST(updated.status == Status::ok && updated.value == 21u && found() == 21);
+        const auto own = table.update(key, &first, [](uint64_t old) { return old + 1; });
+        MUST(own.status == Status::ok && own.value == (others % 2 == 0 ? 21u : 15u) && found() == updated[others]);
     }
 }
 

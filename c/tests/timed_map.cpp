@@ -23,7 +23,7 @@ static void deadlines() {
     MUST(numbers.erase_expired() == Status::closed && numbers.insert_for(1, 1, forever).status == Status::closed);
     MUST(numbers.insert_or_assign_for(1, 1, forever).status == Status::closed && numbers.update_for(1, forever, next).status == Status::closed);
     MUST(numbers.open({1000}, living(nanoseconds(100))) == Status::ok && numbers.open({1000}, living(forever)) == Status::in_use);
-    MUST(numbers.insert(1, 10).status == Status::ok && numbers.insert(2, 20).status == Status::ok);
+    MUST(numbers.insert(1, 10).status == Status::ok && numbers.insert(2, 20).status == Status::ok && numbers.insert(3, 30).status == Status::ok);
     now = 1099;
     MUST(numbers.find(1) == 10u && numbers.contains(2) && numbers.insert(1, 11).status == Status::present);
     MUST(numbers.update(2, next).value == 21u && numbers.find(2) == 21u);
@@ -31,8 +31,8 @@ static void deadlines() {
     MUST(!numbers.find(1) && !numbers.contains(2) && numbers.get(1).status == Status::absent && numbers.peek(1).status == Status::absent);
     const uint64_t keys[2] = {1, 2};
     std::optional<uint64_t> values[2];
-    MUST(numbers.find_many(keys, 2, values) == 0 && numbers.size() == 2);
-    MUST(numbers.update(2, next).status == Status::absent && numbers.erase(2) == Status::absent);
+    MUST(numbers.find_many(keys, 2, values) == 0 && numbers.size() == 3);
+    MUST(numbers.update(2, next).status == Status::absent && numbers.erase(2) == Status::absent && numbers.size() == 2);
     MUST(numbers.insert(1, 12).status == Status::ok && numbers.find(1) == 12u && numbers.size() == 2);
     MUST(numbers.erase_expired() == Status::ok && numbers.size() == 1 && numbers.find(1) == 12u);
     MUST(numbers.erase_expired() == Status::ok && numbers.size() == 1);
@@ -113,6 +113,19 @@ static void idle() {
     MUST(only_idle.find(3) == 3u);
     now += 160;
     MUST(!only_idle.find(3));
+}
+
+// So does an insert that finds its key.
+static void idle_after_an_insert() {
+    now = 0;
+    Numbers numbers;
+    MUST(numbers.open({1000}, living(forever, nanoseconds(1600))) == Status::ok && numbers.insert(1, 10).status == Status::ok);
+    now = 1000;
+    MUST(numbers.insert(1, 11).status == Status::present);
+    now = 2000;
+    MUST(numbers.peek(1).value == 10u);
+    now = 2600;
+    MUST(!numbers.peek(1).value);
 }
 
 // A lookup that moves the key to the main table begins its time to idle anew, too.
@@ -225,6 +238,7 @@ int main(int argc, char **argv) {
     deadlines();
     lives_of_entries();
     idle();
+    idle_after_an_insert();
     idle_in_two_tables();
     expired_in_the_small_table();
     for (const auto to_idle : {forever, nanoseconds(1024), nanoseconds(std::chrono::hours(1))}) {

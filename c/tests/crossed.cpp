@@ -1,0 +1,128 @@
+// Calls that another one meets in the middle: between a put's call of the index and its end, between an entry's end and its update, and before a key's
+// lock. What such a put or update made is not found a second time, and what was erased does not come back.
+#include "cefrodil.h"
+#include <functional>
+#include <utility>
+
+// What this thread does after its next put into the index.
+static thread_local std::function<void()> then;
+static cefrodil_status ended(cefrodil_status status) {
+    if (then) {
+        std::exchange(then, nullptr)();
+    }
+    return status;
+}
+#define cefrodil_put_of_width(...) ended(cefrodil_put_of_width(__VA_ARGS__))
+#define cefrodil_swap(...) ended(cefrodil_swap(__VA_ARGS__))
+#include "cefrodil_object_map.hpp"
+#include "cefrodil_timed_map.hpp"
+#include "must.h"
+#include <chrono>
+#include <thread>
+
+using cefrodil::Status;
+using std::chrono::nanoseconds;
+using Map = cefrodil::map<uint64_t, uint64_t>;
+using Timed = cefrodil::timed_map<uint64_t, uint64_t>;
+using Objects = cefrodil::object_map<uint64_t, uint64_t>;
+
+static std::atomic<int64_t> now{0};
+static nanoseconds clock_now() { return nanoseconds(now.load()); }
+
+// One thread has put a value, and its call has not ended yet. Another one finds the value, invalidates it, and puts the next one.
+template <class Any> static void put_that_is_invalidated(Any &map) {
+    std::atomic<int> step{0};
+    std::thread other;
+    const auto act = [&] {
+        MUST(map.find(1) == 10u && map.invalidate_all() == Status::ok && !map.find(1));
+        step = 1;
+        MUST(map.insert_or_assign(1, 20).status == Status::ok && map.find(1) == 20u);
+        step = 2;
+    };
+    then = [&] {
+        other = std::thread(act);
+        while (step == 0) {
+            std::this_thread::yield();
+        }
+        // It may wait for this call.
+        for (int n = 0; n < 100 && step == 1; n++) {
+            std::this_thread::sleep_for(std::chrono::milliseconds(1));
+        }
+    };
+    MUST(map.insert_or_assign(1, 10).status == Status::ok && !then);
+    other.join();
+    MUST(map.find(1) == 20u);
+}
+
+static void puts_that_are_invalidated() {
+    cefrodil::MapOptions options{100, 1};
+    for (const bool small_table : {false, true}) {
+        options.small_table = small_table;
+        Map map;
+        Timed timed;
+        Objects objects, weighed;
+        Objects::Rules rules;
+        rules.weigher = [](uint64_t, uint64_t) { return uint64_t(1); };
+        MUST(map.open(options) == Status::ok && timed.open(options) == Status::ok && objects.open(options) == Status::ok);
+        MUST(weighed.open(options, rules) == Status::ok);
+        put_that_is_invalidated(map);
+        put_that_is_invalidated(timed);
+        put_that_is_invalidated(objects);
+        put_that_is_invalidated(weighed);
+    }
+}
+
+static Status status_of(Status status) { return status; }
+static Status status_of(const cefrodil::Found<uint64_t> &found) { return found.status; }
+
+// The entry ends while the function of an update runs, and another call says that it is gone.
+template <class Any> static void update_of_what_has_ended(Any &map) {
+    now = 0;
+    MUST(map.insert_for(1, 10, nanoseconds(100)).status == Status::ok);
+    const auto next = [&](uint64_t old) {
+        now = 200;
+        MUST(map.erase(1) == Status::absent && map.size() == 0);
+        return old + 1;
+    };
+    MUST(status_of(map.update_for(1, std::chrono::hours(1), next)) == Status::absent && !map.find(1) && map.size() == 0);
+}
+
+static void updates_of_what_has_ended() {
+    cefrodil::Lives lives;
+    lives.clock = clock_now;
+    Objects::Rules rules;
+    rules.lives = lives;
+    Timed timed;
+    Objects objects;
+    MUST(timed.open({100}, lives) == Status::ok && objects.open({100}, rules) == Status::ok);
+    update_of_what_has_ended(timed);
+    update_of_what_has_ended(objects);
+}
+
+// The ended entry of a key is taken out while its value is put that was computed: after the put was refused for it.
+static void computed_over_what_is_taken_out() {
+    Objects::Rules rules;
+    std::function<void()> act;
+    rules.lives.clock = [&] {
+        if (act) {
+            std::exchange(act, nullptr)();
+        }
+        return clock_now();
+    };
+    now = 0;
+    Objects map;
+    MUST(map.open({100}, rules) == Status::ok && map.insert_for(1, 10, nanoseconds(100)).status == Status::ok);
+    now = 200;
+    const auto compute = [&] {
+        act = [&] { std::thread([&] { MUST(map.erase_expired() == Status::ok && map.size() == 0); }).join(); };
+        return uint64_t(11);
+    };
+    MUST(map.find_or_compute(1, compute).status == Status::ok && !act && map.find(1) == 11u);
+}
+
+int main() {
+    puts_that_are_invalidated();
+    updates_of_what_has_ended();
+    computed_over_what_is_taken_out();
+    return outcome("crossed");
+}

@@ -1,0 +1,138 @@
+// What has left a map of objects: it is counted while it waits to be freed, it is freed soon, and the bound on weights is kept by whoever makes it leave.
+// A listener may write, but not within too many others.
+#include "cefrodil.h"
+#include <functional>
+#include <utility>
+
+// What this thread does before it next takes an entry out of the index.
+static thread_local std::function<void()> act;
+static cefrodil_status first_take_if(cefrodil_handle *handle, uint64_t key, uint64_t since, uint64_t *old, size_t words, cefrodil_reply *reply) {
+    if (act) {
+        std::exchange(act, nullptr)();
+    }
+    return cefrodil_take_if(handle, key, since, old, words, reply);
+}
+#define cefrodil_take_if first_take_if
+#include "cefrodil_object_map.hpp"
+#include "must.h"
+#include <malloc.h>
+#include <thread>
+
+using cefrodil::Left;
+using cefrodil::Status;
+using Map = cefrodil::object_map<uint64_t, uint64_t>;
+
+static std::string printed(const Map &map) { return cefrodil::prometheus({{"map", map.meter().counts()}}); }
+
+// While a function of `look` runs, all that has left waits.
+static void what_waits_is_counted() {
+    Map map;
+    Map::Rules rules;
+    rules.weigher = [](uint64_t, uint64_t value) { return value; };
+    rules.most_weight = 100;
+    MUST(map.waiting() == 0 && map.waiting_weight() == 0 && map.open({100}, rules) == Status::ok);
+    for (uint64_t key = 0; key < 10; key++) {
+        MUST(map.insert(key, uint64_t(10)).status == Status::ok);
+    }
+    const auto see = [&](uint64_t) {
+        for (uint64_t n = 0; n < 100; n++) {
+            MUST(map.insert_or_assign(5, uint64_t(10)).status == Status::ok);
+        }
+        const cefrodil::Counts counts = map.meter().counts();
+        MUST(map.waiting() == 100 && map.waiting_weight() == 1000 && counts.waiting == 100 && counts.waiting_weight == 1000 && map.weight() == 100);
+        MUST(printed(map).find("cefrodil_waiting_objects{cache=\"map\"} 100\n") != std::string::npos);
+        MUST(printed(map).find("cefrodil_waiting_weight{cache=\"map\"} 1000\n") != std::string::npos);
+    };
+    MUST(map.look(1, see) == Status::ok && map.free_unused() == 100 && map.waiting() == 0 && map.waiting_weight() == 0);
+}
+
+// Nothing is counted in a map without a weigher but the objects. Once no call keeps them, few wait.
+static void few_wait_after_a_look() {
+    Map map;
+    MUST(map.open({1000}) == Status::ok);
+    for (uint64_t key = 0; key < 400; key++) {
+        MUST(map.insert(key, uint64_t(1)).status == Status::ok);
+    }
+    const auto see = [&](uint64_t) {
+        for (uint64_t key = 0; key < 40; key++) {
+            MUST(map.erase(key) == Status::ok);
+        }
+        MUST(map.waiting() == 40 && map.waiting_weight() == 0);
+    };
+    MUST(map.look(399, see) == Status::ok);
+    for (uint64_t key = 40; key < 240; key++) {
+        MUST(map.erase(key) == Status::ok);
+    }
+    MUST(map.waiting() < 40);
+}
+
+// Another thread has erased the object that a put has chosen to leave. The put goes on with the next one.
+static void a_victim_is_erased_meanwhile() {
+    Map map;
+    Map::Rules rules;
+    rules.weigher = [](uint64_t, uint64_t value) { return value; };
+    rules.most_weight = 100;
+    std::vector<uint64_t> left;
+    rules.listener = [&](const uint64_t &key, const uint64_t &, Left) { left.push_back(key); };
+    MUST(map.open({100}, rules) == Status::ok);
+    for (uint64_t key = 0; key < 10; key++) {
+        MUST(map.insert(key, uint64_t(10)).status == Status::ok);
+    }
+    act = [&] { std::thread([&] { MUST(map.erase(0) == Status::ok); }).join(); };
+    MUST(map.insert(10, uint64_t(20)).status == Status::ok && !act && map.contains(10));
+    MUST(map.weight() == 100 && left.size() == 2 && left[0] == 0);
+}
+
+// A thread that opens and closes maps keeps nothing of them.
+static void closed_maps_leave_nothing() {
+    const auto open_and_close = [](int times) {
+        for (int n = 0; n < times; n++) {
+            Map map;
+            MUST(map.open({10}) == Status::ok && map.insert(1, uint64_t(1)).status == Status::ok);
+        }
+        return mallinfo2().uordblks;
+    };
+    const size_t before = open_and_close(300), after = open_and_close(1000);
+    MUST(after < before + 100000);
+}
+
+// A listener that puts back what was evicted evicts another object, of which it hears, too. Within 16 listeners its puts are refused.
+static void listeners_that_put() {
+    Map map;
+    uint64_t depth = 0, deepest = 0, refused = 0;
+    const auto put_back = [&](const uint64_t &key, const uint64_t &value, Left) {
+        deepest = std::max(deepest, ++depth);
+        const Status status = map.insert(key, uint64_t(value)).status;
+        refused += status == Status::too_deep;
+        MUST(status == Status::ok || (status == Status::too_deep && depth == 16));
+        MUST(depth < 16 || (map.erase(key) == Status::absent && map.insert_or_assign(key, uint64_t(0)).status == Status::too_deep));
+        depth--;
+    };
+    MUST(map.open({40, 1}, put_back) == Status::ok);
+    for (uint64_t key = 0; key < 200; key++) {
+        MUST(map.insert(key, uint64_t(key)).status == Status::ok);
+    }
+    MUST(deepest == 16 && refused > 0 && map.size() <= map.capacity() && map.contains(199));
+    MUST(std::string(cefrodil::text(Status::too_deep)) == "too many listeners within each other");
+}
+
+// A listener that removes the next key: the last of 16 removes none.
+static void listeners_that_erase() {
+    Map map;
+    const auto erase_next = [&](const uint64_t &key, const uint64_t &, Left) { static_cast<void>(map.erase(key + 1)); };
+    MUST(map.open({1000}, erase_next) == Status::ok);
+    for (uint64_t key = 0; key < 100; key++) {
+        MUST(map.insert(key, uint64_t(key)).status == Status::ok);
+    }
+    MUST(map.erase(0) == Status::ok && map.size() == 84 && map.contains(16) && !map.contains(15));
+}
+
+int main() {
+    what_waits_is_counted();
+    few_wait_after_a_look();
+    a_victim_is_erased_meanwhile();
+    closed_maps_leave_nothing();
+    listeners_that_put();
+    listeners_that_erase();
+    return outcome("left");
+}
