@@ -133,6 +133,16 @@ fn who_holds_most_for_longest_is_cut_off() {
 }
 
 #[test]
+fn who_has_held_less_for_much_longer_is_cut_off() {
+    let seats = Seats::new(2, 1_000);
+    let (mut first, mut second) = (seats.take().expect("a seat is free"), seats.take().expect("a seat is free"));
+    first.hold(FREE + 400, None);
+    sleep(Duration::from_millis(20));
+    second.hold(FREE + 601, None);
+    assert_eq!([&first, &second].map(|seat| seat.cut().is_some()), [true, false]);
+}
+
+#[test]
 fn a_few_bytes_of_each_client_do_not_count() {
     let seats = Seats::new(100, 0);
     let mut all: Vec<_> = (0..100).map_while(|_| seats.take()).collect();
