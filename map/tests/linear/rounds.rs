@@ -70,10 +70,10 @@ impl Caller<'_> {
 
 /// What a call computes takes a while, so that others come between.
 pub fn take_a_while(value: u64) {
-    match value % 4 {
-        0 => {}
-        1 => thread::yield_now(),
-        _ => thread::sleep(Duration::from_micros(value % 64)),
+    match value % 8 {
+        0 => thread::sleep(Duration::from_micros(20)),
+        1..=3 => thread::yield_now(),
+        _ => {}
     }
 }
 
