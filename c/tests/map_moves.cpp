@@ -1,6 +1,21 @@
 // A move from the small table to the main one crosses no write, and hides no key. What other threads do is done before a call of the index.
-#include "small_table.hpp"
+#include <array>
+#include <atomic>
+#include <functional>
+#include <utility>
 #include <vector>
+
+// What this thread does before it next tries a key's lock.
+static thread_local std::function<void()> before_lock;
+static void lock_begins() {
+    if (before_lock) {
+        std::exchange(before_lock, nullptr)();
+    }
+}
+#define exchange(value, order) exchange((lock_begins(), value), order)
+#include "cefrodil_key_locks.hpp"
+#undef exchange
+#include "small_table.hpp"
 
 static uint64_t same(uint64_t old) { return old; }
 static uint64_t next(uint64_t old) { return old + 1; }

@@ -4,8 +4,6 @@
 
 #include "cefrodil.h"
 #include "must.h"
-#include <array>
-#include <atomic>
 #include <functional>
 #include <thread>
 #include <utility>
@@ -13,17 +11,6 @@
 // How many calls of the index this thread makes, and what it does before one of them: after so many others. So many lookups are busy.
 static thread_local uint32_t made = 0, before = 0, busy_lookups = 0;
 static thread_local std::function<void()> act;
-
-// What this thread does before it next tries a key's lock.
-static thread_local std::function<void()> before_lock;
-static void lock_begins() {
-    if (before_lock) {
-        std::exchange(before_lock, nullptr)();
-    }
-}
-#define exchange(value, order) exchange((lock_begins(), value), order)
-#include "cefrodil_key_locks.hpp"
-#undef exchange
 
 static void call_begins() {
     made++;
