@@ -54,11 +54,14 @@ template <class K, class V, class Hash, class Equal> struct KeyedObjects {
     Seen look_to_take(const Identity &known, Key key) {
         const uint64_t now = generation();
         Pinned pinned(objects);
-        Seen seen = own(pinned.look_at_all(known.index, objects.turns().tries()), key);
-        if (seen.object != nullptr && objects.has_ended(*seen.object, now)) {
-            seen.status = Status::absent;
+        const Seen seen = pinned.look_at_all(known.index, objects.turns().tries());
+        // This acquires what the object was made with, before its key is compared.
+        const bool has_ended = seen.object != nullptr && objects.has_ended(*seen.object, now);
+        Seen taken = own(seen, key);
+        if (taken.object != nullptr && has_ended) {
+            taken.status = Status::absent;
         }
-        return seen;
+        return taken;
     }
     // Puts a key that is absent, or says `present`. What is there gives way if it has ended, or is another key's.
     Changed insert(const Identity &known, Key key, Own &object, bool is_computed = false) {
