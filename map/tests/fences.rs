@@ -132,6 +132,11 @@ fn so_does_a_removal_of_an_object() {
     check(|store| map.get_or_insert_with(&KEY, || store.read()), || assert!(map.remove(&KEY).is_ok()), || map.get(&KEY));
 }
 
+// A list that a clear needs may be held at each try, if the system has stopped the other thread.
+fn clear(map: &Map<u64, u64>) {
+    assert!((0..1_000).any(|_| map.clear().is_ok()));
+}
+
 // The value that is computed comes to the map once the map is clear: before, it would be removed.
 #[test]
 #[cfg_attr(debug_assertions, ignore = "it would see nothing")]
@@ -143,5 +148,5 @@ fn so_does_a_clear() {
         (0..SPINS).for_each(|_| spin_loop());
         number
     };
-    check(|store| map.get_or_insert_with(&KEY, || make(store)), || assert!(map.clear().is_ok()), || map.get(&KEY));
+    check(|store| map.get_or_insert_with(&KEY, || make(store)), || clear(&map), || map.get(&KEY));
 }
