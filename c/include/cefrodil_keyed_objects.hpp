@@ -70,7 +70,8 @@ template <class K, class V, class Hash, class Equal> struct KeyedObjects {
             if (seen.status != Status::absent) {
                 return Entries::refused(seen.status == Status::ok ? Status::present : seen.status);
             }
-            Changed put = seen.since != 0 ? objects.put_over(known.index, seen.since, object) : objects.put_absent(known.index, object, is_computed);
+            Changed put = seen.since != 0 ? objects.put_over(known.index, seen.since, object, !is_computed)
+                                          : objects.put_absent(known.index, object, is_computed);
             if (!is_lost(put.status)) {
                 if (put.renewed) {
                     objects.gave_way(put);

@@ -160,9 +160,14 @@ template <class K, class V> class Objects {
             return counted(slot, slot.handle.try_swap_if_absent(index, object->word()));
         });
     }
-    // Puts over what was put at that moment.
-    Changed put_over(uint64_t index, uint64_t since, Own &object) noexcept {
-        return offered(index, object, [&](Slot<1> &slot) { return slot.handle.try_swap_if(index, since, object->word()); });
+    // Puts over what was put at that moment. `is_new`: over what has ended, in the generation of now.
+    Changed put_over(uint64_t index, uint64_t since, Own &object, bool is_new = false) noexcept {
+        return offered(index, object, [&](Slot<1> &slot) {
+            if (is_new) {
+                object->end_making(object->kind(), generation_.now());
+            }
+            return slot.handle.try_swap_if(index, since, object->word());
+        });
     }
     // What gave way is no older value of the key: it is another key's, or had ended.
     void gave_way(Changed &change) noexcept {

@@ -99,19 +99,25 @@ static void updates_of_what_has_ended() {
     update_of_what_has_ended(objects);
 }
 
-// The ended entry of a key is taken out while its value is put that was computed: after the put was refused for it.
-static void computed_over_what_is_taken_out() {
+// What happens when a map next asks for the time.
+static std::function<void()> act;
+static void open_acting(Objects &map) {
     Objects::Rules rules;
-    std::function<void()> act;
-    rules.lives.clock = [&] {
+    rules.lives.clock = [] {
         if (act) {
             std::exchange(act, nullptr)();
         }
         return clock_now();
     };
     now = 0;
+    MUST(map.open({100}, rules) == Status::ok);
+}
+
+// The ended entry of a key is taken out while its value is put that was computed: after the put was refused for it.
+static void computed_over_what_is_taken_out() {
     Objects map;
-    MUST(map.open({100}, rules) == Status::ok && map.insert_for(1, 10, nanoseconds(100)).status == Status::ok);
+    open_acting(map);
+    MUST(map.insert_for(1, 10, nanoseconds(100)).status == Status::ok);
     now = 200;
     const auto compute = [&] {
         act = [&] { std::thread([&] { MUST(map.erase_expired() == Status::ok && map.size() == 0); }).join(); };
@@ -120,9 +126,21 @@ static void computed_over_what_is_taken_out() {
     MUST(map.find_or_compute(1, compute).status == Status::ok && !act && map.find(1) == 11u);
 }
 
+// An insert meets an invalidation, and then an entry that was put after it and has ended.
+static void insert_over_what_has_ended_since() {
+    Objects map;
+    open_acting(map);
+    act = [&] {
+        MUST(map.invalidate_all() == Status::ok && map.insert_for(1, 10, nanoseconds(100)).status == Status::ok);
+        now = 200;
+    };
+    MUST(map.insert_for(1, 11, std::chrono::hours(1)).status == Status::ok && !act && map.find(1) == 11u);
+}
+
 int main() {
     puts_that_are_invalidated();
     updates_of_what_has_ended();
     computed_over_what_is_taken_out();
+    insert_over_what_has_ended_since();
     return outcome("crossed");
 }
