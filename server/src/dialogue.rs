@@ -69,7 +69,7 @@ impl Dialogue {
         Dialogue { file, ..Dialogue::default() }
     }
 
-    /// There is no memory for the block that has not come as a whole. The client is told so, and what is still to come of it is skipped.
+    /// There is no memory for the block that has not come as a whole. The client gets an error, and what is still to come of it is skipped.
     pub fn refuse_block(&mut self) {
         self.refuses_block = true;
     }

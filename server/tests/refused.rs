@@ -1,4 +1,4 @@
-//! Memory that the system refuses: each allocation in turn, and all for a while. Clients are told so, or cut off, and the server goes on. The index is the
+//! Memory that the system refuses: each allocation in turn, and all for a while. Clients get an error or are cut off, and the server goes on. The index is the
 //! real one.
 use cefrodild::connection::{warm_up, Connection, Next};
 use cefrodild::listen::Stream;
