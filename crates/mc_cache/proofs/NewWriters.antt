@@ -2,6 +2,7 @@
 use Rattle.std.proofs.Common.{ℕ, ◌≡◌, [], ap, sym, ◌∙◌, subst}
 use Rattle.mc_words.specs.Checks.{shape_of}
 use Rattle.mc_words.specs.Places.{word_count, moment}
+use Rattle.mc_words.specs.declared.checked.Checked.{Checked}
 use Rattle.mc_words.specs.declared.shape.Shape.{Shape}
 use Rattle.mc_theory.specs.Lists.{state_of}
 use Rattle.mc_theory.specs.States.{State, opening}
@@ -14,10 +15,10 @@ use Rattle.mc_shared.specs.Views.{layout_of}
 use Rattle.mc_writer.specs.WriterCalls.{IsRested}
 use Rattle.mc_cache.specs.Inside.KeptMoments.{KeepsMoment}
 
-pub rested_new : (V : ℕ) (sh : Shape) (books : Books) (seat : WriterRecord) (o : Opening) → seat ≡ writer_record o [] [] → o.layout ≡ layout_of V sh → shape_of books.checked ≡ sh → AreBooksOf V books (opening V sh) → IsRested V books seat
-rested_new V sh books seat o e lay shape known = record {
+pub rested_new : (V : ℕ) (checked : Checked) (books : Books) (seat : WriterRecord) (o : Opening) → seat ≡ writer_record o [] [] → o.layout ≡ layout_of V checked → books.checked ≡ checked → AreBooksOf V books (opening V (shape_of checked)) → IsRested V books seat
+rested_new V checked books seat o e lay shape known = record {
   layout = ap (λ (r : WriterRecord). r.of.layout) e ∙ (lay ∙ ap (layout_of V) (sym shape));
-  known = subst (AreBooksOf V books) (sym (ap (λ (r : WriterRecord). state_of V (shape_of books.checked) r.acts) e ∙ (state_none V (shape_of books.checked) ∙ ap (opening V) shape))) known;
+  known = subst (AreBooksOf V books) (sym (ap (λ (r : WriterRecord). state_of V (shape_of books.checked) r.acts) e ∙ (state_none V (shape_of books.checked) ∙ ap (λ (c : Checked). opening V (shape_of c)) shape))) known;
 }
 
 -- a new table is at moment 0

@@ -6,9 +6,10 @@ ghost use Rattle.mc_words.specs.Readers.{HasReaders};
 ghost use Rattle.mc_words.specs.Shapes.{IsShape};
 ghost use Rattle.mc_theory.specs.Lists.{Made, state_of};
 ghost use Rattle.mc_theory.specs.States.{opening};
-ghost use Rattle.mc_plan.specs.Loads.{Loads};
+ghost use Rattle.mc_plan.specs.Loads.{Loads, LoadsBy};
 ghost use Rattle.mc_shared.specs.Records.{IsNewReader, new_readers};
-ghost use Rattle.mc_shared.specs.Views.{layout_of};
+ghost use Rattle.mc_shared.specs.Views.{layout_with};
+ghost use Rattle.mc_words.specs.declared.policy.Policy.TheVariants.{Clock};
 ghost use Rattle.mc_cache.specs.Openings.{RefusesOpening};
 ghost use Rattle.mc_cache.specs.Plain.{IsLegal, TakesOrNames, history, seen};
 ghost use Rattle.mc_cache.specs.Resting.{IsAtRest};
@@ -55,7 +56,7 @@ fn load<const V: usize>(
     requires room { length entries.now ≤ vec_capacity left.old }
     ensures of { writer.new.of ≡ writer.old.of }
     ensures loaded { (made : List Made) × (changes : List (Change V)) × (writer.new.acts ≡ writer.old.acts ++ made) ×
-        Loads V cache.now.layout.shape (state_of V cache.now.layout.shape writer.old.acts) 0 entries.now made changes left.new.items }
+        LoadsBy V cache.now.layout.shape writer.old.of.layout.policy (state_of V cache.now.layout.shape writer.old.acts) 0 entries.now made changes left.new.items }
 {
     for index in 0..entries.len() {
         if index % GROUP == 0 {
@@ -68,7 +69,7 @@ fn load<const V: usize>(
     }
 }
 
-/// Opens a cache like `open`, and puts these entries, in order. They are put as by `put`, but none evicts another: an entry
+/// Opens a cache like `open`, with CLOCK, and puts these entries, in order. They are put as by `put`, but none evicts another: an entry
 /// that can't be put so is left out, and reported with the reason. A key that is listed twice is put twice.
 /// These puts are the first changes of the cache's history, so its moments begin with them.
 /// Returns the first error that applies, as `open` does. After an error nothing leaks.
@@ -80,7 +81,7 @@ pub fn open_with<const V: usize>(
     entries: &[(u64, [u64; V])],
 ) -> Result<Opened<V>, OpenError>
     requires width { IsWidth V }
-    ensures cache { MatchResult result (λ o. o.cache.layout ≡ layout_of V shape) (λ e. RefusesOpening shape readers e) }
+    ensures cache { MatchResult result (λ o. o.cache.layout ≡ layout_with V Clock shape) (λ e. RefusesOpening shape readers e) }
     ensures asked { IfOk result (λ o. IsShape shape × HasReaders readers) }
     ensures of { IfOk result (λ o. o.writer.of ≡ o.cache) }
     ensures loaded { IfOk result (λ o. Loads V shape (opening V shape) 0 entries.now o.writer.acts (history V o.writer) o.left.items) }

@@ -5,7 +5,8 @@ ghost use Rattle.mc_words.specs.Places.{IsWidth};
 ghost use Rattle.mc_words.specs.Readers.{HasReaders};
 ghost use Rattle.mc_words.specs.Shapes.{IsShape};
 ghost use Rattle.mc_shared.specs.Records.{IsNewReader, new_readers, writer_record};
-ghost use Rattle.mc_shared.specs.Views.{layout_of};
+ghost use Rattle.mc_shared.specs.Views.{layout_of, layout_with};
+ghost use Rattle.mc_words.specs.declared.policy.Policy.TheVariants.{Clock};
 ghost use Rattle.mc_cache.specs.Openings.{RefusesOpening};
 ghost use Rattle.mc_cache.specs.Plain.{history, seen};
 
@@ -14,7 +15,7 @@ use crate::reader::Reader;
 use crate::writer::Writer;
 use mc_plan::Books;
 use mc_shared::ReaderSeat;
-use mc_words::{Checked, MOST_READERS, NoMemory, Shape, ShapeError};
+use mc_words::{Checked, MOST_READERS, NoMemory, Policy, Shape, ShapeError};
 use std::alloc::{AllocError, Global};
 use thiserror::Error;
 
@@ -51,7 +52,7 @@ fn open_checked<const V: usize>(
 ) -> Result<(Cache<V>, Writer<V>, Vec<Reader<V>>), NoMemory>
     requires width { IsWidth V }
     requires readers { HasReaders readers }
-    ensures cache { IfOk result (λ r. r.0.layout ≡ layout_of V (shape_of checked.now)) }
+    ensures cache { IfOk result (λ r. r.0.layout ≡ layout_of V checked.now) }
     ensures writer { IfOk result (λ r. r.1 ≡ writer_record r.0 [] []) }
     ensures readers { IfOk result (λ r. r.2.items ≡ new_readers r.0 readers) }
     ensures fresh { IfOk result (λ r. All (IsNewReader r.0) r.2.items) }
@@ -67,16 +68,17 @@ fn open_checked<const V: usize>(
     Ok((Cache { cells }, writer, readers))
 }
 
-/// Opens an empty cache, with its writer and this many readers. Returns the first error that applies: `Shape`, then `Readers`
+/// Opens an empty cache of this policy, with its writer and this many readers. Returns the first error that applies: `Shape`, then `Readers`
 /// if there are none or more than 1024, then `NoMemory`. After an error nothing leaks.
 /// Condition: a value has from 1 to 8 words.
-pub fn open<const V: usize>(
+pub fn open_by<const V: usize>(
     alloc: Global,
+    policy: Policy,
     shape: Shape,
     readers: u32,
 ) -> Result<(Cache<V>, Writer<V>, Vec<Reader<V>>), OpenError>
     requires width { IsWidth V }
-    ensures cache { MatchResult result (λ r. r.0.layout ≡ layout_of V shape) (λ e. RefusesOpening shape readers e) }
+    ensures cache { MatchResult result (λ r. r.0.layout ≡ layout_with V policy shape) (λ e. RefusesOpening shape readers e) }
     ensures asked { IfOk result (λ r. IsShape shape × HasReaders readers) }
     ensures writer { IfOk result (λ r. r.1 ≡ writer_record r.0 [] []) }
     ensures readers { IfOk result (λ r. r.2.items ≡ new_readers r.0 readers) }
@@ -84,7 +86,7 @@ pub fn open<const V: usize>(
     ensures plain { IfOk result (λ r. (history V r.1 ≡ []) × All (λ reader. seen V reader ≡ []) r.2.items) }
 {
     let checked = match shape.check() {
-        Ok(checked) => checked,
+        Ok(checked) => checked.with_policy(policy),
         Err(why) => return Err(OpenError::Shape(why)),
     };
     if readers == 0 || readers > MOST_READERS {
@@ -94,4 +96,22 @@ pub fn open<const V: usize>(
         Ok(opened) => Ok(opened),
         Err(NoMemory) => Err(OpenError::NoMemory),
     }
+}
+
+/// Opens an empty cache with CLOCK, as `open_by` does.
+/// Condition: a value has from 1 to 8 words.
+pub fn open<const V: usize>(
+    alloc: Global,
+    shape: Shape,
+    readers: u32,
+) -> Result<(Cache<V>, Writer<V>, Vec<Reader<V>>), OpenError>
+    requires width { IsWidth V }
+    ensures cache { MatchResult result (λ r. r.0.layout ≡ layout_with V Clock shape) (λ e. RefusesOpening shape readers e) }
+    ensures asked { IfOk result (λ r. IsShape shape × HasReaders readers) }
+    ensures writer { IfOk result (λ r. r.1 ≡ writer_record r.0 [] []) }
+    ensures readers { IfOk result (λ r. r.2.items ≡ new_readers r.0 readers) }
+    ensures fresh { IfOk result (λ r. All (IsNewReader r.0) r.2.items) }
+    ensures plain { IfOk result (λ r. (history V r.1 ≡ []) × All (λ reader. seen V reader ≡ []) r.2.items) }
+{
+    open_by::<V>(alloc, Policy::Clock, shape, readers)
 }

@@ -3,6 +3,7 @@ use Rattle.std.proofs.Common.{◌≡◌, inl, inr, ℕ, zero, suc, ◌+◌, ◌*
 use Rattle.std.specs.Prelude.{take, drop}
 use lib.Count.{count_trailing_zeros}
 use Rattle.atomic_table.specs.Table.{opening as table_opening}
+use Rattle.mc_words.specs.declared.policy.Policy.TheVariants.{Clock}
 use Rattle.mc_words.specs.Keys.{mixed_key, tag_of, stripe_of, first_of, slot_word}
 use Rattle.mc_words.specs.Places.{payload, moment, version, slot, with_moment, with_version, with_slot, with_item}
 use Rattle.mc_words.specs.Recency.{recency_word, recency_words}
@@ -22,7 +23,7 @@ use Rattle.mc_theory.specs.declared.act.Deed.TheVariants as deed
 use Rattle.mc_theory.proofs.Lists.Fronts.{lawful_none, lawful_push}
 use Rattle.mc_shared.specs.ExactFronts.{StandsAt}
 use Rattle.mc_shared.specs.Inside.Seats.{MayMake}
-use Rattle.mc_shared.specs.Views.{View, tally_for, writer_view, reader_view, new_writer_view, with_bit, layout_of}
+use Rattle.mc_shared.specs.Views.{View, tally_for, writer_view, reader_view, new_writer_view, with_bit, layout_with}
 use Rattle.mc_shared.specs.declared.layout.Layout.{Layout}
 use Rattle.mc_shared.proofs.CutSeats.{splits_new}
 use Rattle.mc_executions.specs.Example.{small, first_slot, put_opens, put_whole, read, readings, found, PutBesideGet}
@@ -35,7 +36,7 @@ use Rattle.mc_executions.proofs.Stages.{Stage, noted, after_act, after_reading, 
 use Rattle.mc_executions.proofs.TimedLookups.{lookups_are_timed}
 
 abbrev l : Layout
-l = layout_of 1 small
+l = layout_with 1 Clock small
 
 is_shape : IsShape small
 unfolding count_trailing_zeros

@@ -1,10 +1,11 @@
 -- In every execution moments are in the order of time.
 use Rattle.std.proofs.Common.{ℕ, ◌≤◌, List, length, ap, arith}
+use Rattle.mc_words.specs.declared.policy.Policy.{Policy}
 use Rattle.mc_words.specs.declared.history.Reply.{Reply}
 use Rattle.mc_words.specs.declared.history.Reply.TheVariants.{Found, Absent, Busy}
 use Rattle.mc_theory.specs.Lists.{Made, state_of}
 use Rattle.mc_theory.specs.Plain.{IsBetween}
-use Rattle.mc_shared.specs.Views.{layout_of}
+use Rattle.mc_shared.specs.Views.{layout_with}
 use Rattle.mc_executions.specs.TimeOrder.{IsAt, MomentsKeepOrder, WritesAreSeen}
 use Rattle.mc_executions.proofs.ExecutionRuns.{acts_are}
 use Rattle.mc_executions.proofs.TimedChanges.{many_rise}
@@ -27,7 +28,7 @@ moments_keep_order V sh states run k first last k' first' last' m m' reply reply
 
 pub writes_are_seen : (V : ℕ) → WritesAreSeen V
 writes_are_seen V sh states run k first last m n reply acts one at h =
-    let same = ap (λ (z : List Made). length (state_of V sh z).history) (acts_are (layout_of V sh) states run n acts h) in (
+    let same = ap (λ (z : List Made). length (state_of V sh z).history) (acts_are (layout_with V policy sh) states run n acts h) in (
       λ le. omega (arith, moment_low reply m _ _ at one.between, many_rise V sh states run n first le, same),
       λ le. omega (arith, moment_high reply m _ _ at one.between, many_rise V sh states run last n le, same),
     )

@@ -3,6 +3,7 @@ use mathlib.Core.Logic.{dite}
 use native.Mathlib.Decide.{ℕ_discrete, dec_le}
 use Rattle.std.proofs.Common.{◌≡◌, ℕ, zero, suc, ◌+◌, ◌-◌, ◌<◌, ◌≤◌, List, ◌++◌, length, take, ap, sym, ◌∙◌, subst, arith, length-append}
 use Rattle.std.proofs.Math.Seq.{take-append_seam}
+use Rattle.mc_words.specs.declared.policy.Policy.{Policy}
 use Rattle.mc_words.specs.History.{IsTrueAnswer, map_value}
 use Rattle.mc_words.specs.declared.history.Change.{Change}
 use Rattle.mc_words.specs.declared.history.Reply.{Reply}
@@ -17,7 +18,7 @@ use Rattle.mc_theory.specs.declared.act.Act.{Act}
 use Rattle.mc_theory.specs.declared.act.Act.TheVariants as act
 use Rattle.mc_theory.proofs.Lists.Fronts.{state_append, state_push}
 use Rattle.mc_theory.proofs.Lists.Histories.{history_all}
-use Rattle.mc_shared.specs.Views.{IsFrontOf, layout_of}
+use Rattle.mc_shared.specs.Views.{IsFrontOf, layout_with}
 use Rattle.mc_executions.specs.Executions.{TableState, IsExecution}
 use Rattle.mc_executions.specs.TimedLookups.{HoldsNow, history_at}
 use Rattle.mc_executions.specs.TimeOrder.{ChangesAreSteps}
@@ -58,14 +59,14 @@ now_of h all k at (Absent n) p e b t =
     (ap (λ (z : List (Change _)). map_value z k) (sym same) ∙ t.1, omega (arith, e, b.0, b.1))
 now_of h all k at Busy p e b t = tt
 
-module _ (V : ℕ) (sh : Shape) (states : ℕ → TableState) (run : IsExecution (layout_of V sh) states) where
+module _ (V : ℕ) {policy : Policy} (sh : Shape) (states : ℕ → TableState) (run : IsExecution (layout_with V policy sh) states) where
   abbrev many : ℕ → ℕ
   many n = length (history_at V sh states run n)
 
   many_step : (n : ℕ) → (many n ≤ many (suc n)) × (many (suc n) ≤ many n + 1)
-  many_step n = by_log (move (layout_of V sh) states run n).log
+  many_step n = by_log (move (layout_with V policy sh) states run n).log
     where
-      by_log : LogStep (layout_of V sh) (states n) (states (suc n)) (run.ruled n) (run.ruled (suc n)) → (many n ≤ many (suc n)) × (many (suc n) ≤ many n + 1)
+      by_log : LogStep (layout_with V policy sh) (states n) (states (suc n)) (run.ruled n) (run.ruled (suc n)) → (many n ≤ many (suc n)) × (many (suc n) ≤ many n + 1)
       by_log (rests e) = let same = ap (λ (z : List Made). length (state_of V sh z).history) e in (omega (arith, same), omega (arith, same))
       by_log (grows m seat note knows step e honest) =
           let s : State V = state_of V sh ((run.ruled n).log) in
@@ -76,7 +77,7 @@ module _ (V : ℕ) (sh : Shape) (states : ℕ → TableState) (run : IsExecution
   -- later states have no fewer changes
   pub many_rise : (m n : ℕ) → m ≤ n → many m ≤ many n
   many_rise m n le =
-      let h = begins_all V sh ((run.ruled m).log) ((run.ruled n).log) (front_between (layout_of V sh) states run m n le) in
+      let h = begins_all V sh ((run.ruled m).log) ((run.ruled n).log) (front_between (layout_with V policy sh) states run m n le) in
       omega (arith, ap length h.1, length-append (history_at V sh states run m) h.0)
 
   reach : (d i c : ℕ) → many i ≤ c → c ≤ many (i + d) → (n : ℕ) × (i ≤ n) × (n ≤ i + d) × (many n ≡ c)
@@ -112,16 +113,16 @@ module _ (V : ℕ) (sh : Shape) (states : ℕ → TableState) (run : IsExecution
       (n : ℕ) × (first ≤ n) × (n ≤ last) × HoldsNow (history_at V sh states run n) k reply
   holds_between k first last (Found v at since) le t b =
       let x = reached first last at le b.0 b.1 in
-      let h = begins_all V sh ((run.ruled x.0).log) ((run.ruled last).log) (front_between (layout_of V sh) states run x.0 last x.2) in
+      let h = begins_all V sh ((run.ruled x.0).log) ((run.ruled last).log) (front_between (layout_with V policy sh) states run x.0 last x.2) in
       (x.0, x.1, x.2, now_of (history_at V sh states run x.0) (history_at V sh states run last) k at (Found v at since) h (sym x.3) (omega arith, omega arith) t)
   holds_between k first last (Absent at) le t b =
       let x = reached first last at le b.0 b.1 in
-      let h = begins_all V sh ((run.ruled x.0).log) ((run.ruled last).log) (front_between (layout_of V sh) states run x.0 last x.2) in
+      let h = begins_all V sh ((run.ruled x.0).log) ((run.ruled last).log) (front_between (layout_with V policy sh) states run x.0 last x.2) in
       (x.0, x.1, x.2, now_of (history_at V sh states run x.0) (history_at V sh states run last) k at (Absent at) h (sym x.3) (omega arith, omega arith) t)
   holds_between k first last Busy le t b = (first, omega arith, le, tt)
 
 pub changes_are_steps : (V : ℕ) → ChangesAreSteps V
 changes_are_steps V sh states run i j n before after le h h' low high =
-    let was = ap (λ (z : List Made). length (state_of V sh z).history) (acts_are (layout_of V sh) states run i before h) in
-    let is = ap (λ (z : List Made). length (state_of V sh z).history) (acts_are (layout_of V sh) states run j after h') in
+    let was = ap (λ (z : List Made). length (state_of V sh z).history) (acts_are (layout_with V policy sh) states run i before h) in
+    let is = ap (λ (z : List Made). length (state_of V sh z).history) (acts_are (layout_with V policy sh) states run j after h') in
     made V sh states run i j n le (omega (arith, was, low)) (omega (arith, is, high))

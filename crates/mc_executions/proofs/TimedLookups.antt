@@ -1,6 +1,7 @@
 -- In every execution the reply of a lookup is true between its first step and its last.
 use Rattle.std.proofs.Common.{◌≡◌, ⊎_elim, ℕ, zero, suc, ◌+◌, ◌-◌, ◌<◌, ◌≤◌, ◌^◌, List, [], ◌∷◌, ◌++◌, length, take, refl, ap, sym, ◌∙◌, subst, arith, append_assoc, append-nil, length-append}
 use Rattle.std.proofs.Math.Seq.{take-length}
+use Rattle.mc_words.specs.declared.policy.Policy.{Policy}
 use Rattle.mc_words.specs.History.{IsTrueAnswer, map_value}
 use Rattle.mc_words.specs.Shapes.{IsShape}
 use Rattle.mc_words.specs.declared.history.Change.{Change}
@@ -16,7 +17,7 @@ use Rattle.mc_theory.proofs.Lists.Fronts.{state_push}
 use Rattle.mc_shared.specs.ExactLaws.{IsLookedUp}
 use Rattle.mc_shared.specs.Records.{ReaderRecord}
 use Rattle.mc_shared.specs.Steps.{mark_at}
-use Rattle.mc_shared.specs.Views.{layout_of, with_bit}
+use Rattle.mc_shared.specs.Views.{layout_with, with_bit}
 use Rattle.mc_shared.specs.declared.layout.Layout.{Layout}
 use Rattle.mc_shared.proofs.OrderedLookups.{lookups_are_in_time}
 use Rattle.mc_reader.specs.Records.{HaveLooked}
@@ -42,7 +43,7 @@ no_more [] e = refl
 no_more (x ∷ xs) e = absurd (omega (arith, e))
 
 -- a lookup whose first entry was entered at f, and its last at g
-module _ (V : ℕ) (sh : Shape) (states : ℕ → TableState) (run : IsExecution (layout_of V sh) states) (i j a k tries : ℕ) (done rs : List Reading) (reply : Reply V) (f : FoundEntry (layout_of V sh) states run i j a (length done) (done ++ rs)) (g : FoundEntry (layout_of V sh) states run f.p j a (length done + length rs - 1) (done ++ rs)) where
+module _ (V : ℕ) {policy : Policy} (sh : Shape) (states : ℕ → TableState) (run : IsExecution (layout_with V policy sh) states) (i j a k tries : ℕ) (done rs : List Reading) (reply : Reply V) (f : FoundEntry (layout_with V policy sh) states run i j a (length done) (done ++ rs)) (g : FoundEntry (layout_with V policy sh) states run f.p j a (length done + length rs - 1) (done ++ rs)) where
   at_first : (done ≡ f.entry.done) × (rs ≡ f.x ∷ f.rest)
   at_first = same_parts done rs f.entry.done (f.x ∷ f.rest) (sym f.place) f.parts
 
@@ -69,7 +70,7 @@ module _ (V : ℕ) (sh : Shape) (states : ℕ → TableState) (run : IsExecution
         last = g.x;
         ends = g.entry;
         whole = at_last;
-        later = front_between (layout_of V sh) states run f.p g.p g.from;
+        later = front_between (layout_with V policy sh) states run f.p g.p g.from;
       } in
       let true' = lookups_are_in_time V sh k tries (acts f.p) (acts g.p) reply shape small whole in
       record {
@@ -87,7 +88,7 @@ module _ (V : ℕ) (sh : Shape) (states : ℕ → TableState) (run : IsExecution
 
 pub lookups_are_timed : (V : ℕ) → LookupsAreTimed V
 lookups_are_timed V sh states run i j a k tries done rs reply shape small some' le h h' looked =
-    let l : Layout = layout_of V sh in
+    let l : Layout = layout_with V policy sh in
     let long : length (done ++ rs) ≡ length done + length rs = length-append done rs in
     let more = starts V sh k tries rs reply some' looked in
     let f = entry_between l states run i j (length done) a done (done ++ rs) le h h' (omega arith) (omega (arith, long, more)) in
@@ -118,7 +119,7 @@ many_are_timed V sh states run i j (k ∷ ks) before after (y ∷ ys) shape smal
     let more = have_grown V sh ks mid after ys looked.2 in
     let end : HasRecord before.number (states j) (before.done ++ one.rs ++ more.1.0) =
     subst (λ (z : ℕ × List Reading). HasRecord z.0 (states j) z.1) (λ n. ((more.0 ∙ one.number) n, (more.1.1 ∙ ap (λ (z : List Reading). z ++ more.1.0) one.done) n)) h' in
-    let p = records_pass (layout_of V sh) states run i j before.number before.done one.rs more.1.0 le h end in
+    let p = records_pass (layout_with V policy sh) states run i j before.number before.done one.rs more.1.0 le h end in
     let there : HasRecord mid.number (states p.0) mid.done = subst (λ (z : ℕ × List Reading). HasRecord z.0 (states p.0) z.1) (λ n. (sym one.number n, sym one.done n)) p.3 in (
       p.0,
       p.1,
@@ -136,7 +137,7 @@ now_true h k (Found v at since) x = (omega (arith, x.1), ap (λ (z : List (Chang
 now_true h k (Absent at) x = (omega (arith, x.1), ap (λ (z : List (Change _)). map_value z k) ((λ i. take (x.1 i) h) ∙ take-length h) ∙ x.0)
 now_true h k Busy x = tt
 
-module _ (V : ℕ) (sh : Shape) (states : ℕ → TableState) (run : IsExecution (layout_of V sh) states) where
+module _ (V : ℕ) {policy : Policy} (sh : Shape) (states : ℕ → TableState) (run : IsExecution (layout_with V policy sh) states) where
   now_timed : (n k : ℕ) (h : List (Change V)) (reply : Reply V) → history_at V sh states run n ≡ h → HoldsNow h k reply → IsTimed V sh states run k reply n n
   now_timed n k h reply same now = by_reply reply (subst (λ (z : List (Change V)). HoldsNow z k reply) (sym same) now)
     where
@@ -148,7 +149,7 @@ module _ (V : ℕ) (sh : Shape) (states : ℕ → TableState) (run : IsExecution
   -- no change is made between states with the same history
   still : (i j n : ℕ) (h : List (Change V)) → history_at V sh states run i ≡ h → history_at V sh states run j ≡ h → i ≤ n → n ≤ j → history_at V sh states run n ≡ h
   still i j n h a b le le' =
-      let one = begins_all V sh ((run.ruled i).log) ((run.ruled n).log) (front_between (layout_of V sh) states run i n le) in
+      let one = begins_all V sh ((run.ruled i).log) ((run.ruled n).log) (front_between (layout_with V policy sh) states run i n le) in
       let most = many_rise V sh states run n j le' in
       let none : one.0 ≡ [] = empty one.0 (omega (arith, most, ap length a, ap length b, ap length one.1, length-append (history_at V sh states run i) one.0)) in
       one.1 ∙ (ap (λ (z : List (Change V)). history_at V sh states run i ++ z) none ∙ (append-nil (history_at V sh states run i) ∙ a))
@@ -158,7 +159,7 @@ module _ (V : ℕ) (sh : Shape) (states : ℕ → TableState) (run : IsExecution
       empty (x ∷ xs) e = absurd (omega (arith, e))
 
   history_of : (n : ℕ) (acts : List Made) → HasActs (states n) acts → history_at V sh states run n ≡ (state_of V sh acts).history
-  history_of n acts h = ap (λ (z : List Made). (state_of V sh z).history) (acts_are (layout_of V sh) states run n acts h)
+  history_of n acts h = ap (λ (z : List Made). (state_of V sh z).history) (acts_are (layout_with V policy sh) states run n acts h)
 
 -- what a reply that the writer's state gives says of the map
 replies_hold : {A : Type 0} (V : ℕ) (sh : Shape) (k : ℕ) (s : State V) (mark : ℕ → A) (done done' : List A) (reply : Reply V) → RepliesNow V sh k s mark done done' reply → HoldsNow s.history k reply

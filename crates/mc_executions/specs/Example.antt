@@ -1,5 +1,6 @@
 -- An example: a put and a lookup of the same key that overlap, and what the laws say of the lookup.
 use Rattle.std.specs.Prelude.{◌≡◌, ℕ, ◌≤◌, List, [], ◌∷◌, ◌++◌, length}
+use Rattle.mc_words.specs.declared.policy.Policy.TheVariants.{Clock}
 use Rattle.mc_words.specs.declared.history.Reply.{Reply}
 use Rattle.mc_words.specs.declared.history.Reply.TheVariants.{Found}
 use Rattle.mc_words.specs.declared.mix.Mix.TheVariants.{Plain}
@@ -12,7 +13,7 @@ use Rattle.mc_theory.specs.declared.access.Access.{Access}
 use Rattle.mc_theory.specs.declared.access.Access.TheVariants as access
 use Rattle.mc_theory.specs.declared.act.Act.TheVariants.{Open, Slot, Item, Moment, Close}
 use Rattle.mc_theory.specs.declared.act.Deed.TheVariants as deed
-use Rattle.mc_shared.specs.Views.{with_bit, layout_of}
+use Rattle.mc_shared.specs.Views.{with_bit, layout_with}
 use Rattle.mc_executions.specs.Executions.{TableState, IsExecution, HasRecord, HasActs}
 use Rattle.mc_executions.specs.TimedLookups.{LooksBetween}
 
@@ -47,7 +48,7 @@ found = Found (7 ∷ []) 1 1
 -- reply has the moment of the put, and by the laws the map held it in a state between the lookup's first step and its last
 pub record PutBesideGet : Type 0 where
   pub states : ℕ → TableState
-  pub run : IsExecution (layout_of 1 small) states
+  pub run : IsExecution (layout_with 1 Clock small) states
   pub i : ℕ
   pub j : ℕ
   pub in_order : i ≤ j

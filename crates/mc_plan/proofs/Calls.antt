@@ -6,6 +6,7 @@ pub mod MidCall
 pub mod SweptStates
 pub mod MidSweep
 pub mod AfterSweep
+pub mod Picks
 pub mod StoredKeys
 pub mod CanEnd
 pub mod ActKinds

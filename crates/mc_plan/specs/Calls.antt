@@ -30,7 +30,7 @@ KeptAnswers {V} sh s k v (Ok (Stored at moves None)) t = means.Stores V sh s t k
 KeptAnswers {V} sh s k v (Ok (Stored at moves (Some evicted))) t = ⊥
 KeptAnswers {V} sh s k v (Ok (Renewed at)) t = means.Renews V sh s t k v at
 KeptAnswers {V} sh s k v (Err left.NoPath) t = means.RefusesPath V sh s t k
-KeptAnswers {V} sh s k v (Err left.NoItem) t = means.RefusesAll V sh s t k
+KeptAnswers {V} sh s k v (Err left.NoItem) t = means.RefusesItem V sh s t k
 KeptAnswers {V} sh s k v (Err left.Spent) t = means.PutRefusedSpent sh s t
 
 -- why such a put stores nothing, if a put that swept for no item was refused

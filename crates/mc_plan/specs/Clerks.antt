@@ -1,7 +1,8 @@
 -- What a clerk knows of the table, and how far it is in a call.
 use Rattle.std.specs.Prelude.{ℕ, ◌≡◌, ◌+◌, ◌-◌, ◌≤◌, List, [], ◌++◌, take, length, slice_get, Option, Some, None, IsSome}
 use Rattle.mc_words.specs.declared.shape.Shape.{Shape}
-use Rattle.mc_words.specs.Checks.{shape_of}
+use Rattle.mc_words.specs.declared.policy.Policy.TheVariants.{Clock}
+use Rattle.mc_words.specs.Checks.{policy_of, shape_of}
 use Rattle.mc_theory.specs.Lists.{Made, AreAllowed}
 use Rattle.mc_theory.specs.States.{State}
 use Rattle.mc_theory.specs.declared.act.Act.{Act}
@@ -20,10 +21,11 @@ use Rattle.mc_plan.specs.Books.{AreBooksOf, IsPlanned, IsSweeping}
 abbrev pub shape_of_clerk : {V : ℕ} → Clerk V → Shape
 shape_of_clerk clerk = shape_of clerk.books.checked
 
--- between two calls the clerk knows the state
+-- between two calls the clerk, whose policy is CLOCK, knows the state
 pub record Knows (V : ℕ) (clerk : Clerk V) (s : State V) : Type 0 where
   pub idle : clerk.stage ≡ Idle
   pub books : AreBooksOf V clerk.books s
+  pub clock : policy_of clerk.books.checked ≡ Clock
 
 -- the sweep of the call was made, and `many` acts of its plan
 pub record MakesPlan (V : ℕ) (books : Books) (plan : List Act) (many : ℕ) (call : Call) (s : State V) (acts : List Made) (told : Answer) : Type 0 where
@@ -31,7 +33,7 @@ pub record MakesPlan (V : ℕ) (books : Books) (plan : List Act) (many : ℕ) (c
   pub others : List Made
   pub parts : acts ≡ hand_acts sweep ++ others
   pub hands : AreAllowed (shape_of books.checked) s (hand_acts sweep)
-  pub sweeps : IsSweepOf V (shape_of books.checked) s sweep told
+  pub sweeps : IsSweepOf V (shape_of books.checked) (policy_of books.checked) s sweep told
   pub planned : IsPlanned V books plan call s (state_after_sweep V (shape_of books.checked) s sweep) told
   pub fits : length plan ≤ 64
   pub within : many ≤ length plan
@@ -46,6 +48,7 @@ IsAtStage V (Planned told) books plan many call s acts = MakesPlan V books plan 
 -- the clerk is in the call, which began in state s, and these acts were made of it
 pub record IsOn (V : ℕ) (clerk : Clerk V) (call : Call) (s : State V) (acts : List Made) : Type 0 where
   pub begun : IsQuiet V (shape_of_clerk clerk) s
+  pub clock : policy_of clerk.books.checked ≡ Clock
   pub now : IsAtStage V clerk.stage clerk.books clerk.plan.items clerk.made call s acts
 
 -- a call runs: its answer was not taken yet

@@ -1,7 +1,7 @@
 -- What the books' decisions say of the state in which they were made.
 use Rattle.std.specs.Prelude.{ℕ, ◌≡◌, ◌<◌, List, [], ◌∷◌, ◌++◌, length, Option, Some, None, Result, Ok, Err}
 use Rattle.mc_words.specs.Chains.{NoChain}
-use Rattle.mc_words.specs.Checks.{shape_of}
+use Rattle.mc_words.specs.Checks.{policy_of, shape_of}
 use Rattle.mc_words.specs.History.{map_value}
 use Rattle.mc_words.specs.KeyParts.{HasParts}
 use Rattle.mc_words.specs.Standing.{Stands}
@@ -23,7 +23,6 @@ use Rattle.mc_plan.specs.declared.decision.Replacement.{Replacement}
 use Rattle.mc_plan.specs.declared.decision.Storing.{Storing}
 use Rattle.mc_plan.specs.declared.decision.Vacancy.{Vacancy}
 use Rattle.mc_plan.specs.declared.decision.Vacancy.TheVariants as vacancy
-use Rattle.mc_plan.specs.declared.waiting.Waiting.{Waiting}
 use Rattle.mc_search.specs.declared.room.Room.{Room}
 use Rattle.mc_search.specs.Sweeps.{Swept}
 
@@ -39,7 +38,7 @@ IsWithoutPath V books k v s = IsPlanned V books [] (PutCall k v) s s (answer.Put
 -- a put in state s is decided: the acts of its plan and its answer, or what is known if the key is not there
 abbrev pub IsDecided : (V : ℕ) → Books → ℕ → List ℕ → State V → Decision → Type 0
 IsDecided V books k v s (decision.Refuse why) =
-    IsPlanned V books [] (PutCall k v) s s (answer.Put (Err why)) × IsSweepOf V (shape_of books.checked) s [] (answer.Put (Err why))
+    IsPlanned V books [] (PutCall k v) s s (answer.Put (Err why)) × IsSweepOf V (shape_of books.checked) (policy_of books.checked) s [] (answer.Put (Err why))
 IsDecided V books k v s (decision.Renew item at) = IsPlanned V books (renewal_acts k v at item) (PutCall k v) s s (answer.Put (Ok (put.Renewed at)))
 IsDecided V books k v s (decision.Insert at) = IsLackingKey V books k v s at
 
@@ -59,25 +58,25 @@ IsIfDecided V books k since v s (Err why) = IsPlanned V books [] (PutIfCall k si
 -- the put of a new key that finds this room in state s is decided: the acts of its plan and its answer, or it waits
 abbrev pub IsInserted : (V : ℕ) → Books → ℕ → List ℕ → State V → Room → Option Storing → Type 0
 IsInserted V books k v s room (Some storing) =
-    (storing.item < (shape_of books.checked).items) × IsPlanned V books (storing_acts books.far.value.moves.items (shape_of books.checked) k v storing) (PutCall k v) s s (answer.Put (Ok (storing_told books.far.value.moves.items storing None)))
+    (storing.item < (shape_of books.checked).items) × IsPlanned V books (storing_acts (policy_of books.checked) books.far.value.moves.items (shape_of books.checked) k v storing) (PutCall k v) s s (answer.Put (Ok (storing_told books.far.value.moves.items storing None)))
 IsInserted V books k v s room None = Waits V books k v s room
 
 -- the sweep of a put has these readings, the item that it found is taken from the victim, and the put's key is stored there
-pub record IsReplaced (V : ℕ) (books : Books) (waiting : Waiting V) (call : Call) (s : State V) (rs : List Swept) (r : Replacement) : Type 0 where
+pub record IsReplaced (V : ℕ) (books : Books) (k : ℕ) (v : List ℕ) (call : Call) (s : State V) (rs : List Swept) (r : Replacement) : Type 0 where
   pub in_items : r.storing.item < (shape_of books.checked).items
   pub parts : HasParts (shape_of books.checked) r.victim.key r.victim.parts
-  pub planned : IsPlanned V books (replacement_acts books.far.value.moves.items (shape_of books.checked) waiting.key waiting.value r) call s (state_after_sweep V (shape_of books.checked) s rs) (answer.Put (Ok (storing_told books.far.value.moves.items r.storing (Some r.victim.key))))
-  pub sweeps : IsSweepOf V (shape_of books.checked) s rs (answer.Put (Ok (storing_told books.far.value.moves.items r.storing (Some r.victim.key))))
+  pub planned : IsPlanned V books (replacement_acts (policy_of books.checked) books.far.value.moves.items (shape_of books.checked) k v r) call s (state_after_sweep V (shape_of books.checked) s rs) (answer.Put (Ok (storing_told books.far.value.moves.items r.storing (Some r.victim.key))))
+  pub sweeps : IsSweepOf V (shape_of books.checked) (policy_of books.checked) s rs (answer.Put (Ok (storing_told books.far.value.moves.items r.storing (Some r.victim.key))))
 
 -- after these readings the put is refused, and changes nothing of the map
 abbrev pub IsRefusedAfter : (V : ℕ) → Books → Call → State V → List Swept → PutError → Type 0
 IsRefusedAfter V books call s rs why =
-    IsPlanned V books [] call s (state_after_sweep V (shape_of books.checked) s rs) (answer.Put (Err why)) × IsSweepOf V (shape_of books.checked) s rs (answer.Put (Err why))
+    IsPlanned V books [] call s (state_after_sweep V (shape_of books.checked) s rs) (answer.Put (Err why)) × IsSweepOf V (shape_of books.checked) (policy_of books.checked) s rs (answer.Put (Err why))
 
 -- the put is decided once its sweep is over
-abbrev pub IsFinished : (V : ℕ) → Books → Waiting V → Call → State V → List Swept → Result Replacement PutError → Type 0
-IsFinished V books waiting call s rs (Ok r) = IsReplaced V books waiting call s rs r
-IsFinished V books waiting call s rs (Err why) = IsRefusedAfter V books call s rs why
+abbrev pub IsFinished : (V : ℕ) → Books → ℕ → List ℕ → Call → State V → List Swept → Result Replacement PutError → Type 0
+IsFinished V books k v call s rs (Ok r) = IsReplaced V books k v call s rs r
+IsFinished V books k v call s rs (Err why) = IsRefusedAfter V books call s rs why
 
 -- a removal in state s is decided
 abbrev pub IsRemovalDecided : (V : ℕ) → Books → ℕ → State V → Removal → Type 0

@@ -1,6 +1,8 @@
 -- What was decided, as the acts that it means and the answer.
 use Rattle.std.specs.Prelude.{ℕ, List, [], ◌∷◌, ◌++◌, length, Option, Result, Ok, Err}
 use Rattle.mc_words.specs.declared.place.Place.{Place}
+use Rattle.mc_words.specs.declared.policy.Policy.{Policy}
+use Rattle.mc_words.specs.declared.policy.Policy.TheVariants.{Clock, ScanResistant}
 use Rattle.mc_words.specs.declared.shape.Shape.{Shape}
 use Rattle.mc_theory.specs.declared.act.Act.{Act}
 use Rattle.mc_theory.specs.declared.act.Act.TheVariants.{Mark}
@@ -27,9 +29,14 @@ acts_of_moves (m ∷ moves) = move_acts m.key m.word m.from m.to ++ acts_of_move
 abbrev pub renewal_acts : ℕ → List ℕ → ℕ → ℕ → List Act
 renewal_acts k v at i = renew_acts k v at i ++ Mark i ∷ []
 
--- the key is put at the item and into the place, and the item is marked
-abbrev pub filling_acts : Shape → ℕ → List ℕ → ℕ → ℕ → Place → List Act
-filling_acts sh k v at i p = fill_acts sh k v at i p ++ Mark i ∷ []
+-- the mark of a new key's item, which only CLOCK makes
+abbrev pub new_marks : Policy → ℕ → List Act
+new_marks Clock i = Mark i ∷ []
+new_marks ScanResistant i = []
+
+-- the key is put at the item and into the place, and the item is marked by CLOCK
+abbrev pub filling_acts : Policy → Shape → ℕ → List ℕ → ℕ → ℕ → Place → List Act
+filling_acts policy sh k v at i p = fill_acts sh k v at i p ++ new_marks policy i
 
 -- the moves, if those that the books list are these
 abbrev pub moves_of : List Move → Moves → List Move
@@ -37,13 +44,13 @@ moves_of listed Unneeded = []
 moves_of listed (One m) = m ∷ []
 moves_of listed Listed = listed
 
--- the moves make room, the key is put at the item and into the place, and the item is marked
-abbrev pub storing_acts : List Move → Shape → ℕ → List ℕ → Storing → List Act
-storing_acts listed sh k v storing = acts_of_moves (moves_of listed storing.moves) ++ filling_acts sh k v storing.at storing.item storing.place
+-- the moves make room, and the key is put at the item and into the place
+abbrev pub storing_acts : Policy → List Move → Shape → ℕ → List ℕ → Storing → List Act
+storing_acts policy listed sh k v storing = acts_of_moves (moves_of listed storing.moves) ++ filling_acts policy sh k v storing.at storing.item storing.place
 
 -- and before that another key is taken out
-abbrev pub replacement_acts : List Move → Shape → ℕ → List ℕ → Replacement → List Act
-replacement_acts listed sh k v r = evict_acts r.victim.key r.victim.place ++ storing_acts listed sh k v r.storing
+abbrev pub replacement_acts : Policy → List Move → Shape → ℕ → List ℕ → Replacement → List Act
+replacement_acts policy listed sh k v r = evict_acts r.victim.key r.victim.place ++ storing_acts policy listed sh k v r.storing
 
 -- the key is taken out, if there is something to do
 abbrev pub removal_acts : ℕ → Removal → List Act

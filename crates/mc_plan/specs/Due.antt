@@ -1,7 +1,7 @@
 -- Acts of a plan that are still to be made, as a writer makes them one after the other.
 use Rattle.std.specs.Prelude.{ℕ, ◌≡◌, ◌≤◌, List, [], ◌∷◌, ◌++◌, Some}
 use Rattle.mc_words.specs.declared.shape.Shape.{Shape}
-use Rattle.mc_words.specs.Checks.{shape_of}
+use Rattle.mc_words.specs.Checks.{policy_of, shape_of}
 use Rattle.mc_theory.specs.Acts.{IsAllowed}
 use Rattle.mc_theory.specs.Lists.{Made, AreAllowed, state_of}
 use Rattle.mc_theory.specs.Phases.{Quiet}
@@ -10,7 +10,7 @@ use Rattle.mc_theory.specs.Traces.{HasVersionSteps}
 use Rattle.mc_theory.specs.declared.act.Act.{Act}
 use Rattle.mc_theory.specs.declared.act.Act.TheVariants.{Hand}
 use Rattle.mc_search.specs.Sweeps.{Swept, hand_acts, next_item}
-use Rattle.mc_plan.specs.WholeCalls.{Answered, Call, IsSweepOf, state_after_sweep}
+use Rattle.mc_plan.specs.WholeCalls.{AnsweredBy, Call, IsSweepOf, state_after_sweep}
 use Rattle.mc_plan.specs.Books.{AreBooksOf, IsPlanned, IsSweeping}
 use Rattle.mc_plan.specs.Making.{as_made, state_after_acts}
 use Rattle.mc_plan.specs.declared.answer.Answer.{Answer}
@@ -45,6 +45,6 @@ SweepsCanRead V =
 -- a sweep and then all acts of a plan are a whole call with its answer, and the books are those of the state after it
 abbrev pub PlansEndCalls : ℕ → Type 0
 PlansEndCalls V =
-    (sh : Shape) (books : Books) (plan : List Act) (call : Call) (acts : List Made) (rs : List Swept) (told : Answer) → shape_of books.checked ≡ sh → AreAllowed sh (state_of V sh acts) (hand_acts rs) → IsSweepOf V sh (state_of V sh acts) rs told →
+    (sh : Shape) (books : Books) (plan : List Act) (call : Call) (acts : List Made) (rs : List Swept) (told : Answer) → shape_of books.checked ≡ sh → AreAllowed sh (state_of V sh acts) (hand_acts rs) → IsSweepOf V sh (policy_of books.checked) (state_of V sh acts) rs told →
     IsPlanned V books plan call (state_of V sh acts) (state_after_sweep V sh (state_of V sh acts) rs) told →
-    Answered V sh call (state_of V sh acts) (hand_acts rs ++ as_made plan) told × AreBooksOf V books (state_of V sh (acts ++ (hand_acts rs ++ as_made plan)))
+    AnsweredBy V sh (policy_of books.checked) call (state_of V sh acts) (hand_acts rs ++ as_made plan) told × AreBooksOf V books (state_of V sh (acts ++ (hand_acts rs ++ as_made plan)))

@@ -1,6 +1,7 @@
 //! What the writer keeps of its table beside the words, and how it decides a call.
 ghost use Rattle.std.specs.Prelude.{ℕ, ◌≡◌, ◌+◌, ◌*◌, ◌^◌, ◌<◌, ◌≤◌, [], ◌↔◌, IfOk, IsTrue};
-ghost use Rattle.mc_words.specs.Checks.{shape_of};
+ghost use Rattle.mc_words.specs.Checks.{policy_of, shape_of};
+ghost use Rattle.mc_words.specs.declared.policy.Policy.TheVariants.{Clock};
 ghost use Rattle.mc_words.specs.History.{key_count};
 ghost use Rattle.mc_words.specs.KeyParts.{HasParts};
 ghost use Rattle.mc_words.specs.Places.{IsWidth};
@@ -15,7 +16,7 @@ use crate::far::Far;
 use crate::value::have_words;
 use mc_search::{FreeItems, Sweep, find_by, moment, stamp_at};
 use mc_theory::Peek;
-use mc_words::{Checked, KeyParts, NoMemory};
+use mc_words::{Checked, KeyParts, NoMemory, Policy};
 use std::alloc::Global;
 
 /// The writer's bookkeeping beside the words: which items are free, where the hand is, how many version changes were made.
@@ -23,7 +24,7 @@ use std::alloc::Global;
 pub struct Books {
     /// The version changes, with those of what was decided.
     version_steps: u64,
-    /// The item at the hand. While a call sweeps, the item that was at the hand when the call began.
+    /// The item at CLOCK's hand. While a call sweeps, the item that was at the hand when the call began.
     hand: u32,
     free: FreeItems,
     pub(crate) checked: Checked,
@@ -45,7 +46,7 @@ impl Books {
         let Ok(far) = Box::new(alloc, far) else {
             return Err(NoMemory);
         };
-        let free = FreeItems::new(alloc, checked.shape().items)?;
+        let free = FreeItems::new(alloc, checked.shape().items, checked.policy())?;
         Ok(Books {
             version_steps: 0,
             hand: 0,
@@ -53,6 +54,14 @@ impl Books {
             checked: *checked,
             far,
         })
+    }
+
+    /// The policy of the table.
+    #[inline(always)]
+    pub fn policy(&self) -> Policy
+        ensures { result ≡ policy_of self.now.checked }
+    {
+        self.checked.policy()
     }
 
     /// How many keys the table holds. No word is read. Condition: the books are those of a table, between two calls.
@@ -89,7 +98,8 @@ impl Books {
 
     /// The sweep for an item, from the hand's item.
     pub(crate) fn sweep(&self) -> Sweep
-        requires { (V : ℕ) × (s : State V) × AreBooksOf V self.now s }
+        requires clock { policy_of self.now.checked ≡ Clock }
+        requires books { (V : ℕ) × (s : State V) × AreBooksOf V self.now s }
         ensures { (V : ℕ) (s : State V) → AreBooksOf V self.now s → HasSwept result (shape_of self.now.checked).items s.hand [] }
     {
         Sweep::start(self.checked.shape().items, self.hand)

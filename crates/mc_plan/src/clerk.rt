@@ -14,7 +14,7 @@ use crate::listing::{finish_put, start_put, start_put_if, start_put_kept, start_
 use crate::waiting::{Start, Waiting};
 use arrayvec::ArrayVec;
 use mc_theory::{Act, Peek};
-use mc_words::{Checked, NoMemory};
+use mc_words::{Checked, NoMemory, Policy};
 use std::alloc::Global;
 use std::mem;
 
@@ -46,13 +46,13 @@ impl<const V: usize> Clerk<V> {
     ghost use Rattle.mc_plan.specs.Inside.Clerks.{HasEndedSweep};
     ghost use Rattle.mc_search.specs.Sweeps.{Swept, hand_acts};
 
-    /// The clerk of a new table. Condition: a value has from 1 to 8 words.
+    /// The clerk of a new table, by CLOCK. Condition: a value has from 1 to 8 words.
     pub fn new(alloc: Global, checked: &Checked) -> Result<Clerk<V>, NoMemory>
         requires width { IsWidth V }
         ensures knows { IfOk result (λ clerk. Knows V clerk (opening V (shape_of checked.now))) }
         ensures shape { IfOk result (λ clerk. shape_of_clerk clerk ≡ shape_of checked.now) }
     {
-        let books = Books::new(alloc, checked)?;
+        let books = Books::new(alloc, &checked.with_policy(Policy::Clock))?;
         Ok(Clerk {
             books,
             stage: Stage::Idle,
@@ -74,8 +74,7 @@ impl<const V: usize> Clerk<V> {
         self.stage = match start_put::<V, P>(&mut self.books, peek, &mut self.plan, key, &value) {
             Start::Planned(answer) => Stage::Planned(Answer::Put(answer)),
             Start::Waits(room) => {
-                let mixed = self.books.checked.parts(key).mixed;
-                Stage::Sweeping(Waiting::new(&self.books, key, mixed, value, room))
+                Stage::Sweeping(Waiting::new(&self.books, key, value, room))
             }
         };
     }

@@ -1,13 +1,13 @@
 //! What was decided, as the list of its acts.
 ghost use Rattle.std.specs.Prelude.{◌≡◌, ◌+◌, ◌<◌, ◌≤◌, ◌++◌, [], List, length};
 ghost use Rattle.arrayvec.specs.ArrayVec.{array_vec_len};
-ghost use Rattle.mc_words.specs.Checks.{shape_of};
+ghost use Rattle.mc_words.specs.Checks.{policy_of, shape_of};
 ghost use Rattle.mc_words.specs.KeyParts.{HasParts};
 ghost use Rattle.mc_words.specs.Places.{IsWidth};
 ghost use Rattle.mc_theory.specs.States.{State};
 ghost use Rattle.mc_plan.specs.WholeCalls.{Call, IsSweepOf, KeptCall, PutIfCall, RemoveCall, state_after_sweep};
 ghost use Rattle.mc_plan.specs.Books.{AreBooksOf, IsLackingKey, IsPlanned, IsSweeping};
-ghost use Rattle.mc_plan.specs.Decisions.{acts_of_moves, moves_of, removal_acts, renewal_acts, replacement_acts, storing_acts};
+ghost use Rattle.mc_plan.specs.Decisions.{acts_of_moves, moves_of, new_marks, removal_acts, renewal_acts, replacement_acts, storing_acts};
 ghost use Rattle.mc_plan.specs.Inside.Clerks.{IsStarted};
 ghost use Rattle.mc_plan.specs.declared.answer.Answer.TheVariants as answer;
 ghost use Rattle.mc_search.specs.Sweeps.{IsOver, Swept};
@@ -22,7 +22,7 @@ use crate::renew::add_renew;
 use crate::take_out::{add_evict, add_remove};
 use crate::waiting::{Start, Waiting};
 use mc_theory::{Act, Peek};
-use mc_words::KeyParts;
+use mc_words::{KeyParts, Policy};
 
 /// Adds the acts of a renewal, and the mark of its item.
 fn add_renewal<const V: usize>(acts: &mut Plan, key: u64, value: &[u64; V], at: u64, item: u32)
@@ -48,6 +48,18 @@ fn add_moves_of(books: &Books, acts: &mut Plan, moves: Moves)
     }
 }
 
+/// Adds the mark of a new key's item, if the policy is CLOCK.
+fn add_new_mark(acts: &mut Plan, policy: Policy, item: u32)
+    requires room { array_vec_len acts.old ≤ 63 }
+    ensures items { acts.new.items ≡ acts.old.items ++ new_marks policy item }
+    ensures fits { array_vec_len acts.new ≤ 64 }
+{
+    match policy {
+        Policy::Clock => acts.push(Act::Mark(item)),
+        Policy::ScanResistant => {}
+    }
+}
+
 /// Adds the acts of the moves and of the fill, and the mark of its item.
 fn add_storing<const V: usize>(
     books: &Books,
@@ -59,7 +71,7 @@ fn add_storing<const V: usize>(
     requires width { IsWidth V }
     requires room { array_vec_len acts.old ≤ 4 }
     requires item { storing.item < (shape_of books.now.checked).items }
-    ensures items { acts.new.items ≡ acts.old.items ++ storing_acts books.now.far.value.moves.items (shape_of books.now.checked) key value.now storing }
+    ensures items { acts.new.items ≡ acts.old.items ++ storing_acts (policy_of books.now.checked) books.now.far.value.moves.items (shape_of books.now.checked) key value.now storing }
     ensures fits { array_vec_len acts.new ≤ 64 }
 {
     add_moves_of(books, acts, storing.moves);
@@ -72,7 +84,7 @@ fn add_storing<const V: usize>(
         storing.item,
         storing.place,
     );
-    acts.push(Act::Mark(storing.item));
+    add_new_mark(acts, books.checked.policy(), storing.item);
 }
 
 /// Adds the acts of the eviction, and then those of the put.
@@ -86,7 +98,7 @@ fn add_replacement<const V: usize>(
     requires width { IsWidth V }
     requires none { acts.old.items ≡ [] }
     requires item { taken.storing.item < (shape_of books.now.checked).items }
-    ensures items { acts.new.items ≡ replacement_acts books.now.far.value.moves.items (shape_of books.now.checked) key value.now taken }
+    ensures items { acts.new.items ≡ replacement_acts (policy_of books.now.checked) books.now.far.value.moves.items (shape_of books.now.checked) key value.now taken }
     ensures fits { array_vec_len acts.new ≤ 64 }
 {
     add_evict(acts, taken.victim.key, taken.victim.place);
@@ -126,7 +138,7 @@ fn start_insert<const V: usize, P: Peek>(
     let Some(room) = books.room::<V, P>(peek, parts) else {
         return Start::Planned(Err(PutError::NoPath));
     };
-    match books.insert::<V, P>(peek, parts.mixed, room, at) {
+    match books.insert::<V, P>(peek, key, room, at) {
         Some(storing) => {
             add_storing(books, plan, key, value, storing);
             Start::Planned(Ok(books.told(storing, None)))
@@ -222,7 +234,7 @@ pub(crate) fn finish_put<const V: usize, P: Peek>(
     ensures planned { (call : Call) (s : State V) (rs : List Swept) → IsSweeping V books.old waiting.entry call s rs →
         IsOver (shape_of books.old.checked).items rs → P.words peek.old ≡ s.words →
         IsPlanned V books.new plan.new.items call s (state_after_sweep V (shape_of books.old.checked) s rs)
-        (answer.Put result) × IsSweepOf V (shape_of books.old.checked) s rs (answer.Put result) }
+        (answer.Put result) × IsSweepOf V (shape_of books.old.checked) (policy_of books.old.checked) s rs (answer.Put result) }
     ensures fits { array_vec_len plan.new ≤ 64 }
     ensures shape { books.new.checked ≡ books.old.checked }
     ensures kept { peek.new ≡ peek.old }

@@ -1,6 +1,7 @@
 //! A put that waits for an item.
 ghost use Rattle.std.specs.Prelude.{ℕ, ◌≡◌, ◌*◌, ◌<◌, ◌++◌, [], ◌∷◌, IfNone, List, Some};
-ghost use Rattle.mc_words.specs.Checks.{shape_of};
+ghost use Rattle.mc_words.specs.Checks.{policy_of, shape_of};
+ghost use Rattle.mc_words.specs.declared.policy.Policy.TheVariants.{Clock};
 ghost use Rattle.mc_theory.specs.States.{State};
 
 use crate::answer::{Put, PutError};
@@ -21,8 +22,6 @@ pub(crate) enum Start {
 pub struct Waiting<const V: usize> {
     pub(crate) sweep: Sweep,
     pub(crate) key: u64,
-    /// The key, mixed.
-    pub(crate) mixed: u64,
     pub(crate) value: [u64; V],
     pub(crate) room: Room,
 }
@@ -33,8 +32,9 @@ impl<const V: usize> Waiting<V> {
     ghost use Rattle.mc_plan.specs.declared.books.Books.{Books};
     ghost use Rattle.mc_search.specs.Sweeps.{Swept, IsOver, next_item};
 
-    /// A put whose hand has read nothing yet. `mixed` is the key, mixed. Condition: the key has this room, by these books, and no item is free.
-    pub fn new(books: &Books, key: u64, mixed: u64, value: [u64; V], room: Room) -> Waiting<V>
+    /// A put whose hand has read nothing yet. Condition: the policy is CLOCK, the key has this room, by these books, and no item is free.
+    pub fn new(books: &Books, key: u64, value: [u64; V], room: Room) -> Waiting<V>
+        requires clock { policy_of books.now.checked ≡ Clock }
         requires waits { (s : State V) × Waits V books.now key value s room }
         ensures sweeping { (s : State V) → Waits V books.now key value.entry s room → IsSweeping V books.now result (PutCall key value.entry) s [] }
         ensures key { result.key ≡ key }
@@ -45,7 +45,6 @@ impl<const V: usize> Waiting<V> {
         Waiting {
             sweep: books.sweep(),
             key,
-            mixed,
             value,
             room,
         }

@@ -3,6 +3,7 @@ use Rattle.std.proofs.Common.{ℕ, ◌≡◌, ◌+◌, ◌-◌, ◌*◌, ◌^◌
 use Rattle.std.specs.Prelude.{◌↔◌}
 use Rattle.std.proofs.lemmas.Bool.{cond_below, cond_above}
 use Rattle.std.proofs.lemmas.List.{append-nil}
+use Rattle.mc_words.specs.declared.policy.Policy.{Policy}
 use Rattle.mc_words.specs.History.{IsTrueAnswer}
 use Rattle.mc_words.specs.Shapes.{IsShape}
 use Rattle.mc_words.specs.declared.history.Reply.{Reply}
@@ -23,7 +24,7 @@ use Rattle.mc_theory.proofs.Lists.Readings.{read_parts}
 use Rattle.mc_shared.specs.Records.{ReaderRecord, reader_record}
 use Rattle.mc_shared.specs.Steps.{ReadsOne, reading, mark_at}
 use Rattle.mc_shared.specs.TableRule.{IsRecord}
-use Rattle.mc_shared.specs.Views.{layout_of, AreLawful, IsFrontOf}
+use Rattle.mc_shared.specs.Views.{layout_with, AreLawful, IsFrontOf}
 use Rattle.mc_shared.proofs.ReaderRecords.{front_self, front_trans, front_length}
 use Rattle.mc_words.specs.Keys.{first_of, second_of, stripe_of}
 use Rattle.mc_words.specs.Places.{payload, slot_number, slot_place, version_place, word_count}
@@ -95,7 +96,7 @@ over_left : {V : ℕ} (l : Lookup V) (reply : Reply V) → reply_now l ≡ Some 
 unfolding IsRemainder
 over_left l reply e = over_at l l.stage reply e
 
-pub ends : (V : ℕ) (sh : Shape) (k : ℕ) (before after : ReaderRecord) (lookup : Lookup V) (reply : Reply V) → after.of.layout ≡ layout_of V sh → IsRecord after.of.layout after.front after.done → reply_now lookup ≡ Some reply
+pub ends : (V : ℕ) {policy : Policy} (sh : Shape) (k : ℕ) (before after : ReaderRecord) (lookup : Lookup V) (reply : Reply V) → after.of.layout ≡ layout_with V policy sh → IsRecord after.of.layout after.front after.done → reply_now lookup ≡ Some reply
     → IsOnCourse V sh k before after lookup → HasLooked V sh k before after reply
 ends V sh k before after lookup reply layout recorded over w = record {
   rs = w.rs;
@@ -114,10 +115,10 @@ ends V sh k before after lookup reply layout recorded over w = record {
 pub old_front : (V : ℕ) (sh : Shape) (xs ys : List Made) → IsFrontOf xs ys → front V sh ys (length xs) ≡ state_of V sh xs
 old_front V sh xs ys p = ap (λ (z : List Made). front V sh z (length xs)) p.1 ∙ (front_append V sh xs p.0 (length xs) (omega arith) ∙ front_all V sh xs (length xs) (omega arith))
 
-pub tells_true : (V : ℕ) (sh : Shape) (k : ℕ) (before after : ReaderRecord) (reply : Reply V) → IsShape sh → k < 2 ^ 64 → after.of.layout ≡ layout_of V sh → AreLawful after.of.layout after.front → HasLooked V sh k before after reply
+pub tells_true : (V : ℕ) {policy : Policy} (sh : Shape) (k : ℕ) (before after : ReaderRecord) (reply : Reply V) → IsShape sh → k < 2 ^ 64 → after.of.layout ≡ layout_with V policy sh → AreLawful after.of.layout after.front → HasLooked V sh k before after reply
     → IsTrueAnswer (state_of V sh after.front).history k reply × IsBetween (length (state_of V sh before.front).history) (length (state_of V sh after.front).history) reply
-tells_true V sh k before after reply shape small layout lawful h =
-    let lawful' : AreLawful (layout_of V sh) after.front = subst (λ l. AreLawful l after.front) layout lawful in
+tells_true V {policy} sh k before after reply shape small layout lawful h =
+    let lawful' : AreLawful (layout_with V policy sh) after.front = subst (λ l. AreLawful l after.front) layout lawful in
     let both = replies_are_true V sh after.front k sh.tries (length before.front) (length after.front) h.rs reply shape lawful' small (omega arith) h.read h.rise h.looked in
     (both.0, subst (λ (y : State V × State V). IsBetween (length y.0.history) (length y.1.history) reply) (λ i. (old_front V sh before.front after.front h.begins i, front_all V sh after.front (length after.front) (omega arith) i)) both.1)
 
@@ -125,7 +126,7 @@ tells_true V sh k before after reply shape small layout lawful h =
 pub leads_self : (V : ℕ) (sh : Shape) (r : ReaderRecord) (l : Lookup V) → Leads V sh r l r l
 leads_self V sh r l = record { of = refl; number = refl; shape = refl; key = refl; way = λ k before w. w; most = omega arith }
 
-pub leads_on : (V : ℕ) (sh : Shape) (old mid new : ReaderRecord) (l m n : Lookup V) (a b : Access) (word : ℕ) → Leads V sh old l mid m → new.of ≡ mid.of → new.number ≡ mid.number → ReadsOne (layout_of V sh) mid.front mid.done a word new.front new.done → a ≡ b → Consumes m b word n → Leads V sh old l new n
+pub leads_on : (V : ℕ) {policy : Policy} (sh : Shape) (old mid new : ReaderRecord) (l m n : Lookup V) (a b : Access) (word : ℕ) → Leads V sh old l mid m → new.of ≡ mid.of → new.number ≡ mid.number → ReadsOne (layout_with V policy sh) mid.front mid.done a word new.front new.done → a ≡ b → Consumes m b word n → Leads V sh old l new n
 leads_on V sh old mid new l m n a b word on of number one same t = record {
   of = of ∙ on.of;
   number = number ∙ on.number;

@@ -3,6 +3,7 @@ use Rattle.std.proofs.Common.{ℕ, ◌≡◌, ◌^◌, ◌<◌, ◌≤◌, List,
 use Rattle.std.specs.Prelude.{All}
 use Rattle.std.proofs.lemmas.List.{append-nil}
 use Rattle.std.proofs.lemmas.List.Elements.{All-head, All-tail}
+use Rattle.mc_words.specs.declared.policy.Policy.{Policy}
 use Rattle.mc_words.specs.Shapes.{IsShape}
 use Rattle.mc_words.specs.History.{IsTrueAnswer}
 use Rattle.mc_words.specs.declared.history.Reply.{Reply}
@@ -16,7 +17,7 @@ use Rattle.mc_theory.proofs.Lists.Readings.{read_parts, rise_on}
 use Rattle.mc_theory.proofs.Replies.TrueReplies.{replies_are_true}
 use Rattle.mc_shared.specs.Records.{ReaderRecord}
 use Rattle.mc_shared.specs.TableRule.{IsRecord}
-use Rattle.mc_shared.specs.Views.{layout_of, AreLawful, IsFrontOf}
+use Rattle.mc_shared.specs.Views.{layout_with, AreLawful, IsFrontOf}
 use Rattle.mc_shared.proofs.ReaderRecords.{front_self, front_trans, front_length}
 use Rattle.mc_reader.specs.Records.{HasLooked, HaveLooked, AreTrueAnswers}
 use Rattle.mc_reader.proofs.Course.{old_front}
@@ -53,7 +54,7 @@ rise_from : (e f : ℕ) (rs : List Reading) (g : ℕ) → e ≤ f → RiseTo f r
 rise_from e f [] g l up = omega (arith, up)
 rise_from e f (x ∷ xs) g l up = (omega (arith, up.0), up.1)
 
-module _ (V : ℕ) (sh : Shape) (start after : ReaderRecord) (shape : IsShape sh) (lawful : AreLawful (layout_of V sh) after.front) (recorded : IsRecord (layout_of V sh) after.front after.done) where
+module _ (V : ℕ) {policy : Policy} (sh : Shape) (start after : ReaderRecord) (shape : IsShape sh) (lawful : AreLawful (layout_with V policy sh) after.front) (recorded : IsRecord (layout_with V policy sh) after.front after.done) where
   -- a lookup that others follow
   one_true : (k : ℕ) (before mid : ReaderRecord) (r : Reply V) → k < 2 ^ 64 → IsFrontOf start.front before.front → HasLooked V sh k before mid r → Grown mid after
       → IsTrueAnswer (state_of V sh after.front).history k r × IsBetween (length (state_of V sh start.front).history) (length (state_of V sh after.front).history) r

@@ -109,7 +109,7 @@ fn guess_all<const V: usize>(cells: &Cells<V>, aims: &[Aim], items: u32, guesses
 // Touches the first and the last word of an item.
 #[inline(always)]
 fn touch_item<const V: usize>(cells: &Cells<V>, checked: &Checked, i: u32)
-    requires layout { cells.now.layout ≡ layout_of V (shape_of checked.now) }
+    requires layout { cells.now.layout ≡ layout_of V checked.now }
     requires width { IsWidth V }
     requires item { i < (shape_of checked.now).items }
 {

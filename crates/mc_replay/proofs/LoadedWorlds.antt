@@ -1,5 +1,6 @@
 -- Entries that are put into a new world, one after the other.
 use Rattle.std.proofs.Common.{◌≡◌, ℕ, ◌+◌, ◌*◌, ◌≤◌, List, [], ◌∷◌, ◌++◌, Option, None, Result, refl, sym, ap, ◌∙◌, subst, arith, length, length-append}
+use Rattle.mc_words.specs.declared.policy.Policy.TheVariants.{Clock}
 use Rattle.mc_words.specs.declared.shape.Shape.{Shape}
 use Rattle.mc_theory.proofs.Lists.Fronts.{state_append, state_none}
 use Rattle.mc_theory.specs.Lists.{Made, after_all, state_of}
@@ -32,7 +33,7 @@ loaded_none V player w idle = record {
   acts = [];
   changes = [];
   after = w;
-  loads = loads_none V (shape_of_player player) (state_of V (shape_of_player player) w.acts) 0;
+  loads = loads_none V Clock (shape_of_player player) (state_of V (shape_of_player player) w.acts) 0;
   makes = makes_none V (shape_of_player player) w;
   shape = refl;
   idle = idle;
@@ -55,7 +56,7 @@ loaded_more V old now new w es n k v left told index so call =
       acts = so.acts ++ call.acts;
       changes = so.changes ++ changes_by k v told;
       after = call.after;
-      loads = loads_more V sh s 0 n es k v so.acts call.acts so.changes left told so.loads (omega (arith, index)) (subst (λ (t : State V). Answered V sh (KeptCall k v) t call.acts (answer.Kept told)) here told_here);
+      loads = loads_more V Clock sh s 0 n es k v so.acts call.acts so.changes left told so.loads (omega (arith, index)) (subst (λ (t : State V). Answered V sh (KeptCall k v) t call.acts (answer.Kept told)) here told_here);
       makes = makes_append V sh w so.after call.after so.acts call.acts so.makes (subst (λ (y : Shape). WriterMakes V y so.after call.acts call.after) so.shape call.makes);
       shape = call.shape ∙ so.shape;
       idle = idle_more V new _ _ call.after (omega (arith, more)) call.idle;

@@ -2,3 +2,4 @@ pub mod Readable
 pub mod Ready
 pub mod Search
 pub mod Entries
+pub mod Items

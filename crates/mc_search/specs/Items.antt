@@ -1,5 +1,5 @@
 -- The items of a table: which are free, and which a choice, if there is one, has in use.
-use Rattle.std.specs.Prelude.{ℕ, ◌≡◌, ◌≢◌, ◌<◌, ◌⊎◌, ◌↔◌, List, Option, Some, None}
+use Rattle.std.specs.Prelude.{ℕ, ◌≡◌, ◌<◌, ◌↔◌, List, Option, Some, None}
 use Rattle.mc_search.specs.Choices.{IsChoice, IsInUse}
 use Rattle.mc_search.specs.Picks.{HasPicked}
 use Rattle.mc_search.specs.Sweeps.{Swept}
@@ -8,6 +8,8 @@ use Rattle.mc_search.specs.Free.{IsFreeList, IsInList, TakesListed, GivesListed}
 use Rattle.mc_search.specs.declared.choice.Choice.{Choice}
 use Rattle.mc_search.specs.declared.free.FreeList.{FreeList}
 use Rattle.mc_search.specs.declared.items.FreeItems.{FreeItems}
+use Rattle.mc_words.specs.declared.policy.Policy.{Policy}
+use Rattle.mc_words.specs.declared.policy.Policy.TheVariants.{Clock, ScanResistant}
 
 -- the item is free
 abbrev pub IsFreeIn : FreeItems → ℕ → Type 0
@@ -37,6 +39,14 @@ pub record IsConsistent (f : FreeItems) : Type 0 where
   pub kept : IsFreeList f.list
   pub tied : IsTied f.list f.choice
 
+-- the policy of the table: if there is a choice, new keys give way before those that were used again
+abbrev pub policy_by : Option Choice → Policy
+policy_by None = Clock
+policy_by (Some c) = ScanResistant
+
+abbrev pub policy_in : FreeItems → Policy
+policy_in f = policy_by f.choice
+
 -- the item is in use
 abbrev pub IsUsedIn : FreeItems → ℕ → Type 0
 IsUsedIn f i = (i < f.list.items) × (IsFreeIn f i → ⊥)
@@ -44,15 +54,3 @@ IsUsedIn f i = (i < f.list.items) × (IsFreeIn f i → ⊥)
 -- there is a choice, and the search has made these readings
 abbrev pub IsPicking : FreeItems → Pick → List Swept → Type 0
 IsPicking f p rs = (c : Choice) × (f.choice ≡ Some c) × HasPicked c p rs
-
--- the item was taken into the choice, if there is one
-abbrev pub IsTakenIn : Option Choice → Option Choice → ℕ → Type 0
-IsTakenIn None None i = Unit {0}
-IsTakenIn (Some c) (Some d) i = IsChoice d × (d.items ≡ c.items) × ((j : ℕ) → IsInUse d j ↔ (IsInUse c j ⊎ (j ≡ i)))
-IsTakenIn _ _ i = ⊥
-
--- or out of it
-abbrev pub IsTakenOut : Option Choice → Option Choice → ℕ → Type 0
-IsTakenOut None None i = Unit {0}
-IsTakenOut (Some c) (Some d) i = IsChoice d × (d.items ≡ c.items) × ((j : ℕ) → IsInUse d j ↔ (IsInUse c j × (j ≢ i)))
-IsTakenOut _ _ i = ⊥

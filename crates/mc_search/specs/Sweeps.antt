@@ -1,5 +1,7 @@
 -- The hand's way round the items, in search of one whose bit is clear.
 use Rattle.std.specs.Prelude.{ℕ, zero, suc, ◌≡◌, ◌≢◌, ◌+◌, ◌*◌, ◌%◌, ◌<◌, ◌≤◌, ◌⊎◌, ◌==◌, if◌then◌else◌, List, [], ◌∷◌, length, slice_index_or, Option, Some, None, IsSome}
+use Rattle.mc_words.specs.declared.policy.Policy.{Policy}
+use Rattle.mc_words.specs.declared.policy.Policy.TheVariants.{Clock, ScanResistant}
 use Rattle.mc_theory.specs.Lists.{Made}
 use Rattle.mc_theory.specs.declared.act.Act.TheVariants.{Hand}
 use Rattle.mc_search.specs.declared.sweep.Sweep.{Sweep}
@@ -32,6 +34,11 @@ pub record IsSearch (items : ℕ) (rs : List Swept) : Type 0 where
 pub record IsSweep (items hand : ℕ) (rs : List Swept) : Type 0 where
   pub searches : IsSearch items rs
   pub round : GoesRound items hand rs
+
+-- the readings by which an item is chosen: with CLOCK those of a sweep, else those of any search
+abbrev pub IsSearchBy : Policy → ℕ → ℕ → List Swept → Type 0
+IsSearchBy Clock items hand rs = IsSweep items hand rs
+IsSearchBy ScanResistant items hand rs = IsSearch items rs
 
 -- the item whose bit was clear
 abbrev pub victim_of : List Swept → Option ℕ

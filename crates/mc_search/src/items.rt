@@ -4,6 +4,7 @@ ghost use Rattle.std.specs.Prelude.{ℕ, ◌≡◌, ◌+◌, ◌*◌, ◌^◌, �
 use crate::choice::Choice;
 use crate::free::FreeList;
 use crate::pick::Pick;
+use mc_words::Policy;
 use std::alloc::{AllocError, Global};
 
 /// The items of a table: the free ones and, where a choice is kept, those in use, new or proven.
@@ -16,33 +17,24 @@ pub struct FreeItems {
 
 impl FreeItems {
     ghost use Rattle.mc_search.specs.Free.{returned_items};
-    ghost use Rattle.mc_search.specs.Items.{IsConsistent, IsFreeIn, IsUsedIn, IsPicking, TakesFree, GivesBack};
+    ghost use Rattle.mc_search.specs.Items.{IsConsistent, IsFreeIn, IsUsedIn, IsPicking, TakesFree, GivesBack, policy_in};
     ghost use Rattle.mc_search.specs.Sweeps.{Swept, IsOver, IsSearch, victim_of};
 
-    /// All items of a table, for CLOCK.
-    pub fn new(alloc: Global, items: u32) -> Result<FreeItems, AllocError>
-        ensures kept { IfOk result IsConsistent }
-        ensures items { IfOk result (λ f. f.list.items ≡ items) }
-        ensures all { IfOk result (λ f. (i : ℕ) → i < items → IsFreeIn f i) }
-    {
-        let list = FreeList::new(alloc, items)?;
-        Ok(FreeItems { list, choice: None })
-    }
-
-    /// All items of a table, with a choice of the item that gives way. Condition: there are items, and fewer than 2^31.
-    pub fn choosing(alloc: Global, items: u32) -> Result<FreeItems, AllocError>
+    /// All items of a table of this policy. Condition: there are items, and fewer than 2^31.
+    pub fn new(alloc: Global, items: u32, policy: Policy) -> Result<FreeItems, AllocError>
         requires some { 0 < items }
         requires few { items < 2 ^ 31 }
         ensures kept { IfOk result IsConsistent }
         ensures items { IfOk result (λ f. f.list.items ≡ items) }
+        ensures policy { IfOk result (λ f. policy_in f ≡ policy) }
         ensures all { IfOk result (λ f. (i : ℕ) → i < items → IsFreeIn f i) }
     {
         let list = FreeList::new(alloc, items)?;
-        let choice = Choice::new(alloc, items)?;
-        Ok(FreeItems {
-            list,
-            choice: Some(choice),
-        })
+        let choice = match policy {
+            Policy::Clock => None,
+            Policy::ScanResistant => Some(Choice::new(alloc, items)?),
+        };
+        Ok(FreeItems { list, choice })
     }
 
     /// The item in use whose bit is to be read next, while the search is not over and some item is in use.
@@ -64,6 +56,7 @@ impl FreeItems {
         requires in_use { IsUsedIn self.old item }
         requires picking { (rs : List Swept) × IsPicking self.old pick.old rs × (length rs < 2 * self.old.list.items) × (victim_of rs ≡ None) }
         ensures kept { IsConsistent self.new }
+        ensures policy { policy_in self.new ≡ policy_in self.old }
         ensures list { self.new.list ≡ self.old.list }
         ensures picking { (rs : List Swept) → IsPicking self.old pick.old rs → victim_of rs ≡ None →
             IsPicking self.new pick.new (rs ++ record { item = item; bit = bit } ∷ []) }
@@ -106,6 +99,7 @@ impl FreeItems {
     pub fn take_least(&mut self, mixed: u64) -> Option<u32>
         requires kept { IsConsistent self.old }
         ensures kept { IsConsistent self.new }
+        ensures policy { policy_in self.new ≡ policy_in self.old }
         ensures items { self.new.list.items ≡ self.old.list.items }
         ensures free { IfSome result (IsFreeIn self.old) }
         ensures takes { IfSome result (TakesFree self.old self.new) }
@@ -126,6 +120,7 @@ impl FreeItems {
         requires kept { IsConsistent self.old }
         requires in_use { IsUsedIn self.old item }
         ensures kept { IsConsistent self.new }
+        ensures policy { policy_in self.new ≡ policy_in self.old }
         ensures list { self.new.list ≡ self.old.list }
     {
         match &mut self.choice {
@@ -139,6 +134,7 @@ impl FreeItems {
         requires kept { IsConsistent self.old }
         requires in_items { item < self.old.list.items }
         ensures kept { IsConsistent self.new }
+        ensures policy { policy_in self.new ≡ policy_in self.old }
         ensures list { self.new.list ≡ self.old.list }
     {
         match &mut self.choice {
@@ -153,6 +149,7 @@ impl FreeItems {
         requires in_items { item < self.old.list.items }
         requires taken { IsFreeIn self.old item → ⊥ }
         ensures kept { IsConsistent self.new }
+        ensures policy { policy_in self.new ≡ policy_in self.old }
         ensures items { self.new.list.items ≡ self.old.list.items }
         ensures gives { GivesBack self.old self.new item }
     {
@@ -166,6 +163,7 @@ impl FreeItems {
         requires in_items { item < self.old.list.items }
         requires taken { IsFreeIn self.old item → ⊥ }
         ensures kept { IsConsistent self.new }
+        ensures policy { policy_in self.new ≡ policy_in self.old }
         ensures items { self.new.list.items ≡ self.old.list.items }
         ensures gives { GivesBack self.old self.new item }
     {
@@ -175,7 +173,7 @@ impl FreeItems {
 }
 
 ghost use Rattle.mc_search.specs.Choices.{IsChoice, IsInUse};
-ghost use Rattle.mc_search.specs.Items.{IsTakenIn, IsTakenOut};
+ghost use Rattle.mc_search.specs.Inside.Items.{IsTakenIn, IsTakenOut};
 
 fn take_in(choice: &mut Option<Choice>, item: u32, mixed: u64)
     requires { IfSome choice.old (λ c. IsChoice c × (item < c.items) × (IsInUse c item → ⊥)) }

@@ -1,5 +1,6 @@
 //! Opening shards with entries.
 ghost use Rattle.std.specs.Prelude.{ℕ, ◌≡◌, ◌+◌, ◌≤◌, All, IfErr, IfOk, List, MatchResult, OnOk, [], length, map};
+ghost use Rattle.mc_words.specs.declared.policy.Policy.TheVariants.{Clock};
 ghost use Rattle.mc_words.specs.declared.history.Change.{Change};
 ghost use Rattle.mc_words.specs.Keys.{shard_of};
 ghost use Rattle.mc_words.specs.Places.{IsWidth};
@@ -7,7 +8,7 @@ ghost use Rattle.mc_words.specs.Readers.{HasReaders};
 ghost use Rattle.mc_words.specs.Shapes.{HasShards, IsShape};
 ghost use Rattle.mc_plan.specs.WholeCalls.{KeptCall};
 ghost use Rattle.mc_plan.specs.declared.answer.Answer.TheVariants as answer;
-ghost use Rattle.mc_shared.specs.Views.{layout_of};
+ghost use Rattle.mc_shared.specs.Views.{layout_with};
 ghost use Rattle.mc_writer.specs.WriterCalls.{HasCalled};
 ghost use Rattle.mc_cache.specs.declared.opening.OpenError.TheVariants.{NoMemory};
 ghost use Rattle.mc_shards.specs.Loadings.{HaveLoaded, HaveMet, HoldEntries, ShardsLoad};
@@ -42,7 +43,7 @@ fn put_one<const V: usize>(
     value: [u64; V],
 ) -> Result<Put, Why>
     requires many { HasShards (length caches.now.items) }
-    requires shapes { All (λ o. o.layout ≡ layout_of V shape) caches.now.items }
+    requires shapes { All (λ o. o.layout ≡ layout_with V Clock shape) caches.now.items }
     requires of { map (λ w. w.of) writers.old.items ≡ caches.now.items }
     ensures wide { length value.entry ≡ V }
     ensures of { map (λ w. w.of) writers.new.items ≡ caches.now.items }
@@ -63,7 +64,7 @@ fn load<const V: usize>(
     left: &mut Vec<(usize, Why)>,
 ) -> Result<(), OpenError>
     requires many { HasShards (length caches.now.items) }
-    requires shapes { All (λ o. o.layout ≡ layout_of V shape) caches.now.items }
+    requires shapes { All (λ o. o.layout ≡ layout_with V Clock shape) caches.now.items }
     requires of { map (λ w. w.of) writers.old.items ≡ caches.now.items }
     requires none { left.old.items ≡ [] }
     ensures of { map (λ w. w.of) writers.new.items ≡ caches.now.items }

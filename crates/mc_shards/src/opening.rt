@@ -1,10 +1,11 @@
 //! Opening shards.
 ghost use Rattle.std.specs.Prelude.{◌≡◌, ◌+◌, ◌≤◌, [], ◌∷◌, ◌++◌, All, IfErr, IfOk, MatchResult, OnOk, length, map};
+ghost use Rattle.mc_words.specs.declared.policy.Policy.TheVariants.{Clock};
 ghost use Rattle.mc_words.specs.Places.{IsWidth};
 ghost use Rattle.mc_words.specs.Readers.{HasReaders};
 ghost use Rattle.mc_words.specs.Shapes.{HasShards, IsShape};
 ghost use Rattle.mc_shared.specs.Records.{writer_record};
-ghost use Rattle.mc_shared.specs.Views.{layout_of};
+ghost use Rattle.mc_shared.specs.Views.{layout_with};
 ghost use Rattle.mc_cache.specs.Openings.{RefusesOpening};
 ghost use Rattle.mc_cache.specs.Plain.{IsLegal, history};
 ghost use Rattle.mc_cache.specs.declared.opening.OpenError.TheVariants.{NoMemory};
@@ -121,7 +122,7 @@ fn open_one<const V: usize>(
     requires asked { IsShape shape × HasReaders all }
     requires many { length given.items ≤ all }
     requires given { All (AreDealt caches.now.items) given.items }
-    ensures refused { MatchResult result (λ r. r.0.layout ≡ layout_of V shape) (λ e. RefusesOpening shape all e) }
+    ensures refused { MatchResult result (λ r. r.0.layout ≡ layout_with V Clock shape) (λ e. RefusesOpening shape all e) }
     ensures writer { IfOk result (λ r. r.1 ≡ writer_record r.0 [] []) }
     ensures many { IfOk result (λ r. length r.2.items ≡ length given.entry.items) }
     ensures dealt { IfOk result (λ r. All (AreDealt (caches.now.items ++ r.0 ∷ [])) r.2.items) }
@@ -158,7 +159,7 @@ pub(crate) fn open_all<const V: usize>(
     requires asked { IsShape shape × HasReaders all }
     requires many { passes ≤ all }
     ensures refused { MatchResult result (λ r. length r.0.items ≡ shards) (λ e. RefusesOpening shape all e) }
-    ensures shapes { IfOk result (λ r. All (λ o. o.layout ≡ layout_of V shape) r.0.items) }
+    ensures shapes { IfOk result (λ r. All (λ o. o.layout ≡ layout_with V Clock shape) r.0.items) }
     ensures writers { IfOk result (λ r. r.1.items ≡ new_writers r.0.items) }
     ensures many { IfOk result (λ r. length r.2.items ≡ passes) }
     ensures dealt { IfOk result (λ r. All (AreDealt r.0.items) r.2.items) }

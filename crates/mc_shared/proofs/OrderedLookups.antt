@@ -21,7 +21,7 @@ use Rattle.mc_theory.proofs.Lists.Readings.{read_parts, rise_parts}
 use Rattle.mc_theory.proofs.Replies.TrueReplies.{replies_are_true}
 use Rattle.mc_shared.specs.ExactFronts.{steps_by, StepsRise, made_by, StandsAt, StandAt}
 use Rattle.mc_shared.specs.ExactLaws.{LookupsAreInTime, LookupsStandInOrder}
-use Rattle.mc_shared.specs.Views.{Note, layout_of}
+use Rattle.mc_shared.specs.Views.{Note, layout_with}
 use Rattle.mc_shared.specs.declared.layout.Layout.{Layout}
 use Rattle.mc_shared.specs.TableRule.{IsRecord}
 use Rattle.mc_shared.proofs.ExactReadings.{entered, readings_are_newest}
@@ -93,7 +93,7 @@ begins V sh k (suc t) rs reply h = ⊎_elim
     h
 
 pub lookups_stand_in_order : (V : ℕ) → LookupsStandInOrder V
-lookups_stand_in_order V sh acts number notes before rs after k tries reply shape lawful small paired recorded exact looked =
+lookups_stand_in_order V policy sh acts number notes before rs after k tries reply shape lawful small paired recorded exact looked =
     let through = rise_parts 0 (before ++ rs) after (length acts) recorded.rise in
     let later = rise_parts 0 before rs through.0 through.1 in
     let read : AreRead V sh acts rs = (read_parts V sh acts before rs (read_parts V sh acts (before ++ rs) after recorded.read).0).1 in
@@ -120,7 +120,7 @@ lookups_stand_in_order V sh acts number notes before rs after k tries reply shap
 -- if a list is longer by one entry than another, and begins a lookup there, the lookup's first front is the acts of that instant
 pub lookups_are_in_time : (V : ℕ) → LookupsAreInTime V
 lookups_are_in_time V sh k tries acts acts' reply shape small h =
-    let l : Layout = layout_of V sh in
+    let l : Layout = layout_with V h.policy sh in
     let done = entered l h.s' h.t' acts' h.last h.ends in
     let kept : IsRecord l acts' (h.begins.done ++ h.rs) = subst (IsRecord l acts') h.whole done.1 in
     let parts = rise_parts 0 h.begins.done h.rs (length acts') kept.rise in

@@ -1,6 +1,7 @@
 -- What a call on the writer's seat knows of the seat's view, and what its step leaves there.
 use Rattle.std.proofs.Common.{◌≡◌, ℕ, ◌+◌, ◌^◌, ◌<◌, List, [], ◌∷◌, ◌++◌, refl, ap, sym, ◌∙◌, subst, arith, Option, Some}
 use Rattle.std.specs.Prelude.{slice_index}
+use Rattle.mc_words.specs.declared.policy.Policy.{Policy}
 use Rattle.mc_words.specs.declared.shape.Shape.{Shape}
 use Rattle.atomic_table.specs.Seated.{TableId}
 use Rattle.mc_words.specs.Keys.{stripe_of}
@@ -15,7 +16,7 @@ use Rattle.mc_theory.specs.declared.act.Deed.{Deed}
 use Rattle.mc_shared.specs.declared.layout.Layout.{Layout}
 use Rattle.mc_shared.specs.Records.{Opening, WriterRecord, writer_record, HasActed}
 use Rattle.mc_shared.specs.Inside.Seats.{opening_of}
-use Rattle.mc_shared.specs.Views.{Note, writer_view, acts_of, tally_of, with_note, layout_state, with_bit, layout_of}
+use Rattle.mc_shared.specs.Views.{Note, writer_view, acts_of, tally_of, with_note, layout_state, with_bit, layout_with}
 use Rattle.mc_shared.specs.Steps.{SeatView, bit_of}
 use Rattle.mc_shared.specs.Inside.Steps.{WritesAt, IsOffBits, IsPlain, AddsNote}
 use Rattle.mc_shared.specs.Inside.Seats.{MayMake}
@@ -84,15 +85,17 @@ unfolding moment
 counted_word w x is = ap (λ (y : ℕ). Some (0, y + 1)) (sym is)
 
 -- the layout that a caller names by its shape and the number of words of a value is the table's
-pub layout_in : {V : ℕ} {sh : Shape} {o now : Opening} → o ≡ now → o.layout ≡ layout_of V sh → layout_of V now.layout.shape ≡ o.layout
-layout_in {V} {sh} {o} {now} same wide = sym (wide ∙ ap (layout_of V) (sym (ap (λ (l : Layout). l.shape) wide) ∙ ap (λ (p : Opening). p.layout.shape) same))
+pub layout_in : {V : ℕ} {policy : Policy} {sh : Shape} {o now : Opening} → o ≡ now → o.layout ≡ layout_with V policy sh → layout_with V now.layout.policy now.layout.shape ≡ o.layout
+layout_in {V} {policy} {sh} {o} {now} same wide =
+    let named : Layout → Layout = λ l. layout_with V l.policy l.shape in
+    ap (λ (p : Opening). named p.layout) (sym same) ∙ (ap named wide ∙ sym wide)
 
 -- a call on the writer's seat, whose caller knows how many words a value has
-module _ {V : ℕ} {sh : Shape} {t : TableId} {me : SeatView} {o now : Opening} {w : WriterRecord} (mine : IsWriter me) (v : writer_record (opening_of t me.0.layout) (acts_of me.0) (tally_of me.0).notes ≡ w) (same : o ≡ now) (wide : o.layout ≡ layout_of V sh) (of : w.of ≡ now) where
+module _ {V : ℕ} {policy : Policy} {sh : Shape} {t : TableId} {me : SeatView} {o now : Opening} {w : WriterRecord} (mine : IsWriter me) (v : writer_record (opening_of t me.0.layout) (acts_of me.0) (tally_of me.0).notes ≡ w) (same : o ≡ now) (wide : o.layout ≡ layout_with V policy sh) (of : w.of ≡ now) where
   layout_is : me.0.layout ≡ o.layout
   layout_is = ap (λ (r : WriterRecord). r.of.layout) v ∙ ap (λ (p : Opening). p.layout) (of ∙ sym same)
 
-  size_is : layout_of V now.layout.shape ≡ o.layout
+  size_is : layout_with V now.layout.policy now.layout.shape ≡ o.layout
   size_is = layout_in same wide
 
   acts_is : acts_of me.0 ≡ w.acts
@@ -163,12 +166,12 @@ module _ {V : ℕ} {sh : Shape} {t : TableId} {me : SeatView} {o now : Opening} 
   opened_runs w' k d r x here is next h =
       let shape : IsShape w.of.layout.shape = subst (λ (l : Layout). IsShape l.shape) (ap (λ (z : WriterRecord). z.of.layout) v) mine.shape in
       let place : r.place ≡ version_place (stripe_of w.of.layout.shape k) = here ∙ ap (λ (p : Opening). version_place (stripe_of p.layout.shape k)) (sym of) in
-      let word : x ≡ word_after (layout_of V w.of.layout.shape) w.acts r.place = subst (λ (y : Layout × List Made). x ≡ word_after y.0 y.1 r.place) (λ i. ((sym size_is ∙ ap (λ (p : Opening). layout_of V p.layout.shape) (sym of)) i, acts_is i)) is in
+      let word : x ≡ word_after (layout_with V w.of.layout.policy w.of.layout.shape) w.acts r.place = subst (λ (y : Layout × List Made). x ≡ word_after y.0 y.1 r.place) (λ i. ((sym size_is ∙ ap (λ (p : Opening). layout_with V p.layout.policy p.layout.shape) (sym of)) i, acts_is i)) is in
       opened_acted r shape place (next ∙ ap (λ y. y + 1) (version_is (state_of V w.of.layout.shape w.acts).words _ r.place x place word)) h
 
 -- what an allowed act names belongs to the table, for a caller that knows the number of words of a value
-pub named_in : (V : ℕ) (sh : Shape) (o : Opening) (w : WriterRecord) (a : Act) → o.layout ≡ layout_of V sh → w.of ≡ o → IsRun w.of.layout w.acts → IsAllowed o.layout.shape (state_of V o.layout.shape w.acts) a → NamesIn V sh a
-named_in V sh o w a e of run h =
-    let r : IsRun (layout_of V sh) w.acts = subst (λ (l : Layout). IsRun l w.acts) (ap (λ (p : Opening). p.layout) of ∙ e) run in
+pub named_in : (V : ℕ) {policy : Policy} (sh : Shape) (o : Opening) (w : WriterRecord) (a : Act) → o.layout ≡ layout_with V policy sh → w.of ≡ o → IsRun w.of.layout w.acts → IsAllowed o.layout.shape (state_of V o.layout.shape w.acts) a → NamesIn V sh a
+named_in V {policy} sh o w a e of run h =
+    let r : IsRun (layout_with V policy sh) w.acts = subst (λ (l : Layout). IsRun l w.acts) (ap (λ (p : Opening). p.layout) of ∙ e) run in
     let allowed : IsAllowed sh (state_of V sh w.acts) a = subst (λ (z : Shape). IsAllowed z (state_of V z w.acts) a) (ap (λ (l : Layout). l.shape) e) h in
-    act_names_in (layout_of V sh) w.acts a (record { shape = r.shape; lawful = r.lawful; allowed = allowed; few = omega (arith, r.within, r.shape.limit) })
+    act_names_in (layout_with V policy sh) w.acts a (record { shape = r.shape; lawful = r.lawful; allowed = allowed; few = omega (arith, r.within, r.shape.limit) })

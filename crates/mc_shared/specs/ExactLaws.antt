@@ -5,6 +5,7 @@ use lib.Bits.{bit_and}
 use mathlib.Core.Option.{some, none}
 use lib.ListN.{get_elem?}
 use Rattle.atomic_table.specs.Table as table
+use Rattle.mc_words.specs.declared.policy.Policy.{Policy}
 use Rattle.mc_words.specs.History.{IsTrueAnswer}
 use Rattle.mc_words.specs.Places.{word_count, recency_place}
 use Rattle.mc_words.specs.Recency.{recency_bit}
@@ -21,7 +22,7 @@ use Rattle.mc_theory.specs.declared.access.Access.TheVariants as access
 use Rattle.mc_theory.specs.declared.act.Act.TheVariants.{Hand}
 use Rattle.mc_shared.specs.ExactFronts.{steps_by, made_by, IsReading, StandsAt, IsExact, InOneOrder}
 use Rattle.mc_shared.specs.TableRule.{IsRecord, Ruled, bit_in}
-use Rattle.mc_shared.specs.Views.{Note, Tally, View, reader_view, writer_view, with_bit, with_note, front_of, layout_of, layout_state, IsFrontOf}
+use Rattle.mc_shared.specs.Views.{Note, Tally, View, reader_view, writer_view, with_bit, with_note, front_of, layout_with, layout_state, IsFrontOf}
 use Rattle.mc_shared.specs.Steps.{reading, mark_at, ReadsWord, AddsMark, AddsMarkIfSet, AddsActIfClear, ClearsBit}
 use Rattle.mc_shared.specs.declared.layout.Layout.{Layout}
 
@@ -130,8 +131,8 @@ pub record HandsAreEntries : Type 0 where
 -- before the lookup's first step, and no more than were made before its last
 abbrev pub LookupsStandInOrder : ℕ → Type 0
 LookupsStandInOrder V =
-    (sh : Shape) (acts : List Made) (number : ℕ) (notes : List Note) (before rs after : List Reading) (k tries : ℕ) (reply : Reply V) → IsShape sh → IsLawful V sh acts → k < 2 ^ 64 →
-    length notes ≡ length acts → IsRecord (layout_of V sh) acts (before ++ rs ++ after) → IsExact number notes (before ++ rs ++ after) → IsLookup V sh k tries rs reply →
+    (policy : Policy) (sh : Shape) (acts : List Made) (number : ℕ) (notes : List Note) (before rs after : List Reading) (k tries : ℕ) (reply : Reply V) → IsShape sh → IsLawful V sh acts → k < 2 ^ 64 →
+    length notes ≡ length acts → IsRecord (layout_with V policy sh) acts (before ++ rs ++ after) → IsExact number notes (before ++ rs ++ after) → IsLookup V sh k tries rs reply →
     IsTrueAnswer (state_of V sh acts).history k reply
     × IsBetween (length (front V sh acts (made_by number (length before) notes)).history) (length (front V sh acts (made_by number (length before + length rs - 1) notes)).history) reply
 
@@ -145,11 +146,12 @@ pub record IsLookedUp (V : ℕ) (sh : Shape) (k tries : ℕ) (acts acts' : List 
   pub first : Reading
   pub more : List Reading
   pub from : rs ≡ first ∷ more
-  pub begins : AddsEntry (layout_of V sh) s t acts first
+  pub policy : Policy
+  pub begins : AddsEntry (layout_with V policy sh) s t acts first
   pub s' : table.State (Unit {0}) View
   pub t' : table.State (Unit {0}) View
   pub last : Reading
-  pub ends : AddsEntry (layout_of V sh) s' t' acts' last
+  pub ends : AddsEntry (layout_with V policy sh) s' t' acts' last
   pub whole : ends.done ++ last ∷ [] ≡ begins.done ++ rs
   pub later : IsFrontOf acts acts'
 

@@ -1,5 +1,9 @@
 -- What a seat of a table knows. It exists in proofs alone.
 use Rattle.std.specs.Prelude.{ℕ, ◌≡◌, ◌+◌, ◌==◌, List, [], ◌∷◌, ◌++◌, if◌then◌else◌}
+use Rattle.mc_words.specs.Checks.{policy_of, shape_of}
+use Rattle.mc_words.specs.declared.checked.Checked.{Checked}
+use Rattle.mc_words.specs.declared.policy.Policy.{Policy}
+use Rattle.mc_words.specs.declared.policy.Policy.TheVariants.{Clock}
 use Rattle.mc_theory.specs.Lists.{Made, IsLawful, state_of}
 use Rattle.mc_theory.specs.Readings.{Reading}
 use Rattle.mc_theory.specs.States.{State}
@@ -61,7 +65,7 @@ new_writer_view l = writer_view l [] new_tally
 
 -- what no seat of a table knows
 abbrev pub spent_view : View
-spent_view = view_as (record { shape = record { buckets = 0; items = 0; stripes = 0; depth = 0; tries = 0; limit = 0; mix = Plain }; width = 0 }) Spent
+spent_view = view_as (record { shape = record { buckets = 0; items = 0; stripes = 0; depth = 0; tries = 0; limit = 0; mix = Plain }; width = 0; policy = Clock }) Spent
 
 abbrev pub acts_in : Role → List Made
 acts_in Spent = []
@@ -137,6 +141,9 @@ with_bit a bit = record { act = a; bit = bit }
 abbrev pub IsFrontOf : List Made → List Made → Type 0
 IsFrontOf front acts = (more : List Made) × (acts ≡ front ++ more)
 
--- where the words of a table of this shape are, if a value has V words
-abbrev pub layout_of : ℕ → Shape → Layout
-layout_of V sh = record { shape = sh; width = V }
+-- the layout of a table of this shape and policy, if a value has V words
+abbrev pub layout_with : ℕ → Policy → Shape → Layout
+layout_with V policy sh = record { shape = sh; width = V; policy = policy }
+
+abbrev pub layout_of : ℕ → Checked → Layout
+layout_of V c = layout_with V (policy_of c) (shape_of c)

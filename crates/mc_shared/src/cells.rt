@@ -40,13 +40,13 @@ impl<const V: usize> Model for Cells<V> {
 
     ghost view = { λ c. c.ruled };
 
-    ghost invariant = { λ c. (c.ruled.layout ≡ layout_of V (shape_of c.checked)) × IsWidth V × AreStarts V (shape_of c.checked) c.items_start c.recency_start };
+    ghost invariant = { λ c. (c.ruled.layout ≡ layout_of V c.checked) × IsWidth V × AreStarts V (shape_of c.checked) c.items_start c.recency_start };
 }
 
 impl<const V: usize> Cells<V> {
     /// The shape of the table.
     pub fn checked(&self) -> &Checked
-        ensures layout { self.now.layout ≡ layout_of V (shape_of result.now) }
+        ensures layout { self.now.layout ≡ layout_of V result.now }
         ensures width { IsWidth V }
     {
         &self.checked
@@ -97,7 +97,7 @@ pub fn open<const V: usize>(
 ) -> Result<(Cells<V>, WriterSeat, Vec<ReaderSeat>), NoMemory>
     requires width { IsWidth V }
     requires readers { HasReaders readers }
-    ensures cells { IfOk result (λ r. r.0.layout ≡ layout_of V (shape_of checked.now)) }
+    ensures cells { IfOk result (λ r. r.0.layout ≡ layout_of V checked.now) }
     ensures writer { IfOk result (λ r. r.1 ≡ writer_record r.0 [] []) }
     ensures readers { IfOk result (λ r. r.2.items ≡ new_readers r.0 readers) }
     ensures fresh { IfOk result (λ r. All (IsNewReader r.0) r.2.items) }
@@ -105,6 +105,7 @@ pub fn open<const V: usize>(
     let layout = Layout {
         shape: checked.shape(),
         width: V,
+        policy: checked.policy(),
     };
     let (ruled, writer, seats) = open_words(alloc, layout, checked.words::<V>(), readers)?;
     let cells = Cells {

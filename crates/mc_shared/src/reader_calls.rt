@@ -4,7 +4,7 @@ ghost use Rattle.mc_words.specs.Places.{all_words, moment, word_count};
 ghost use Rattle.mc_theory.specs.Lists.{state_of};
 ghost use Rattle.mc_theory.specs.Writes.{IsAccess, place_read};
 ghost use Rattle.mc_shared.specs.ExactFronts.{InOneOrder};
-ghost use Rattle.mc_shared.specs.Views.{layout_of, IsFrontOf};
+ghost use Rattle.mc_shared.specs.Views.{layout_with, IsFrontOf};
 ghost use Rattle.mc_shared.specs.Steps.{ReadsOne, mark_at};
 ghost use Rattle.mc_shared.specs.Records.{reader_record};
 
@@ -27,7 +27,7 @@ pub fn read<const V: usize>(cells: &Cells<V>, reader: &mut ReaderSeat, access: A
     requires load { IsSome (place_read V cells.now.layout.shape access) }
     ensures of { reader.new.of ≡ reader.old.of }
     ensures number { reader.new.number ≡ reader.old.number }
-    ensures one { ReadsOne (layout_of V cells.now.layout.shape) reader.old.front reader.old.done access result reader.new.front reader.new.done }
+    ensures one { ReadsOne (layout_with V cells.now.layout.policy cells.now.layout.shape) reader.old.front reader.old.done access result reader.new.front reader.new.done }
 {
     let checked = &cells.checked;
     let place = match access {
@@ -54,7 +54,7 @@ pub fn read_at<const V: usize>(
     requires range { place < word_count V cells.now.layout.shape }
     ensures of { reader.new.of ≡ reader.old.of }
     ensures number { reader.new.number ≡ reader.old.number }
-    ensures one { ReadsOne (layout_of V cells.now.layout.shape) reader.old.front reader.old.done access result reader.new.front reader.new.done }
+    ensures one { ReadsOne (layout_with V cells.now.layout.policy cells.now.layout.shape) reader.old.front reader.old.done access result reader.new.front reader.new.done }
 {
     let mut seat = mem::replace(&mut reader.badge, Badge::blank()).into_seat::<()>();
     let word = load_as_reader::<Brand>(&cells.ruled, &mut seat, access, place);

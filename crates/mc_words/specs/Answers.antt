@@ -88,10 +88,15 @@ pub record NeedsItem (V : ℕ) (sh : Shape) (s : Quiet V) (k : ℕ) : Type 0 whe
   pub least : IsLeastLength sh s.words k count
   pub full : key_count s.history ≡ sh.items
 
--- no item could be taken from another key
-pub record RefusesAll (V : ℕ) (sh : Shape) (s t : Quiet V) (k : ℕ) : Type 0 where
+-- no item is free, and none is taken from another key
+pub record RefusesItem (V : ℕ) (sh : Shape) (s t : Quiet V) (k : ℕ) : Type 0 where
   pub needs : NeedsItem V sh s k
   pub unchanged : t ≡ s
+
+-- no item could be taken from another key: at most the hand has gone on
+pub record RefusesAll (V : ℕ) (sh : Shape) (s t : Quiet V) (k : ℕ) : Type 0 where
+  pub needs : NeedsItem V sh s k
+  pub unchanged : t ≡ record s { hand = t.hand }
 
 -- another key was taken out, and the key was put with its item after no more moves than the shortest chain needs
 pub record Replaces (V : ℕ) (sh : Shape) (s t : Quiet V) (k : ℕ) (v : List ℕ) (at moves evicted : ℕ) : Type 0 where

@@ -1,5 +1,5 @@
 //! A shape that was checked: the parts of a key, the format of a slot word, the places of words.
-ghost use Rattle.mc_words.specs.Keys.{tag_of, first_of, offset_of, alternate, stripe_of, slot_word, tag_in, item_in, NamesSome, MatchesTag};
+ghost use Rattle.mc_words.specs.Keys.{mixed_key, tag_of, first_of, offset_of, alternate, stripe_of, slot_word, tag_in, item_in, NamesSome, MatchesTag};
 ghost use Rattle.std.specs.Prelude.{ℕ, ◌≡◌, ◌≢◌, ◌+◌, ◌*◌, ◌^◌, ◌<◌, ◌≤◌};
 ghost use Rattle.mc_words.specs.Places.{slot_number, IsPlace, IsWidth, payload, word_count, all_words, version_place, slot_place, item_place, recency_place, PlacesApart};
 ghost use Rattle.mc_words.specs.Recency.{recency_bit};
@@ -8,17 +8,19 @@ ghost use Rattle.mc_words.specs.Shapes.{IsShape};
 use crate::item::item_stride;
 use crate::key_parts::KeyParts;
 use crate::place::Place;
+use crate::policy::Policy;
 use crate::shape::Shape;
 
 /// A shape whose fields are all in their ranges: it cuts keys into their parts and computes where each word is.
 #[derive(Clone, Copy, Debug, PartialEq, Eq)]
 pub struct Checked {
     pub(crate) shape: Shape,
+    pub(crate) policy: Policy,
     pub ghost sound: { IsShape shape },
 }
 
 impl Checked {
-    ghost use Rattle.mc_words.specs.Checks.{shape_of, Parts};
+    ghost use Rattle.mc_words.specs.Checks.{policy_of, shape_of, Parts};
     ghost use Rattle.mc_words.specs.KeyParts.{HasParts};
 
     /// The shape that was checked.
@@ -26,6 +28,31 @@ impl Checked {
         ensures { result ≡ shape_of self.now }
     {
         self.shape
+    }
+
+    /// The policy of the table: CLOCK, unless another was asked for.
+    pub fn policy(&self) -> Policy
+        ensures { result ≡ policy_of self.now }
+    {
+        self.policy
+    }
+
+    /// This shape for a table of this policy.
+    pub fn with_policy(self, policy: Policy) -> Checked
+        ensures { result ≡ record self { policy = policy } }
+    {
+        Checked {
+            shape: self.shape,
+            policy,
+        }
+    }
+
+    /// The mixed key, of which its parts are cut.
+    #[inline(always)]
+    pub fn mixed(&self, key: u64) -> u64
+        ensures { result ≡ mixed_key (shape_of self.now).mix key }
+    {
+        self.shape.mix.mix(key)
     }
 
     /// The byte of the key that its slot keeps.
@@ -86,7 +113,6 @@ impl Checked {
             first,
             second: self.alt(first, tag),
             stripe,
-            mixed: self.shape.mix.mix(key),
         }
     }
 

@@ -10,6 +10,4 @@ pub struct KeyParts {
     pub second: u32,
     /// The stripe whose version counts its changes.
     pub stripe: u32,
-    /// The mixed key, of which the others are cut.
-    pub mixed: u64,
 }

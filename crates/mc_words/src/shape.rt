@@ -4,6 +4,7 @@ ghost use Rattle.mc_words.specs.Shapes.{IsPower};
 
 use crate::checked::Checked;
 use crate::mix::Mix;
+use crate::policy::Policy;
 use thiserror::Error;
 
 /// The sizes of a table and the bounds of its calls.
@@ -52,11 +53,12 @@ pub(crate) fn is_power(n: u32) -> bool
 
 impl Shape {
     ghost use Rattle.mc_words.specs.Shapes.{IsShape, RefusesShape};
-    ghost use Rattle.mc_words.specs.Checks.{shape_of};
+    ghost use Rattle.mc_words.specs.Checks.{policy_of, shape_of};
+    ghost use Rattle.mc_words.specs.declared.policy.Policy.TheVariants.{Clock};
 
     /// The shape, checked. Otherwise the first fault in the order of `ShapeError`.
     pub fn check(self) -> Result<Checked, ShapeError>
-        ensures { MatchResult result (λ c. (shape_of c ≡ self) × IsShape self) (λ e. RefusesShape self e) }
+        ensures { MatchResult result (λ c. (shape_of c ≡ self) × IsShape self × (policy_of c ≡ Clock)) (λ e. RefusesShape self e) }
     {
         if self.buckets < 2 || self.buckets > 1 << 20 || !is_power(self.buckets) {
             return Err(ShapeError::Buckets);
@@ -76,6 +78,9 @@ impl Shape {
         if self.limit > 1 << 62 {
             return Err(ShapeError::Limit);
         }
-        Ok(Checked { shape: self })
+        Ok(Checked {
+            shape: self,
+            policy: Policy::Clock,
+        })
     }
 }

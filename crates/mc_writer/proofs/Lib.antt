@@ -5,4 +5,5 @@ pub mod WholeCalls
 pub mod Rests
 pub mod AbsentCalls
 pub mod Chosen
+pub mod Picked
 pub mod GivenWay

@@ -1,5 +1,6 @@
 -- What is known of the words while the writer rests.
 use Rattle.std.proofs.Common.{ℕ, ◌≡◌, ◌<◌, [], ◌∷◌, ◌++◌, None, ap, sym, ◌∙◌, subst}
+use Rattle.mc_words.specs.declared.policy.Policy.{Policy}
 use Rattle.mc_words.specs.Checks.{shape_of}
 use Rattle.mc_words.specs.Standing.{Agrees}
 use Rattle.mc_words.specs.declared.shape.Shape.{Shape}
@@ -14,7 +15,7 @@ use Rattle.mc_plan.specs.Books.{AreBooksOf}
 use Rattle.mc_plan.specs.declared.books.Books.{Books}
 use Rattle.mc_plan.proofs.Deeds.QuietStates.{agrees_quiet}
 use Rattle.mc_shared.specs.Records.{Opening, WriterRecord, HasActed}
-use Rattle.mc_shared.specs.Views.{layout_of, with_bit}
+use Rattle.mc_shared.specs.Views.{layout_with, with_bit}
 use Rattle.mc_shared.specs.declared.layout.Layout.{Layout}
 use Rattle.mc_writer.specs.WriterCalls.{IsRested}
 
@@ -28,7 +29,7 @@ module _ (V : ℕ) (o : Opening) (books : Books) (seat : WriterRecord) (of : sea
       (agrees_quiet V (shape_of books.checked) (state_of V (shape_of books.checked) seat.acts) rested.known.quiet)
 
   -- the same, for a shape that is the table's
-  pub agrees_in : (sh : Shape) → o.layout ≡ layout_of V sh → Agrees V sh (state_of V o.layout.shape seat.acts).words None (state_of V o.layout.shape seat.acts).history
+  pub agrees_in : {policy : Policy} (sh : Shape) → o.layout ≡ layout_with V policy sh → Agrees V sh (state_of V o.layout.shape seat.acts).words None (state_of V o.layout.shape seat.acts).history
   agrees_in sh e = subst (λ (z : Shape). Agrees V z (state_of V o.layout.shape seat.acts).words None (state_of V o.layout.shape seat.acts).history) (ap (λ (l : Layout). l.shape) e) agrees_now
 
 -- a mark leaves a quiet state as it is

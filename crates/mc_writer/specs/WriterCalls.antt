@@ -9,7 +9,7 @@ use Rattle.mc_words.specs.declared.history.Reply.TheVariants.{Found, Absent, Bus
 use Rattle.mc_theory.specs.Lists.{Made, state_of}
 use Rattle.mc_theory.specs.States.{State}
 use Rattle.mc_theory.specs.declared.act.Act.TheVariants.{Mark}
-use Rattle.mc_plan.specs.WholeCalls.{Answered, Call, PutCall}
+use Rattle.mc_plan.specs.WholeCalls.{AnsweredBy, Call, PutCall}
 use Rattle.mc_plan.specs.Books.{AreBooksOf}
 use Rattle.mc_plan.specs.declared.answer.AbsentError.{AbsentError}
 use Rattle.mc_plan.specs.declared.answer.AbsentError.TheVariants as absent
@@ -20,17 +20,17 @@ use Rattle.mc_plan.specs.declared.books.Books.{Books}
 use Rattle.mc_shared.specs.Records.{WriterRecord, NotesGrow}
 use Rattle.mc_shared.specs.Views.{layout_of, with_bit}
 
--- a whole call was made on the seat, and this is its true answer. The notes beside earlier acts are as they were
+-- a whole call was made on the seat, by the policy of its table, and this is its true answer. The notes beside earlier acts are as they were
 pub record HasCalled (V : ℕ) (sh : Shape) (call : Call) (before after : WriterRecord) (told : Answer) : Type 0 where
   pub made : List Made
   pub of : after.of ≡ before.of
   pub acts : after.acts ≡ before.acts ++ made
   pub notes : NotesGrow before.notes after.notes
-  pub answered : Answered V sh call (state_of V sh before.acts) made told
+  pub answered : AnsweredBy V sh before.of.layout.policy call (state_of V sh before.acts) made told
 
 -- between two calls the books are those of the state after the acts of the seat
 pub record IsRested (V : ℕ) (books : Books) (seat : WriterRecord) : Type 0 where
-  pub layout : seat.of.layout ≡ layout_of V (shape_of books.checked)
+  pub layout : seat.of.layout ≡ layout_of V books.checked
   pub known : AreBooksOf V books (state_of V (shape_of books.checked) seat.acts)
 
 -- the reply is what the map holds of the key at the end of the history; what was done grew by a mark of the item of a hit, and a miss does nothing

@@ -1,14 +1,15 @@
 //! The writer's deeds, step by step, and what was decided, deed by deed.
 ghost use Rattle.std.specs.Prelude.{◌≡◌, ◌^◌, ◌<◌};
+ghost use Rattle.mc_words.specs.Checks.{policy_of};
 ghost use Rattle.mc_words.specs.KeyParts.{HasParts};
 ghost use Rattle.mc_words.specs.Places.{IsWidth, item_place};
-ghost use Rattle.mc_plan.specs.Decisions.{acts_of_moves, filling_acts, moves_of, renewal_acts, replacement_acts, storing_acts};
+ghost use Rattle.mc_plan.specs.Decisions.{acts_of_moves, filling_acts, moves_of, new_marks, renewal_acts, replacement_acts, storing_acts};
 ghost use Rattle.mc_plan.specs.Plans.{value_acts, payload_acts, fill_acts, renew_acts, take_out_acts, move_acts};
 
 use crate::pen::Pen;
 use mc_plan::{Books, Move, Moves, Replacement, Storing};
 use mc_theory::Deed;
-use mc_words::{KeyParts, Place};
+use mc_words::{KeyParts, Place, Policy};
 
 // The condition of each deed is that its acts are due next.
 impl<'a, const V: usize> Pen<'a, V> {
@@ -147,6 +148,18 @@ impl<'a, const V: usize> Pen<'a, V> {
         self.set_mark_unless_set(item);
     }
 
+    // Marks a new key's item, if the policy is CLOCK.
+    #[inline(always)]
+    fn mark_new(&mut self, policy: Policy, item: u32)
+        requires due { IsDue V (new_marks policy item) self.old }
+        ensures made { HasMade V (new_marks policy item) self.old self.new }
+    {
+        match policy {
+            Policy::Clock => self.set_mark(item),
+            Policy::ScanResistant => {}
+        }
+    }
+
     /// Makes the fill, and the mark of its item.
     #[inline(always)]
     pub(crate) fn make_filling(
@@ -157,15 +170,16 @@ impl<'a, const V: usize> Pen<'a, V> {
         at: u64,
         item: u32,
         place: Place,
+        policy: Policy,
     )
         requires width { IsWidth V }
         requires item { item < self.old.cells.now.layout.shape.items }
-        requires due { IsDue V (filling_acts self.old.cells.now.layout.shape key value.now at item place) self.old }
+        requires due { IsDue V (filling_acts policy self.old.cells.now.layout.shape key value.now at item place) self.old }
         requires parts { HasParts self.old.cells.now.layout.shape key parts }
-        ensures made { HasMade V (filling_acts self.old.cells.now.layout.shape key value.now at item place) self.old self.new }
+        ensures made { HasMade V (filling_acts policy self.old.cells.now.layout.shape key value.now at item place) self.old self.new }
     {
         self.fill(key, parts, value, at, item, place);
-        self.set_mark(item);
+        self.mark_new(policy, item);
     }
 
     // Makes the moves. Of more than one the books have the list.
@@ -193,12 +207,21 @@ impl<'a, const V: usize> Pen<'a, V> {
     )
         requires width { IsWidth V }
         requires item { storing.item < self.old.cells.now.layout.shape.items }
-        requires due { IsDue V (storing_acts books.now.far.value.moves.items self.old.cells.now.layout.shape key value.now storing) self.old }
+        requires due { IsDue V (storing_acts (policy_of books.now.checked) books.now.far.value.moves.items self.old.cells.now.layout.shape key value.now storing) self.old }
         requires parts { HasParts self.old.cells.now.layout.shape key parts }
-        ensures made { HasMade V (storing_acts books.now.far.value.moves.items self.old.cells.now.layout.shape key value.now storing) self.old self.new }
+        ensures made { HasMade V (storing_acts (policy_of books.now.checked) books.now.far.value.moves.items self.old.cells.now.layout.shape key value.now storing) self.old self.new }
     {
         self.make_moves_of(books, storing.moves);
-        self.make_filling(key, parts, value, storing.at, storing.item, storing.place);
+        let policy = books.policy();
+        self.make_filling(
+            key,
+            parts,
+            value,
+            storing.at,
+            storing.item,
+            storing.place,
+            policy,
+        );
     }
 
     /// Takes the victim out, and makes the moves, the fill and the mark of the put that takes its item.
@@ -213,10 +236,10 @@ impl<'a, const V: usize> Pen<'a, V> {
     )
         requires width { IsWidth V }
         requires item { taken.storing.item < self.old.cells.now.layout.shape.items }
-        requires due { IsDue V (replacement_acts books.now.far.value.moves.items self.old.cells.now.layout.shape key value.now taken) self.old }
+        requires due { IsDue V (replacement_acts (policy_of books.now.checked) books.now.far.value.moves.items self.old.cells.now.layout.shape key value.now taken) self.old }
         requires parts { HasParts self.old.cells.now.layout.shape key parts }
         requires victim { HasParts self.old.cells.now.layout.shape taken.victim.key taken.victim.parts }
-        ensures made { HasMade V (replacement_acts books.now.far.value.moves.items self.old.cells.now.layout.shape key value.now taken) self.old self.new }
+        ensures made { HasMade V (replacement_acts (policy_of books.now.checked) books.now.far.value.moves.items self.old.cells.now.layout.shape key value.now taken) self.old self.new }
     {
         let victim = taken.victim;
         self.take_out(victim.key, victim.parts, Deed::Evict, victim.place);

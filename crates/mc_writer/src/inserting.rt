@@ -1,6 +1,7 @@
-//! The writer's puts of keys that are not there, once they have room: they are stored at once, or after the hand's way round.
+//! The writer's puts of keys that are not there, once they have room: they are stored at once, or after a search for an item.
 ghost use Rattle.std.specs.Prelude.{◌≡◌, ◌^◌, ◌<◌, [], IfErr, IfNone, IfOk, IfSome, List, Err, Ok, Some};
-ghost use Rattle.mc_words.specs.Checks.{shape_of};
+ghost use Rattle.mc_words.specs.Checks.{policy_of, shape_of};
+ghost use Rattle.mc_words.specs.declared.policy.Policy.TheVariants.{Clock, ScanResistant};
 ghost use Rattle.mc_words.specs.KeyParts.{HasParts};
 ghost use Rattle.mc_words.specs.Places.{IsWidth, word_count};
 ghost use Rattle.mc_theory.specs.States.{State};
@@ -15,7 +16,7 @@ ghost use Rattle.mc_writer.specs.WriterCalls.{HasCalled, IsRested};
 use crate::pen::Pen;
 use mc_plan::{Books, Put, PutError, Replacement, Room, Waiting};
 use mc_shared::turn_hand_unless_clear;
-use mc_words::KeyParts;
+use mc_words::{KeyParts, Policy};
 
 // The hand's way round.
 impl<'a, const V: usize> Pen<'a, V> {
@@ -73,18 +74,18 @@ impl<'a, const V: usize> Pen<'a, V> {
         at: u64,
         room: Room,
     ) -> Option<Put>
-        requires layout { self.old.cells.now.layout ≡ layout_of V (shape_of books.old.checked) }
+        requires layout { self.old.cells.now.layout ≡ layout_of V books.old.checked }
         requires parts { HasParts self.old.cells.now.layout.shape key parts }
         requires room { HasRoom V books.old key value.now (state_at V self.old) at room }
         ensures same { IsSamePen V self.old self.new }
         ensures called { IfSome result (λ put. HasCalled V self.old.cells.now.layout.shape (PutCall key value.now) self.old.seat.now self.new.seat.now (answer.Put (Ok put))) }
-        ensures unswept { IfSome result (λ put. IsSweepOf V self.old.cells.now.layout.shape (state_at V self.old) [] (answer.Put (Ok put))) }
+        ensures unswept { IfSome result (λ put. IsSweepOf V self.old.cells.now.layout.shape (policy_of books.old.checked) (state_at V self.old) [] (answer.Put (Ok put))) }
         ensures rested { IfSome result (λ put. IsRested V books.new self.new.seat.now) }
         ensures pen { IfNone result (self.new ≡ self.old) }
         ensures waits { IfNone result (Waits V books.new key value.now (state_at V self.old) room) }
         ensures shape { books.new.checked ≡ books.old.checked }
     {
-        match books.insert::<V, Pen<V>>(self, parts.mixed, room, at) {
+        match books.insert::<V, Pen<V>>(self, key, room, at) {
             Some(storing) => {
                 self.make_storing(books, key, parts, value, storing);
                 Some(books.told(storing, None))
@@ -93,17 +94,17 @@ impl<'a, const V: usize> Pen<'a, V> {
         }
     }
 
-    /// Chooses the key whose item the put takes when no item is free: the hand advances. `mixed` is the put's key, mixed.
+    // Chooses the key whose item the put takes, with CLOCK: the hand advances.
     #[inline(always)]
-    pub(crate) fn choose(
+    fn sweep(
         &mut self,
         books: &mut Books,
         key: u64,
-        mixed: u64,
         value: &[u64; V],
         room: Room,
     ) -> Result<Replacement, PutError>
-        requires layout { self.old.cells.now.layout ≡ layout_of V (shape_of books.old.checked) }
+        requires layout { self.old.cells.now.layout ≡ layout_of V books.old.checked }
+        requires clock { policy_of books.old.checked ≡ Clock }
         requires waits { Waits V books.old key value.now (state_at V self.old) room }
         ensures same { IsSamePen V self.old self.new }
         ensures shape { books.new.checked ≡ books.old.checked }
@@ -111,9 +112,55 @@ impl<'a, const V: usize> Pen<'a, V> {
         ensures refused { IfErr result (λ why. HasCalled V self.old.cells.now.layout.shape (PutCall key value.now) self.old.seat.now self.new.seat.now (answer.Put (Err why)) ×
             IsRested V books.new self.new.seat.now) }
     {
-        let mut waiting = Waiting::new(books, key, mixed, *value, room);
+        let mut waiting = Waiting::new(books, key, *value, room);
         self.turn_round(&mut waiting);
         books.finish::<V, Pen<V>>(self, &waiting)
+    }
+
+    // Chooses it among new keys, or else among those that were used again.
+    #[inline(always)]
+    fn pick(
+        &mut self,
+        books: &mut Books,
+        key: u64,
+        value: &[u64; V],
+        room: Room,
+    ) -> Result<Replacement, PutError>
+        requires layout { self.old.cells.now.layout ≡ layout_of V books.old.checked }
+        requires policy { policy_of books.old.checked ≡ ScanResistant }
+        requires waits { Waits V books.old key value.now (state_at V self.old) room }
+        ensures same { IsSamePen V self.old self.new }
+        ensures shape { books.new.checked ≡ books.old.checked }
+        ensures chosen { IfOk result (λ taken. IsChosen V books.new key value.now self.old self.new taken) }
+        ensures refused { IfErr result (λ why. HasCalled V self.old.cells.now.layout.shape (PutCall key value.now) self.old.seat.now self.new.seat.now (answer.Put (Err why)) ×
+            IsRested V books.new self.new.seat.now) }
+    {
+        let mut pick = books.pick();
+        self.read_round(books, &mut pick);
+        books.finish_picked::<V, Pen<V>>(self, &pick, key, room)
+    }
+
+    /// Chooses the key whose item the put takes when no item is free.
+    #[inline(always)]
+    pub(crate) fn choose(
+        &mut self,
+        books: &mut Books,
+        key: u64,
+        value: &[u64; V],
+        room: Room,
+    ) -> Result<Replacement, PutError>
+        requires layout { self.old.cells.now.layout ≡ layout_of V books.old.checked }
+        requires waits { Waits V books.old key value.now (state_at V self.old) room }
+        ensures same { IsSamePen V self.old self.new }
+        ensures shape { books.new.checked ≡ books.old.checked }
+        ensures chosen { IfOk result (λ taken. IsChosen V books.new key value.now self.old self.new taken) }
+        ensures refused { IfErr result (λ why. HasCalled V self.old.cells.now.layout.shape (PutCall key value.now) self.old.seat.now self.new.seat.now (answer.Put (Err why)) ×
+            IsRested V books.new self.new.seat.now) }
+    {
+        match books.policy() {
+            Policy::Clock => self.sweep(books, key, value, room),
+            Policy::ScanResistant => self.pick(books, key, value, room),
+        }
     }
 
     /// Takes the item of the key that was chosen, and puts the key there.
@@ -149,14 +196,14 @@ impl<'a, const V: usize> Pen<'a, V> {
         value: &[u64; V],
         room: Room,
     ) -> Result<Put, PutError>
-        requires layout { self.old.cells.now.layout ≡ layout_of V (shape_of books.old.checked) }
+        requires layout { self.old.cells.now.layout ≡ layout_of V books.old.checked }
         requires parts { HasParts self.old.cells.now.layout.shape key parts }
         requires waits { Waits V books.old key value.now (state_at V self.old) room }
         ensures same { IsSamePen V self.old self.new }
         ensures called { HasCalled V self.old.cells.now.layout.shape (PutCall key value.now) self.old.seat.now self.new.seat.now (answer.Put result) }
         ensures rested { IsRested V books.new self.new.seat.now }
     {
-        match self.choose(books, key, parts.mixed, value, room) {
+        match self.choose(books, key, value, room) {
             Ok(taken) => Ok(self.take_item(books, key, parts, value, taken)),
             Err(why) => Err(why),
         }
@@ -173,7 +220,7 @@ impl<'a, const V: usize> Pen<'a, V> {
         at: u64,
         room: Room,
     ) -> Result<Put, PutError>
-        requires layout { self.old.cells.now.layout ≡ layout_of V (shape_of books.old.checked) }
+        requires layout { self.old.cells.now.layout ≡ layout_of V books.old.checked }
         requires parts { HasParts self.old.cells.now.layout.shape key parts }
         requires room { HasRoom V books.old key value.now (state_at V self.old) at room }
         ensures same { IsSamePen V self.old self.new }

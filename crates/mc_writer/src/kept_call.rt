@@ -25,7 +25,7 @@ impl<'a, const V: usize> Pen<'a, V> {
         value: &[u64; V],
         at: u64,
     ) -> Result<Put, Why>
-        requires layout { self.old.cells.now.layout ≡ layout_of V (shape_of books.old.checked) }
+        requires layout { self.old.cells.now.layout ≡ layout_of V books.old.checked }
         requires parts { HasParts self.old.cells.now.layout.shape key parts }
         requires lacks { IsLackingKey V books.old key value.now (state_at V self.old) at }
         ensures same { IsSamePen V self.old self.new }

@@ -19,6 +19,7 @@ mod if_call;
 mod inserting;
 mod kept_call;
 mod pen;
+mod picking;
 mod put_call;
 mod remove_call;
 mod swap_call;

@@ -28,7 +28,7 @@ impl<'a, const V: usize> Pen<'a, V> {
         value: &[u64; V],
         at: u64,
     ) -> Result<Put, PutError>
-        requires layout { self.old.cells.now.layout ≡ layout_of V (shape_of books.old.checked) }
+        requires layout { self.old.cells.now.layout ≡ layout_of V books.old.checked }
         requires parts { HasParts self.old.cells.now.layout.shape key parts }
         requires lacks { IsLackingKey V books.old key value.now (state_at V self.old) at }
         ensures same { IsSamePen V self.old self.new }
@@ -72,7 +72,7 @@ fn put_by_path<const V: usize>(
     at: u64,
 ) -> Result<Put, PutError>
     requires of { seat.old.of ≡ cells.now }
-    requires layout { cells.now.layout ≡ layout_of V (shape_of books.old.checked) }
+    requires layout { cells.now.layout ≡ layout_of V books.old.checked }
     requires crowded { IsCrowdedOut V books.old key value.now (state_of V cells.now.layout.shape seat.old.acts) at }
     ensures called { HasCalled V cells.now.layout.shape (PutCall key value.now) seat.old seat.new (answer.Put result) }
     ensures rested { IsRested V books.new seat.new }
@@ -97,7 +97,7 @@ fn put_crowded<const V: usize>(
     at: u64,
 ) -> Result<Put, PutError>
     requires of { seat.old.of ≡ cells.now }
-    requires layout { cells.now.layout ≡ layout_of V (shape_of books.old.checked) }
+    requires layout { cells.now.layout ≡ layout_of V books.old.checked }
     requires crowded { IsCrowdedOut V books.old key value.now (state_of V cells.now.layout.shape seat.old.acts) at }
     ensures called { HasCalled V cells.now.layout.shape (PutCall key value.now) seat.old seat.new (answer.Put result) }
     ensures rested { IsRested V books.new seat.new }

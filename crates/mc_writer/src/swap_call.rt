@@ -29,7 +29,7 @@ impl<'a, const V: usize> Pen<'a, V> {
         value: &[u64; V],
         room: Room,
     ) -> Result<Swapped<V>, PutError>
-        requires layout { self.old.cells.now.layout ≡ layout_of V (shape_of books.old.checked) }
+        requires layout { self.old.cells.now.layout ≡ layout_of V books.old.checked }
         requires parts { HasParts self.old.cells.now.layout.shape key parts }
         requires waits { Waits V books.old key value.now (state_at V self.old) room }
         ensures same { IsSamePen V self.old self.new }
@@ -37,7 +37,7 @@ impl<'a, const V: usize> Pen<'a, V> {
         ensures old { IfOk result (λ swapped. Holds (state_at V self.old).history (giving_way key swapped.put) swapped.old) }
         ensures rested { IsRested V books.new self.new.seat.now }
     {
-        match self.choose(books, key, parts.mixed, value, room) {
+        match self.choose(books, key, value, room) {
             Ok(taken) => {
                 let old = self.entry_in(taken.victim.key, taken.victim.place);
                 let put = self.take_item(books, key, parts, value, taken);
@@ -59,7 +59,7 @@ impl<'a, const V: usize> Pen<'a, V> {
         value: &[u64; V],
         at: u64,
     ) -> Result<Swapped<V>, PutError>
-        requires layout { self.old.cells.now.layout ≡ layout_of V (shape_of books.old.checked) }
+        requires layout { self.old.cells.now.layout ≡ layout_of V books.old.checked }
         requires parts { HasParts self.old.cells.now.layout.shape key parts }
         requires lacks { IsLackingKey V books.old key value.now (state_at V self.old) at }
         ensures same { IsSamePen V self.old self.new }

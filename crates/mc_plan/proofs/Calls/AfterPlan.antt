@@ -1,14 +1,16 @@
 -- What the books say of the state after a plan, and what the plan's answer means.
-use Rattle.std.proofs.Common.{ℕ, ◌≡◌, ◌+◌, ◌*◌, ◌<◌, ◌≤◌, ◌∙◌, inl, inr, List, [], ◌∷◌, ◌++◌, None, Ok, Err, ap, refl, sym, subst, length, arith, length-append}
+use Rattle.std.proofs.Common.{ℕ, ◌≡◌, ◌+◌, ◌*◌, ◌<◌, ◌≤◌, ◌∙◌, inl, inr, List, [], ◌∷◌, ◌++◌, Option, None, Ok, Err, ap, refl, sym, subst, length, arith, append-nil, length-append}
 use Rattle.std.proofs.lemmas.Bool.{cases_eq}
 use Rattle.mc_words.specs.declared.history.Change.{Change}
 use Rattle.mc_words.specs.declared.history.Change.TheVariants.{Put, Remove}
+use Rattle.mc_words.specs.declared.policy.Policy.{Policy}
+use Rattle.mc_words.specs.declared.policy.Policy.TheVariants.{Clock, ScanResistant}
 use Rattle.mc_words.specs.declared.place.Place.{Place}
 use Rattle.mc_words.specs.declared.shape.Shape.{Shape}
 use Rattle.mc_words.specs.Answers as means
 use Rattle.mc_words.specs.Answers.{PutIsSpent, RemoveIsSpent}
 use Rattle.mc_words.specs.Chains.{IsLeastLength, NoChain}
-use Rattle.mc_words.specs.Checks.{shape_of}
+use Rattle.mc_words.specs.Checks.{policy_of, shape_of}
 use Rattle.mc_words.specs.History.{IsWord}
 use Rattle.mc_words.specs.KeyParts.{HasParts}
 use Rattle.mc_words.specs.declared.key_parts.KeyParts.{KeyParts}
@@ -16,6 +18,7 @@ use Rattle.mc_words.specs.Places.{IsWidth, moment, slot, slot_number, word_count
 use Rattle.mc_words.specs.Shapes.{IsShape}
 use Rattle.mc_words.specs.Standing.{NamesItem, Stands, IsAbsent, IsFree}
 use Rattle.mc_words.proofs.Count.{full_from_named, room_from_free}
+use Rattle.mc_theory.specs.Lists.{AreAllowed}
 use Rattle.mc_theory.specs.Phases.{close_owed}
 use Rattle.mc_theory.specs.States.{State, opening}
 use Rattle.mc_theory.specs.declared.act.Act.{Act}
@@ -31,12 +34,13 @@ use Rattle.mc_search.specs.Free.{IsInList}
 use Rattle.mc_search.specs.declared.free.FreeList.{FreeList}
 use Rattle.mc_search.specs.declared.items.FreeItems.{FreeItems}
 use Rattle.mc_search.specs.declared.path.Path.{Path}
-use Rattle.mc_plan.specs.WholeCalls.{Call, PutCall, RemoveCall, Means, Marks, MarksLast, AreOfDeeds, quiet_of}
+use Rattle.mc_plan.specs.WholeCalls.{Call, PutCall, RemoveCall, Means, Marks, MarksLast, MarksPut, AreOfDeeds, quiet_of}
 use Rattle.mc_plan.specs.Books.{AreBooksOf, HasRoom, IsLackingKey, IsPlanned}
 use Rattle.mc_plan.specs.Deciding.{IsWithoutPath}
-use Rattle.mc_search.specs.Items.{IsConsistent, IsFreeIn, TakesFree, GivesBack}
+use Rattle.mc_search.specs.Items.{IsConsistent, IsFreeIn, TakesFree, GivesBack, policy_in}
+use Rattle.mc_plan.specs.Decisions.{new_marks}
 use Rattle.mc_plan.specs.Laws.{IsValue}
-use Rattle.mc_plan.specs.Making.{IsQuiet, state_after_acts}
+use Rattle.mc_plan.specs.Making.{IsQuiet, Makes, as_made, state_after_acts}
 use Rattle.mc_search.specs.Kept.{KeepsSlots}
 use Rattle.mc_plan.specs.Moves.{AreKeys}
 use Rattle.mc_search.specs.Paths.{IsCrowded, IsLeastPath, first_place}
@@ -47,6 +51,7 @@ use Rattle.mc_plan.specs.Puts.{CanPut, TakesItem, put_acts}
 use Rattle.mc_words.proofs.Frames.{empty_names_none}
 use Rattle.mc_theory.proofs.Lists.Bounds.{opening_counted}
 use Rattle.mc_theory.proofs.Invariant.EachState.{opening_holds, zeros}
+use Rattle.mc_plan.proofs.Deeds.Walks.{Walk}
 use Rattle.mc_plan.proofs.Puts.NamedItems.{GivesItem, slot_given, kept_free, kept_named}
 use Rattle.mc_plan.proofs.Deeds.QuietStates.{at_length, agrees_quiet, keys_quiet, absent_held, stands_held, marked}
 use Rattle.mc_plan.proofs.Deeds.Removals.{removes}
@@ -103,6 +108,7 @@ pub record Ends (V : ℕ) (b : Books) (s t : State V) (steps : ℕ) : Type 0 whe
 -- the free items of the state after it
 pub record FreeAfter (V : ℕ) (b : Books) (free : FreeItems) (w : List ℕ) : Type 0 where
   pub kept : IsConsistent free
+  pub policy : policy_in free ≡ policy_in b.free
   pub items : free.list.items ≡ b.free.list.items
   pub frees : (i : ℕ) → IsFreeIn free i → IsFree (shape_of b.checked) w i
   pub named : (i : ℕ) → i < (shape_of b.checked).items → (IsFreeIn free i → ⊥) → (q : ℕ) × NamesItem (shape_of b.checked) w q i
@@ -112,12 +118,14 @@ pub books_after : (V : ℕ) (b : Books) (s t : State V) (steps : ℕ) (free : Fr
 books_after V b s t steps free old ends after = record {
   width = old.width;
   quiet = ends.quiet;
-  hand = old.hand ∙ sym ends.hand;
+  hand = λ clock. old.hand clock ∙ sym ends.hand;
+  inside = old.inside;
   stands = rw ends.hand old.stands;
   version_steps = omega (arith, old.version_steps, ends.version_steps);
   limit = omega (arith, ends.version_steps, ends.limit);
   finder = old.finder;
   kept = after.kept;
+  policy = after.policy ∙ old.policy;
   items = after.items ∙ old.items;
   free = after.frees;
   named = after.named;
@@ -127,6 +135,7 @@ books_after V b s t steps free old ends after = record {
 free_kept : (V : ℕ) (b : Books) (s : State V) (x : List ℕ) → AreBooksOf V b s → KeepsSlots (shape_of b.checked) s.words x → FreeAfter V b b.free x
 free_kept V b s x old kept = record {
   kept = old.kept;
+  policy = refl;
   items = refl;
   frees = λ i f. kept_free (shape_of b.checked) s.words x i kept (old.free i f);
   named = λ i l f. let n = old.named i l f in (n.0, kept_named (shape_of b.checked) s.words x n.0 i kept n.1);
@@ -137,7 +146,7 @@ abbrev TellsRenewal : (V : ℕ) → Shape → Call → Answer → State V → �
 TellsRenewal V sh call told s k v at = (t : State V) → means.Grows V (quiet_of s) (quiet_of t) (Put k v ∷ []) 2 → t.hand ≡ s.hand → at ≡ length t.history → Means sh call told s t
 
 pub renewal_made : (V : ℕ) (b : Books) (k : ℕ) (v : List ℕ) (i at : ℕ) (s : State V) (q : ℕ) (call : Call) (told : Answer) → IsShape (shape_of b.checked) → IsWord k → IsValue V v → AreBooksOf V b s → Stands V (shape_of b.checked) s.words k q i
-    → s.version_steps + 2 ≤ (shape_of b.checked).limit → at ≡ moment s.words + 1 → TellsRenewal V (shape_of b.checked) call told s k v at → ((w : List ℕ) (acts : List Act) → MarksLast V (shape_of b.checked) w k acts → Marks V (shape_of b.checked) w call told acts)
+    → s.version_steps + 2 ≤ (shape_of b.checked).limit → at ≡ moment s.words + 1 → TellsRenewal V (shape_of b.checked) call told s k v at → ((w : List ℕ) (acts : List Act) → MarksLast V (shape_of b.checked) w k acts → Marks V (shape_of b.checked) (policy_of b.checked) w call told acts)
     → IsPlanned V (record b { version_steps = b.version_steps + 2 }) (renew_acts k v at i ++ Mark i ∷ []) call s s told
 renewal_made V b k v i at s q call told shape key value old stands limit is tells marks =
     let sh = shape_of b.checked in
@@ -155,18 +164,24 @@ renewal_made V b k v i at s q call told shape key value old stands limit is tell
       ends = subst (λ (x : State V). AreBooksOf V (record b { version_steps = b.version_steps + 2 }) x) (sym walk.leads) (books_after V b s t 2 b.free old ends (free_kept V b s t.words old law.2));
     }
 
+-- a key that was there is marked by each policy
+renewed_marks : (policy : Policy) (V : ℕ) (sh : Shape) (w : List ℕ) (k at : ℕ) (acts : List Act) → MarksLast V sh w k acts → MarksPut policy V sh w k (put.Renewed at) acts
+renewed_marks Clock V sh w k at acts m = m
+renewed_marks ScanResistant V sh w k at acts m = m
+
 pub renewal_planned : (V : ℕ) (b : Books) (k : ℕ) (v : List ℕ) (i at : ℕ) (s : State V) (q : ℕ) → IsShape (shape_of b.checked) → IsWord k → IsValue V v → AreBooksOf V b s → Stands V (shape_of b.checked) s.words k q i
     → (PutIsSpent (shape_of b.checked) (quiet_of s) → ⊥) → s.version_steps + 2 ≤ (shape_of b.checked).limit → at ≡ moment s.words + 1
     → IsPlanned V (record b { version_steps = b.version_steps + 2 }) (renew_acts k v at i ++ Mark i ∷ []) (PutCall k v) s s (answer.Put (Ok (put.Renewed at)))
 renewal_planned V b k v i at s q shape key value old stands unspent limit is =
     renewal_made V b k v i at s q (PutCall k v) (answer.Put (Ok (put.Renewed at))) shape key value old stands limit is
     (λ t grows hand now. record { unspent = unspent; present = stands_held V (shape_of b.checked) s k q i old.quiet stands; grows = grows; hand = hand; moment = now })
-    (λ w acts m. m)
+    (λ w acts m. renewed_marks (policy_of b.checked) V (shape_of b.checked) w k at acts m)
 
 -- ---- a removal
-pub free_given : (V : ℕ) (b : Books) (s : State V) (x : List ℕ) (free : FreeItems) (i : ℕ) → AreBooksOf V b s → IsConsistent free → free.list.items ≡ b.free.list.items → GivesBack b.free free i → GivesItem (shape_of b.checked) s.words x i → FreeAfter V b free x
-free_given V b s x free i old kept items gives given = record {
+pub free_given : (V : ℕ) (b : Books) (s : State V) (x : List ℕ) (free : FreeItems) (i : ℕ) → AreBooksOf V b s → IsConsistent free → policy_in free ≡ policy_in b.free → free.list.items ≡ b.free.list.items → GivesBack b.free free i → GivesItem (shape_of b.checked) s.words x i → FreeAfter V b free x
+free_given V b s x free i old kept policy items gives given = record {
   kept = kept;
+  policy = policy;
   items = items;
   frees = λ j f. elim (cases_eq j i) [
     | inl e ↦ subst (λ (n : ℕ). IsFree (shape_of b.checked) x n) (sym e) given.freed
@@ -180,9 +195,9 @@ free_given V b s x free i old kept items gives given = record {
 -- a key that stands somewhere is removed from there
 pub removal_planned : (V : ℕ) (b : Books) (k i at : ℕ) (p : Place) (free : FreeItems) (s : State V) → IsShape (shape_of b.checked) → IsWord k → AreBooksOf V b s → p.slot < 4 → Stands V (shape_of b.checked) s.words k (slot_number p) i
     → (RemoveIsSpent (shape_of b.checked) (quiet_of s) → ⊥) → s.version_steps + 2 ≤ (shape_of b.checked).limit → at ≡ moment s.words + 1
-    → IsConsistent free → free.list.items ≡ b.free.list.items → GivesBack b.free free i
+    → IsConsistent free → policy_in free ≡ policy_in b.free → free.list.items ≡ b.free.list.items → GivesBack b.free free i
     → IsPlanned V (record b { free = free; version_steps = b.version_steps + 2 }) (remove_acts k p) (RemoveCall k) s s (answer.Remove (Ok (remove.Removed at)))
-removal_planned V b k i at p free s shape key old below stands unspent limit is kept items gives =
+removal_planned V b k i at p free s shape key old below stands unspent limit is kept policy items gives =
     let sh = shape_of b.checked in
     let acts = remove_acts k p in
     let t = state_after_acts V sh s acts in
@@ -201,13 +216,26 @@ removal_planned V b k i at p free s shape key old below stands unspent limit is 
       allowed = makes.allowed;
       means = removed;
       marks = (tt, (tt, (tt, (tt, tt))));
-      ends = books_after V b s t 2 free old ends (free_given V b s t.words free i old kept items gives given);
+      ends = books_after V b s t 2 free old ends (free_given V b s t.words free i old kept policy items gives given);
     }
 
 -- ---- a put of a new key
-free_taken : (V : ℕ) (b : Books) (s : State V) (x : List ℕ) (free : FreeItems) (i : ℕ) → AreBooksOf V b s → IsConsistent free → free.list.items ≡ b.free.list.items → TakesFree b.free free i → TakesItem (shape_of b.checked) s.words x i → FreeAfter V b free x
-free_taken V b s x free i old kept items takes taken = record {
+-- the mark of a new key's item, if the policy makes one, is allowed, and leaves the state as it is
+pub new_marked : (policy : Policy) (V : ℕ) (sh : Shape) (s : State V) (acts : List Act) (new : List (Change V)) (steps i : ℕ) → Makes V sh s acts new steps → i < sh.items → Walk V sh s (acts ++ new_marks policy i) (state_after_acts V sh s acts)
+new_marked Clock V sh s acts new steps i makes below = marked V sh s acts new steps i makes below
+new_marked ScanResistant V sh s acts new steps i makes below =
+    let same = sym (append-nil acts) in
+    record { allowed = subst (λ (xs : List Act). AreAllowed sh s (as_made xs)) same makes.allowed; leads = ap (λ (xs : List Act). state_after_acts V sh s xs) (append-nil acts) }
+
+-- a new key's item is marked last, or not at all
+pub stored_marks : (policy : Policy) (V : ℕ) (sh : Shape) (w : List ℕ) (k at moves : ℕ) (evicted : Option ℕ) (acts : List Act) (q i : ℕ) → AreOfDeeds acts → Stands V sh w k q i → MarksPut policy V sh w k (put.Stored at moves evicted) (acts ++ new_marks policy i)
+stored_marks Clock V sh w k at moves evicted acts q i deeds stands = record { before = acts; slot = q; item = i; last = refl; deeds = deeds; stands = stands }
+stored_marks ScanResistant V sh w k at moves evicted acts q i deeds stands = subst AreOfDeeds (sym (append-nil acts)) deeds
+
+free_taken : (V : ℕ) (b : Books) (s : State V) (x : List ℕ) (free : FreeItems) (i : ℕ) → AreBooksOf V b s → IsConsistent free → policy_in free ≡ policy_in b.free → free.list.items ≡ b.free.list.items → TakesFree b.free free i → TakesItem (shape_of b.checked) s.words x i → FreeAfter V b free x
+free_taken V b s x free i old kept policy items takes taken = record {
   kept = kept;
+  policy = policy;
   items = items;
   frees = λ j f. elim (cases_eq j i) [
     | inl e ↦ absurd (takes.taken (subst (λ (n : ℕ). IsFreeIn free n) e f))
@@ -227,9 +255,9 @@ least_length sh w k path least = record { places = path.places.items; hole = pat
 pub stored_planned : (V : ℕ) (b : Books) (k : ℕ) (v : List ℕ) (i at : ℕ) (path : Path) (free : FreeItems) (s : State V) → IsShape (shape_of b.checked) → IsWord k → IsValue V v → AreBooksOf V b s
     → IsAbsent V (shape_of b.checked) s.words k → IsLeastPath (shape_of b.checked) s.words k path → AreKeys V (shape_of b.checked) s.words path.places.items → i < (shape_of b.checked).items
     → (PutIsSpent (shape_of b.checked) (quiet_of s) → ⊥) → at ≡ moment s.words + 1
-    → IsFreeIn b.free i → IsConsistent free → free.list.items ≡ b.free.list.items → TakesFree b.free free i
-    → IsPlanned V (record b { free = free; version_steps = b.version_steps + (2 * length path.places.items + 2) }) (put_acts V (shape_of b.checked) s.words k v at i path.places.items path.hole ++ Mark i ∷ []) (PutCall k v) s s (answer.Put (Ok (put.Stored at (length path.places.items) None)))
-stored_planned V b k v i at path free s shape key value old absent least keys in_items unspent is was kept items takes =
+    → IsFreeIn b.free i → IsConsistent free → policy_in free ≡ policy_in b.free → free.list.items ≡ b.free.list.items → TakesFree b.free free i
+    → IsPlanned V (record b { free = free; version_steps = b.version_steps + (2 * length path.places.items + 2) }) (put_acts V (shape_of b.checked) s.words k v at i path.places.items path.hole ++ new_marks (policy_of b.checked) i) (PutCall k v) s s (answer.Put (Ok (put.Stored at (length path.places.items) None)))
+stored_planned V b k v i at path free s shape key value old absent least keys in_items unspent is was kept policy items takes =
     let sh = shape_of b.checked in
     let ps = path.places.items in
     let acts = put_acts V sh s.words k v at i ps path.hole in
@@ -238,7 +266,7 @@ stored_planned V b k v i at path free s shape key value old absent least keys in
     let can : CanPut V sh s.words k i ps path.hole = record { absent = absent; in_items = in_items; free = old.free i was; chain = least.chain; keys = keys } in
     let law = puts_room V sh s k v at i ps path.hole shape key value (next_word V b s at old (omega (arith, is))) old.quiet can is in
     let makes = law.0 in
-    let walk = marked V sh s acts (Put k v ∷ []) steps i makes in_items in
+    let walk = new_marked (policy_of b.checked) V sh s acts (Put k v ∷ []) steps i makes in_items in
     let told = answer.Put (Ok (put.Stored at (length ps) None)) in
     let limit : s.version_steps + steps ≤ sh.limit = omega (arith, least.within, unspent) in
     let stored : means.Stores V sh (quiet_of s) (quiet_of t) k v at (length ps) = record {
@@ -255,12 +283,13 @@ stored_planned V b k v i at path free s shape key value old absent least keys in
     record {
       allowed = walk.allowed;
       means = subst (λ (x : State V). Means sh (PutCall k v) told s x) (sym walk.leads) stored;
-      marks = record { before = acts; slot = slot_number (first_place ps path.hole); item = i; last = refl; deeds = deeds_put V sh s.words k v at i ps path.hole; stands = subst (λ (x : State V). Stands V sh x.words k (slot_number (first_place ps path.hole)) i) (sym walk.leads) law.1 };
-      ends = subst (λ (x : State V). AreBooksOf V (record b { free = free; version_steps = b.version_steps + steps }) x) (sym walk.leads) (books_after V b s t steps free old ends (free_taken V b s t.words free i old kept items takes law.2));
+      marks = stored_marks (policy_of b.checked) V sh _ k at (length ps) None acts (slot_number (first_place ps path.hole)) i (deeds_put V sh s.words k v at i ps path.hole)
+          (subst (λ (x : State V). Stands V sh x.words k (slot_number (first_place ps path.hole)) i) (sym walk.leads) law.1);
+      ends = subst (λ (x : State V). AreBooksOf V (record b { free = free; version_steps = b.version_steps + steps }) x) (sym walk.leads) (books_after V b s t steps free old ends (free_taken V b s t.words free i old kept policy items takes law.2));
     }
 
 -- ---- a call that changes nothing
-pub idle_planned : (V : ℕ) (b : Books) (call : Call) (s : State V) (told : Answer) → AreBooksOf V b s → Means (shape_of b.checked) call told s s → Marks V (shape_of b.checked) s.words call told [] → IsPlanned V b [] call s s told
+pub idle_planned : (V : ℕ) (b : Books) (call : Call) (s : State V) (told : Answer) → AreBooksOf V b s → Means (shape_of b.checked) call told s s → Marks V (shape_of b.checked) (policy_of b.checked) s.words call told [] → IsPlanned V b [] call s s told
 idle_planned V b call s told old means marks = record { allowed = tt; means = means; marks = marks; ends = old }
 
 -- the books with another path found, and other moves
@@ -273,11 +302,13 @@ books_listed V b far s old same = record {
   width = old.width;
   quiet = old.quiet;
   hand = old.hand;
+  inside = old.inside;
   stands = old.stands;
   version_steps = old.version_steps;
   limit = old.limit;
   finder = same ∙ old.finder;
   kept = old.kept;
+  policy = old.policy;
   items = old.items;
   free = old.free;
   named = old.named;
@@ -287,32 +318,36 @@ pub listed_planned : (V : ℕ) (b : Books) (far : Far) (plan : List Act) (call :
 listed_planned V b far plan call s m told same p = record { allowed = p.allowed; means = p.means; marks = p.marks; ends = books_listed V b far (state_after_acts V (shape_of b.checked) m plan) p.ends same }
 
 -- books with another list of the same free items
-pub books_still : (V : ℕ) (b : Books) (s : State V) (free : FreeItems) → AreBooksOf V b s → IsConsistent free → free.list.items ≡ b.free.list.items → ((j : ℕ) → IsFreeIn b.free j → ⊥) → ((j : ℕ) → IsFreeIn free j → ⊥) → AreBooksOf V (record b { free = free }) s
-books_still V b s free old kept items none still = record {
+pub books_still : (V : ℕ) (b : Books) (s : State V) (free : FreeItems) → AreBooksOf V b s → IsConsistent free → policy_in free ≡ policy_in b.free → free.list.items ≡ b.free.list.items → ((j : ℕ) → IsFreeIn b.free j → ⊥) → ((j : ℕ) → IsFreeIn free j → ⊥) → AreBooksOf V (record b { free = free }) s
+books_still V b s free old kept policy items none still = record {
   width = old.width;
   quiet = old.quiet;
   hand = old.hand;
+  inside = old.inside;
   stands = old.stands;
   version_steps = old.version_steps;
   limit = old.limit;
   finder = old.finder;
   kept = kept;
+  policy = policy ∙ old.policy;
   items = items ∙ old.items;
   free = λ i f. absurd (still i f);
   named = λ i l f. old.named i l (none i);
 }
 
 -- books of the same list of free items, whatever is known of the others
-pub books_kept : (V : ℕ) (b : Books) (s : State V) (free : FreeItems) → AreBooksOf V b s → IsConsistent free → free.list ≡ b.free.list → AreBooksOf V (record b { free = free }) s
-books_kept V b s free old kept same = record {
+pub books_kept : (V : ℕ) (b : Books) (s : State V) (free : FreeItems) → AreBooksOf V b s → IsConsistent free → policy_in free ≡ policy_in b.free → free.list ≡ b.free.list → AreBooksOf V (record b { free = free }) s
+books_kept V b s free old kept policy same = record {
   width = old.width;
   quiet = old.quiet;
   hand = old.hand;
+  inside = old.inside;
   stands = old.stands;
   version_steps = old.version_steps;
   limit = old.limit;
   finder = old.finder;
   kept = kept;
+  policy = policy ∙ old.policy;
   items = ap (λ (l : FreeList). l.items) same ∙ old.items;
   free = λ i f. old.free i (subst (λ (l : FreeList). IsInList l i) same f);
   named = λ i l f. old.named i l (λ g. f (subst (λ (x : FreeList). IsInList x i) (sym same) g));
@@ -393,19 +428,21 @@ opening_changes : (V : ℕ) (sh : Shape) → (opening V sh).version_steps ≡ 0
 unfolding opening
 opening_changes V sh = refl
 
-pub new_books : (V : ℕ) (b : Books) → IsWidth V → b.far.value.finder ≡ shape_of b.checked → b.hand ≡ 0 → b.version_steps ≡ 0 → IsConsistent b.free → b.free.list.items ≡ (shape_of b.checked).items → ((i : ℕ) → i < (shape_of b.checked).items → IsFreeIn b.free i) → AreBooksOf V b (opening V (shape_of b.checked))
-new_books V b width finder hand changes kept items all =
+pub new_books : (V : ℕ) (b : Books) → IsWidth V → b.far.value.finder ≡ shape_of b.checked → b.hand ≡ 0 → b.version_steps ≡ 0 → IsConsistent b.free → policy_in b.free ≡ policy_of b.checked → b.free.list.items ≡ (shape_of b.checked).items → ((i : ℕ) → i < (shape_of b.checked).items → IsFreeIn b.free i) → AreBooksOf V b (opening V (shape_of b.checked))
+new_books V b width finder hand changes kept policy items all =
     let sh = shape_of b.checked in
     let none = opening_changes V sh in
     record {
       width = width;
       quiet = opening_quiet V sh;
-      hand = hand ∙ sym (opening_hand V sh);
+      hand = λ clock. hand ∙ sym (opening_hand V sh);
+      inside = omega (arith, hand, b.checked.sound.items.0);
       stands = omega (arith, opening_hand V sh, b.checked.sound.items.0);
       version_steps = omega arith;
       limit = omega (arith, none);
       finder = finder;
       kept = kept;
+      policy = policy;
       items = items;
       free = λ i f q n. none_names V sh q i n;
       named = λ i l f. absurd (f (all i l));

@@ -1,6 +1,6 @@
 -- Acts of a plan, made one after the other.
 use Rattle.std.proofs.Common.{ℕ, ◌≡◌, ◌≤◌, ◌∙◌, List, [], ◌∷◌, ◌++◌, Some, refl, sym, subst, append_assoc, append-nil}
-use Rattle.mc_words.specs.Checks.{shape_of}
+use Rattle.mc_words.specs.Checks.{policy_of, shape_of}
 use Rattle.mc_words.specs.declared.shape.Shape.{Shape}
 use Rattle.mc_theory.specs.Acts.{IsAllowed}
 use Rattle.mc_theory.specs.Lists.{Made, AreAllowed, after_all, state_of}
@@ -10,7 +10,7 @@ use Rattle.mc_theory.specs.declared.act.Act.{Act}
 use Rattle.mc_theory.specs.declared.act.Act.TheVariants.{Hand}
 use Rattle.mc_theory.proofs.Lists.Fronts.{state_append, state_push}
 use Rattle.mc_search.specs.Sweeps.{hand_acts, next_item}
-use Rattle.mc_plan.specs.WholeCalls.{Answered, IsSweepOf, state_after_sweep}
+use Rattle.mc_plan.specs.WholeCalls.{AnsweredBy, IsSweepOf, state_after_sweep}
 use Rattle.mc_plan.specs.Books.{AreBooksOf, IsPlanned}
 use Rattle.mc_plan.specs.Due.{AreDue, PlansAreDue, DueActsCanBeMade, SweepsCanRead, PlansEndCalls}
 use Rattle.mc_plan.specs.Making.{as_made, state_after_acts}
@@ -59,7 +59,7 @@ sweep_may V sh b waiting call acts rs same on =
 pub plan_ends : (V : ℕ) → PlansEndCalls V
 plan_ends V sh b plan call acts rs told same hands sweeps p =
     let s = state_of V sh acts in
-    let P : Shape → Type 0 = λ x. AreAllowed x s (hand_acts rs) → IsSweepOf V x s rs told → IsPlanned V b plan call s (state_after_sweep V x s rs) told → Answered V x call s (hand_acts rs ++ as_made plan) told × AreBooksOf V b (after_all x s (hand_acts rs ++ as_made plan)) in
+    let P : Shape → Type 0 = λ x. AreAllowed x s (hand_acts rs) → IsSweepOf V x (policy_of b.checked) s rs told → IsPlanned V b plan call s (state_after_sweep V x s rs) told → AnsweredBy V x (policy_of b.checked) call s (hand_acts rs ++ as_made plan) told × AreBooksOf V b (after_all x s (hand_acts rs ++ as_made plan)) in
     let here : P (shape_of b.checked) = λ h w q.
     let whole = whole_plan V b plan call s rs (as_made plan) told h w q (acts_made plan) in
     (whole.0, subst (λ (t : State V). AreBooksOf V b t) (sym whole.1) q.ends)

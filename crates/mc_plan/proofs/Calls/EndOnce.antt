@@ -3,6 +3,7 @@ use Rattle.std.proofs.Common.{ℕ, ◌≡◌, ◌≤◌, ◌∙◌, List, [], �
 use Rattle.std.specs.Option.{IsSome}
 use Rattle.std.proofs.lemmas.Bool.{false≢true}
 use Rattle.std.proofs.lemmas.List.{map-append, nil_from_length}
+use Rattle.mc_words.specs.declared.policy.Policy.TheVariants.{Clock}
 use Rattle.mc_words.specs.declared.shape.Shape.{Shape}
 use Rattle.mc_words.specs.Answers.{Quiet}
 use Rattle.mc_words.specs.Chains.{IsLeastLength, NoChain}
@@ -84,7 +85,7 @@ last_marked V sh w k rs others marks = record {
   one = omega arith;
 }
 
-ends_marked : (V : ℕ) (sh : Shape) (w : List ℕ) (call : Call) (told : Answer) (rs : List Swept) (others : List Act) → Marks V sh w call told others → EndsMarked (acts_of (hand_acts rs) ++ others)
+ends_marked : (V : ℕ) (sh : Shape) (w : List ℕ) (call : Call) (told : Answer) (rs : List Swept) (others : List Act) → Marks V sh Clock w call told others → EndsMarked (acts_of (hand_acts rs) ++ others)
 ends_marked V sh w (PutCall k v) (answer.Put (Ok put)) rs others marks = last_marked V sh w k rs others marks
 ends_marked V sh w (PutCall k v) (answer.Put (Err why)) rs others marks = deeds_marked rs others marks
 ends_marked V sh w (PutCall k v) (answer.PutIf told) rs others marks = absurd marks
@@ -119,19 +120,19 @@ stored_once V sh call w k s acts more a b one marks two =
 
 -- ---- a call that changes nothing
 -- if no version changed and nothing was marked, only the sweep was made
-only_swept : (V : ℕ) (sh : Shape) (call : Call) (s : State V) (acts : List Made) (told : Answer) (c : Answered V sh call s acts told) → AreOfDeeds (acts_of c.others) → quiet_of (after_all sh s acts) ≡ quiet_of s → acts ≡ hand_acts c.sweep
+only_swept : (V : ℕ) (sh : Shape) (call : Call) (s : State V) (acts : List Made) (told : Answer) (c : Answered V sh call s acts told) → AreOfDeeds (acts_of c.others) → (after_all sh s acts).version_steps ≡ s.version_steps → acts ≡ hand_acts c.sweep
 only_swept V sh call s acts told c deeds same =
     let m = after_all sh s (hand_acts c.sweep) in
     let ends : after_all sh s acts ≡ after_all sh m c.others = ap (λ (l : List Made). after_all sh s l) c.parts ∙ after_all-append sh s (hand_acts c.sweep) c.others in
     let may : AreAllowed sh m c.others = allowed_after V sh s (hand_acts c.sweep) c.others (subst (λ (l : List Made). AreAllowed sh s l) c.parts c.allowed) in
     let quiet : (after_all sh m c.others).phase ≡ phase.Quiet = ap (λ (t : State V). t.phase) (sym ends) ∙ c.quiet.quiet in
-    let still : (after_all sh m c.others).version_steps ≡ m.version_steps = ap (λ (t : State V). t.version_steps) (sym ends) ∙ ap (λ (q : Quiet V). q.version_steps) same ∙ sym (swept_still V sh s c.sweep).version_steps in
+    let still : (after_all sh m c.others).version_steps ≡ m.version_steps = ap (λ (t : State V). t.version_steps) (sym ends) ∙ same ∙ sym (swept_still V sh s c.sweep).version_steps in
     let none = deeds_cost V sh m c.others may deeds quiet still in
     c.parts ∙ ap (λ (l : List Made). hand_acts c.sweep ++ l) none ∙ append-nil (hand_acts c.sweep)
 
 -- without a sweep it made nothing at all
 nothing_made : (V : ℕ) (sh : Shape) (call : Call) (s : State V) (acts : List Made) (told : Answer) (c : Answered V sh call s acts told) → AreOfDeeds (acts_of c.others) → quiet_of (after_all sh s acts) ≡ quiet_of s → c.sweep ≡ [] → acts ≡ []
-nothing_made V sh call s acts told c deeds same none = only_swept V sh call s acts told c deeds same ∙ ap (λ (l : List Swept). hand_acts l) none
+nothing_made V sh call s acts told c deeds same none = only_swept V sh call s acts told c deeds (ap (λ (q : Quiet V). q.version_steps) same) ∙ ap (λ (l : List Swept). hand_acts l) none
 
 -- nothing in all is nothing after some
 still_once : (V : ℕ) (sh : Shape) (call : Call) (s : State V) (acts more : List Made) (told : Answer) (c : Answered V sh call s (acts ++ more) told) → AreOfDeeds (acts_of c.others) → quiet_of (after_all sh s (acts ++ more)) ≡ quiet_of s → c.sweep ≡ [] → more ≡ []
@@ -142,15 +143,15 @@ still_once V sh call s acts more told c deeds same none = none_after acts more (
 recent_once : (V : ℕ) (sh : Shape) (k : ℕ) (v : List ℕ) (s : State V) (acts more : List Made) → Answered V sh (PutCall k v) s acts (answer.Put (Err why.AllRecent)) → Answered V sh (PutCall k v) s (acts ++ more) (answer.Put (Err why.AllRecent)) → more ≡ []
 recent_once V sh k v s acts more one two =
     let told = answer.Put (Err why.AllRecent) in
-    let first = ap (λ (l : List Made). length l) (only_swept V sh (PutCall k v) s acts told one one.marks one.means.unchanged) ∙ many_acts one.sweep ∙ one.sweeps.1 in
-    let all = ap (λ (l : List Made). length l) (only_swept V sh (PutCall k v) s (acts ++ more) told two two.marks two.means.unchanged) ∙ many_acts two.sweep ∙ two.sweeps.1 in
+    let first = ap (λ (l : List Made). length l) (only_swept V sh (PutCall k v) s acts told one one.marks (ap (λ (q : Quiet V). q.version_steps) one.means.unchanged)) ∙ many_acts one.sweep ∙ one.sweeps.1 in
+    let all = ap (λ (l : List Made). length l) (only_swept V sh (PutCall k v) s (acts ++ more) told two two.marks (ap (λ (q : Quiet V). q.version_steps) two.means.unchanged)) ∙ many_acts two.sweep ∙ two.sweeps.1 in
     let both = length-append acts more in
     nil_from_length more (omega (arith, first, all, both))
 
 -- a sweep that found every bit set is not the beginning of one that found a clear bit
 recent_not_replaced : (V : ℕ) (sh : Shape) (k : ℕ) (v : List ℕ) (s : State V) (acts more : List Made) (at moves evicted : ℕ) → Answered V sh (PutCall k v) s acts (answer.Put (Err why.AllRecent)) → Answered V sh (PutCall k v) s (acts ++ more) (answer.Put (Ok (put.Stored at moves (Some evicted)))) → ⊥
 recent_not_replaced V sh k v s acts more at moves evicted one two =
-    let first : acts ≡ hand_acts one.sweep = only_swept V sh (PutCall k v) s acts (answer.Put (Err why.AllRecent)) one one.marks one.means.unchanged in
+    let first : acts ≡ hand_acts one.sweep = only_swept V sh (PutCall k v) s acts (answer.Put (Err why.AllRecent)) one one.marks (ap (λ (q : Quiet V). q.version_steps) one.means.unchanged) in
     let same : hand_acts one.sweep ++ more ≡ hand_acts two.sweep ++ two.others = ap (λ (l : List Made). l ++ more) (sym first) ∙ two.parts in
     let marks = two.marks in
     let end : List Act = Mark marks.item ∷ [] in

@@ -10,7 +10,7 @@ use Rattle.mc_words.specs.declared.history.Change.TheVariants.{Evict}
 use Rattle.mc_theory.specs.Lists.{after_all}
 use Rattle.mc_theory.specs.States.{State}
 use Rattle.mc_theory.proofs.Lists.Fronts.{after_all-append}
-use Rattle.mc_search.specs.Items.{IsConsistent, GivesBack}
+use Rattle.mc_search.specs.Items.{IsConsistent, GivesBack, policy_in}
 use Rattle.mc_search.specs.Sweeps.{Swept, IsSearch, hand_acts, victim_of}
 use Rattle.mc_search.specs.declared.items.FreeItems.{FreeItems}
 use Rattle.mc_plan.specs.Books.{AreBooksOf}
@@ -33,12 +33,14 @@ books_searched : (V : ℕ) (b : Books) (hand : ℕ) (s m : State V) → AreBooks
 books_searched V b hand s m old quiet words changes is stands = record {
   width = old.width;
   quiet = quiet;
-  hand = is;
+  hand = λ clock. is;
+  inside = subst (λ (h : ℕ). h < (shape_of b.checked).items) (sym is) stands;
   stands = stands;
   version_steps = old.version_steps ∙ sym changes;
   limit = omega (arith, old.limit, changes);
   finder = old.finder;
   kept = old.kept;
+  policy = old.policy;
   items = old.items;
   free = λ i f. rw words (old.free i f);
   named = λ i l f. rw words (old.named i l f);
@@ -46,9 +48,9 @@ books_searched V b hand s m old quiet words changes is stands = record {
 
 pub is_evicted : (V : ℕ) (b : Books) (s : State V) (rs : List Swept) (i hand : ℕ) (victim : Victim) (free : FreeItems) → IsShape (shape_of b.checked) → AreBooksOf V b s → IsSearch (shape_of b.checked).items rs → victim_of rs ≡ Some i
     → i < (shape_of b.checked).items → IsVictim V b s i victim → b.version_steps + 2 ≤ (shape_of b.checked).limit → hand ≡ (i + 1) % (shape_of b.checked).items
-    → IsConsistent free → free.list.items ≡ b.free.list.items → GivesBack b.free free i
+    → IsConsistent free → policy_in free ≡ policy_in b.free → free.list.items ≡ b.free.list.items → GivesBack b.free free i
     → IsEvicted V (record b { hand = hand; free = free; version_steps = b.version_steps + 2 }) s rs victim
-is_evicted V b s rs i hand victim free shape old searches found inside there limit at kept items gives =
+is_evicted V b s rs i hand victim free shape old searches found inside there limit at kept policy items gives =
     let sh = shape_of b.checked in
     let k = victim.key in
     let p = victim.place in
@@ -65,7 +67,7 @@ is_evicted V b s rs i hand victim free shape old searches found inside there lim
     let given = slot_given sh m.words t.words (slot_number p) i shape stands.names law.2 law.1 in
     let ends : Ends V (record b { hand = hand }) m t 2 = record { quiet = makes.quiet; version_steps = makes.version_steps; hand = makes.hand; limit = omega (arith, limit, old.version_steps, still.version_steps) } in
     let now : AreBooksOf V (record b { hand = hand; free = free; version_steps = b.version_steps + 2 }) t =
-    books_after V (record b { hand = hand }) m t 2 free swept ends (free_given V (record b { hand = hand }) m t.words free i swept kept items gives given) in
+    books_after V (record b { hand = hand }) m t 2 free swept ends (free_given V (record b { hand = hand }) m t.words free i swept kept policy items gives given) in
     let whole = after_all-append sh s (hand_acts rs) (as_made (evict_acts k p)) in
     record {
       allowed = allowed_then V sh s (hand_acts rs) (as_made (evict_acts k p)) reads makes.allowed;

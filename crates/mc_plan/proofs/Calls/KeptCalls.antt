@@ -1,6 +1,7 @@
 -- A put that takes no other key's item: it is a put that sweeps for none, and if one would have to, it is refused.
-use Rattle.std.proofs.Common.{ℕ, List, [], Some, None, Result, Ok, Err, refl}
-use Rattle.mc_words.specs.Checks.{shape_of}
+use Rattle.std.proofs.Common.{ℕ, ◌<◌, List, [], Some, None, Result, Ok, Err, arith, refl}
+use Rattle.mc_words.specs.declared.policy.Policy.{Policy}
+use Rattle.mc_words.specs.Checks.{policy_of, shape_of}
 use Rattle.mc_words.specs.declared.shape.Shape.{Shape}
 use Rattle.mc_theory.specs.States.{State}
 use Rattle.mc_theory.specs.declared.act.Act.{Act}
@@ -20,25 +21,25 @@ use Rattle.mc_plan.specs.WholeCalls.{IsSweepOf, KeptCall, Marks, Means, PutCall}
 use Rattle.mc_plan.proofs.Calls.AfterPlan.{idle_planned, needs_item}
 
 -- what the answer of a put without a sweep means
-kept_means : (V : ℕ) (sh : Shape) (k : ℕ) (v : List ℕ) (s t : State V) (told : Result Put PutError) → IsSweepOf V sh s [] (answer.Put told) → Means sh (PutCall k v) (answer.Put told) s t → Means sh (KeptCall k v) (answer.Kept (kept_told told)) s t
-kept_means V sh k v s t (Ok (Stored at moves None)) swept means = means
-kept_means V sh k v s t (Ok (Stored at moves (Some evicted))) swept means = absurd (cc swept.1.2)
-kept_means V sh k v s t (Ok (Renewed at)) swept means = means
-kept_means V sh k v s t (Err NoPath) swept means = means
-kept_means V sh k v s t (Err AllRecent) swept means = means
-kept_means V sh k v s t (Err Spent) swept means = means
+kept_means : (V : ℕ) (sh : Shape) (policy : Policy) (k : ℕ) (v : List ℕ) (s t : State V) (told : Result Put PutError) → 0 < sh.items → IsSweepOf V sh policy s [] (answer.Put told) → Means sh (PutCall k v) (answer.Put told) s t → Means sh (KeptCall k v) (answer.Kept (kept_told told)) s t
+kept_means V sh policy k v s t (Ok (Stored at moves None)) some swept means = means
+kept_means V sh policy k v s t (Ok (Stored at moves (Some evicted))) some swept means = absurd (cc swept.1.2)
+kept_means V sh policy k v s t (Ok (Renewed at)) some swept means = means
+kept_means V sh policy k v s t (Err NoPath) some swept means = means
+kept_means V sh policy k v s t (Err AllRecent) some swept means = absurd (omega (arith, swept.1, some))
+kept_means V sh policy k v s t (Err Spent) some swept means = means
 
 -- its marks are those of a put
-kept_marks : (V : ℕ) (sh : Shape) (w : List ℕ) (k : ℕ) (v : List ℕ) (told : Result Put PutError) (acts : List Act) → Marks V sh w (PutCall k v) (answer.Put told) acts → Marks V sh w (KeptCall k v) (answer.Kept (kept_told told)) acts
-kept_marks V sh w k v (Ok told) acts marks = marks
-kept_marks V sh w k v (Err refusal) acts marks = marks
+kept_marks : (V : ℕ) (sh : Shape) (policy : Policy) (w : List ℕ) (k : ℕ) (v : List ℕ) (told : Result Put PutError) (acts : List Act) → Marks V sh policy w (PutCall k v) (answer.Put told) acts → Marks V sh policy w (KeptCall k v) (answer.Kept (kept_told told)) acts
+kept_marks V sh policy w k v (Ok told) acts marks = marks
+kept_marks V sh policy w k v (Err refusal) acts marks = marks
 
 -- a put that is planned without a sweep is planned as one that takes no other key's item
-pub kept_planned : (V : ℕ) (b : Books) (plan : List Act) (k : ℕ) (v : List ℕ) (s : State V) (told : Result Put PutError) → IsSweepOf V (shape_of b.checked) s [] (answer.Put told) → IsPlanned V b plan (PutCall k v) s s (answer.Put told) → IsPlanned V b plan (KeptCall k v) s s (answer.Kept (kept_told told))
+pub kept_planned : (V : ℕ) (b : Books) (plan : List Act) (k : ℕ) (v : List ℕ) (s : State V) (told : Result Put PutError) → IsSweepOf V (shape_of b.checked) (policy_of b.checked) s [] (answer.Put told) → IsPlanned V b plan (PutCall k v) s s (answer.Put told) → IsPlanned V b plan (KeptCall k v) s s (answer.Kept (kept_told told))
 kept_planned V b plan k v s told swept p = record {
   allowed = p.allowed;
-  means = kept_means V (shape_of b.checked) k v s (state_after_acts V (shape_of b.checked) s plan) told swept p.means;
-  marks = kept_marks V (shape_of b.checked) _ k v told plan p.marks;
+  means = kept_means V (shape_of b.checked) (policy_of b.checked) k v s (state_after_acts V (shape_of b.checked) s plan) told (omega (arith, p.ends.stands)) swept p.means;
+  marks = kept_marks V (shape_of b.checked) (policy_of b.checked) _ k v told plan p.marks;
   ends = p.ends;
 }
 

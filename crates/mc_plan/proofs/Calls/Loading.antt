@@ -1,5 +1,6 @@
 -- Entries that are put one after the other: one more, and the history that they make.
 use Rattle.std.proofs.Common.{ℕ, ◌≡◌, ◌+◌, ◌∙◌, List, [], ◌∷◌, ◌++◌, length, Result, Ok, Err, Some, None, ap, refl, sym, subst, arith, append_assoc, append-nil}
+use Rattle.mc_words.specs.declared.policy.Policy.{Policy}
 use Rattle.mc_words.specs.Answers.{Quiet}
 use Rattle.mc_words.specs.declared.history.Change.{Change}
 use Rattle.mc_words.specs.declared.shape.Shape.{Shape}
@@ -11,17 +12,17 @@ use Rattle.mc_plan.specs.declared.answer.Put.{Put}
 use Rattle.mc_plan.specs.declared.answer.Put.TheVariants.{Stored, Renewed}
 use Rattle.mc_plan.specs.declared.answer.Why.{Why}
 use Rattle.mc_plan.specs.declared.answer.Why.TheVariants.{NoPath, NoItem, Spent}
-use Rattle.mc_plan.specs.Loads.{Loads, changes_by, left_by}
-use Rattle.mc_plan.specs.WholeCalls.{Answered, KeptCall, Means}
+use Rattle.mc_plan.specs.Loads.{LoadsBy, changes_by, left_by}
+use Rattle.mc_plan.specs.WholeCalls.{AnsweredBy, KeptCall, Means}
 
 -- no entries
-pub loads_none : (V : ℕ) (sh : Shape) (s : State V) (n : ℕ) → Loads V sh s n [] [] [] []
-loads_none V sh s n = (refl, refl, refl)
+pub loads_none : (V : ℕ) (policy : Policy) (sh : Shape) (s : State V) (n : ℕ) → LoadsBy V sh policy s n [] [] [] []
+loads_none V policy sh s n = (refl, refl, refl)
 
 -- one entry more
-pub loads_more : (V : ℕ) (sh : Shape) (s : State V) (n m : ℕ) (es : List (ℕ × List ℕ)) (k : ℕ) (v : List ℕ) (acts more : List Made) (changes : List (Change V)) (left : List (ℕ × Why)) (told : Result Put Why) → Loads V sh s n es acts changes left → m ≡ n + length es
-    → Answered V sh (KeptCall k v) (after_all sh s acts) more (answer.Kept told) → Loads V sh s n (es ++ (k, v) ∷ []) (acts ++ more) (changes ++ changes_by k v told) (left ++ left_by m told)
-loads_more V sh s n m [] k v acts more changes left told l index a =
+pub loads_more : (V : ℕ) (policy : Policy) (sh : Shape) (s : State V) (n m : ℕ) (es : List (ℕ × List ℕ)) (k : ℕ) (v : List ℕ) (acts more : List Made) (changes : List (Change V)) (left : List (ℕ × Why)) (told : Result Put Why) → LoadsBy V sh policy s n es acts changes left → m ≡ n + length es
+    → AnsweredBy V sh policy (KeptCall k v) (after_all sh s acts) more (answer.Kept told) → LoadsBy V sh policy s n (es ++ (k, v) ∷ []) (acts ++ more) (changes ++ changes_by k v told) (left ++ left_by m told)
+loads_more V policy sh s n m [] k v acts more changes left told l index a =
     let at : m ≡ n = omega (arith, index) in (
       told,
       more,
@@ -31,10 +32,10 @@ loads_more V sh s n m [] k v acts more changes left told l index a =
       ap (λ (xs : List Made). xs ++ more) l.0 ∙ sym (append-nil more),
       ap (λ (xs : List (Change V)). xs ++ changes_by k v told) l.1 ∙ sym (append-nil (changes_by k v told)),
       ap (λ (xs : List (ℕ × Why)). xs ++ left_by m told) l.2 ∙ (ap (λ (j : ℕ). left_by j told) at ∙ sym (append-nil (left_by n told))),
-      subst (λ (xs : List Made). Answered V sh (KeptCall k v) (after_all sh s xs) more (answer.Kept told)) l.0 a,
+      subst (λ (xs : List Made). AnsweredBy V sh policy (KeptCall k v) (after_all sh s xs) more (answer.Kept told)) l.0 a,
       (refl, refl, refl),
     )
-loads_more V sh s n m (e ∷ es) k v acts more changes left told l index a =
+loads_more V policy sh s n m (e ∷ es) k v acts more changes left told l index a =
     let first = l.1 in
     let rest = l.2 in
     let later = l.3 in
@@ -49,7 +50,7 @@ loads_more V sh s n m (e ∷ es) k v acts more changes left told l index a =
       ap (λ (xs : List (Change V)). xs ++ changes_by k v told) l.6 ∙ append_assoc (changes_by e.0 e.1 l.0) later (changes_by k v told),
       ap (λ (xs : List (ℕ × Why)). xs ++ left_by m told) l.7 ∙ append_assoc (left_by n l.0) others (left_by m told),
       l.8,
-      loads_more V sh (after_all sh s first) (n + 1) m es k v rest more later others told l.9 (omega (arith, index)) (subst (λ (t : State V). Answered V sh (KeptCall k v) t more (answer.Kept told)) now a),
+      loads_more V policy sh (after_all sh s first) (n + 1) m es k v rest more later others told l.9 (omega (arith, index)) (subst (λ (t : State V). AnsweredBy V sh policy (KeptCall k v) t more (answer.Kept told)) now a),
     )
 
 -- what the call for one entry makes of the history
@@ -62,11 +63,11 @@ kept_grows V sh k v s t (Err NoItem) a = ap (λ (q : Quiet V). q.history) a.unch
 kept_grows V sh k v s t (Err Spent) a = ap (λ (q : Quiet V). q.history) a.1 ∙ sym (append-nil s.history)
 
 -- the history grows by the changes
-pub loads_history : (V : ℕ) (sh : Shape) (s : State V) (n : ℕ) (es : List (ℕ × List ℕ)) (acts : List Made) (changes : List (Change V)) (left : List (ℕ × Why)) → Loads V sh s n es acts changes left → (after_all sh s acts).history ≡ s.history ++ changes
-loads_history V sh s n [] acts changes left l =
+pub loads_history : (V : ℕ) (policy : Policy) (sh : Shape) (s : State V) (n : ℕ) (es : List (ℕ × List ℕ)) (acts : List Made) (changes : List (Change V)) (left : List (ℕ × Why)) → LoadsBy V sh policy s n es acts changes left → (after_all sh s acts).history ≡ s.history ++ changes
+loads_history V policy sh s n [] acts changes left l =
     ap (λ (xs : List Made). (after_all sh s xs).history) l.0 ∙ (sym (append-nil s.history) ∙ ap (λ (xs : List (Change V)). s.history ++ xs) (sym l.1))
-loads_history V sh s n (e ∷ es) acts changes left l =
+loads_history V policy sh s n (e ∷ es) acts changes left l =
     let m = after_all sh s l.1 in
     let made = changes_by e.0 e.1 l.0 in
-    ap (λ (xs : List Made). (after_all sh s xs).history) l.5 ∙ ap (λ (t : State V). t.history) (after_all-append sh s l.1 l.2) ∙ loads_history V sh m (n + 1) es l.2 l.3 l.4 l.9
+    ap (λ (xs : List Made). (after_all sh s xs).history) l.5 ∙ ap (λ (t : State V). t.history) (after_all-append sh s l.1 l.2) ∙ loads_history V policy sh m (n + 1) es l.2 l.3 l.4 l.9
     ∙ ap (λ (h : List (Change V)). h ++ l.3) (kept_grows V sh e.0 e.1 s m l.0 l.8.means) ∙ append_assoc s.history made l.3 ∙ ap (λ (xs : List (Change V)). s.history ++ xs) (sym l.6)

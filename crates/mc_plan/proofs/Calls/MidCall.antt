@@ -6,7 +6,11 @@ use Rattle.std.specs.Option.{IfSome, MatchOption, option_copied}
 use Rattle.std.specs.Prelude.{slice_get}
 use Rattle.std.proofs.lemmas.List.{map-append}
 use Rattle.std.proofs.lemmas.Option.{slice_get_past, slice_get_read}
-use Rattle.mc_words.specs.Checks.{shape_of}
+use Rattle.mc_plan.specs.declared.answer.Put.TheVariants.{Renewed, Stored}
+use Rattle.mc_plan.specs.declared.answer.Put.{Put}
+use Rattle.mc_words.specs.declared.policy.Policy.TheVariants.{Clock, ScanResistant}
+use Rattle.mc_words.specs.declared.policy.Policy.{Policy}
+use Rattle.mc_words.specs.Checks.{policy_of, shape_of}
 use Rattle.mc_words.specs.declared.shape.Shape.{Shape}
 use Rattle.mc_words.specs.Places.{IsWidth}
 use Rattle.mc_theory.specs.Acts.{IsAllowed, IsAllowedByClock, KeepsClock, MayFrom}
@@ -26,7 +30,7 @@ use Rattle.mc_plan.specs.declared.books.Books.{Books}
 use Rattle.mc_plan.specs.declared.clerk.Clerk.{Clerk}
 use Rattle.mc_plan.specs.declared.clerk.Stage.{Stage}
 use Rattle.mc_plan.specs.declared.clerk.Stage.TheVariants.{Idle, Sweeping, Planned}
-use Rattle.mc_plan.specs.WholeCalls.{Answered, Call, KeptCall, PutCall, PutIfCall, RemoveCall, IsOfDeed, AreOfDeeds, IsSweepOf, Means, Marks, MarksLast, acts_of, state_after_sweep}
+use Rattle.mc_plan.specs.WholeCalls.{Answered, AnsweredBy, Call, KeptCall, PutCall, PutIfCall, RemoveCall, IsOfDeed, AreOfDeeds, IsSweepOf, Means, Marks, MarksLast, MarksPut, acts_of, state_after_sweep}
 use Rattle.mc_plan.specs.Books.{AreBooksOf, IsPlanned}
 use Rattle.mc_plan.specs.Clerks.{IsAtStage, IsOn, HasCall, Knows, MakesPlan, StageHasCall, next_act, next_in, shape_of_clerk}
 use Rattle.mc_plan.specs.Making.{IsQuiet, as_made, state_after_acts}
@@ -93,23 +97,28 @@ still_take (suc n) (x ∷ acts) a = (a.0, still_take n acts a.1)
 still_last : (V : ℕ) (sh : Shape) (w : List ℕ) (k : ℕ) (acts : List Act) → MarksLast V sh w k acts → AreStill acts
 still_last V sh w k acts m = subst AreStill (sym m.last) (still_then m.before (Mark m.item ∷ []) (still_deeds m.before m.deeds) (tt, tt))
 
-pub still_marks : (V : ℕ) (sh : Shape) (w : List ℕ) (call : Call) (told : Answer) (acts : List Act) → Marks V sh w call told acts → AreStill acts
-still_marks V sh w (PutCall k v) (answer.Put (Ok put)) acts m = still_last V sh w k acts m
-still_marks V sh w (PutCall k v) (answer.Put (Err why)) acts m = still_deeds acts m
-still_marks V sh w (PutCall k v) (answer.PutIf told) acts m = absurd m
-still_marks V sh w (PutCall k v) (answer.Remove told) acts m = absurd m
-still_marks V sh w (PutIfCall k since v) (answer.PutIf (Ok at)) acts m = still_last V sh w k acts m
-still_marks V sh w (PutIfCall k since v) (answer.PutIf (Err why)) acts m = still_deeds acts m
-still_marks V sh w (PutIfCall k since v) (answer.Put told) acts m = absurd m
-still_marks V sh w (PutIfCall k since v) (answer.Remove told) acts m = absurd m
-still_marks V sh w (PutCall k v) (answer.Kept told) acts m = absurd m
-still_marks V sh w (PutIfCall k since v) (answer.Kept told) acts m = absurd m
-still_marks V sh w (RemoveCall k) told acts m = still_deeds acts m
-still_marks V sh w (KeptCall k v) (answer.Kept (Ok put)) acts m = still_last V sh w k acts m
-still_marks V sh w (KeptCall k v) (answer.Kept (Err why)) acts m = still_deeds acts m
-still_marks V sh w (KeptCall k v) (answer.Put told) acts m = absurd m
-still_marks V sh w (KeptCall k v) (answer.PutIf told) acts m = absurd m
-still_marks V sh w (KeptCall k v) (answer.Remove told) acts m = absurd m
+still_put : (policy : Policy) (V : ℕ) (sh : Shape) (w : List ℕ) (k : ℕ) (told : Put) (acts : List Act) → MarksPut policy V sh w k told acts → AreStill acts
+still_put Clock V sh w k told acts m = still_last V sh w k acts m
+still_put ScanResistant V sh w k (Renewed at) acts m = still_last V sh w k acts m
+still_put ScanResistant V sh w k (Stored at moves evicted) acts m = still_deeds acts m
+
+pub still_marks : (V : ℕ) (sh : Shape) (policy : Policy) (w : List ℕ) (call : Call) (told : Answer) (acts : List Act) → Marks V sh policy w call told acts → AreStill acts
+still_marks V sh policy w (PutCall k v) (answer.Put (Ok put)) acts m = still_put policy V sh w k put acts m
+still_marks V sh policy w (PutCall k v) (answer.Put (Err why)) acts m = still_deeds acts m
+still_marks V sh policy w (PutCall k v) (answer.PutIf told) acts m = absurd m
+still_marks V sh policy w (PutCall k v) (answer.Remove told) acts m = absurd m
+still_marks V sh policy w (PutIfCall k since v) (answer.PutIf (Ok at)) acts m = still_last V sh w k acts m
+still_marks V sh policy w (PutIfCall k since v) (answer.PutIf (Err why)) acts m = still_deeds acts m
+still_marks V sh policy w (PutIfCall k since v) (answer.Put told) acts m = absurd m
+still_marks V sh policy w (PutIfCall k since v) (answer.Remove told) acts m = absurd m
+still_marks V sh policy w (PutCall k v) (answer.Kept told) acts m = absurd m
+still_marks V sh policy w (PutIfCall k since v) (answer.Kept told) acts m = absurd m
+still_marks V sh policy w (RemoveCall k) told acts m = still_deeds acts m
+still_marks V sh policy w (KeptCall k v) (answer.Kept (Ok put)) acts m = still_put policy V sh w k put acts m
+still_marks V sh policy w (KeptCall k v) (answer.Kept (Err why)) acts m = still_deeds acts m
+still_marks V sh policy w (KeptCall k v) (answer.Put told) acts m = absurd m
+still_marks V sh policy w (KeptCall k v) (answer.PutIf told) acts m = absurd m
+still_marks V sh policy w (KeptCall k v) (answer.Remove told) acts m = absurd m
 
 -- an act that is none of the hand keeps CLOCK's order
 still_keeps : {V : ℕ} (sh : Shape) (s : State V) (a : Act) → IsStill a → KeepsClock sh s a
@@ -234,7 +243,7 @@ module _ (V : ℕ) (b : Books) (plan : List Act) (many : ℕ) (call : Call) (s :
   mid = state_after_sweep V sh s makes.sweep
 
   still_on : AreStill (acts_of makes.others)
-  still_on = subst AreStill (sym makes.done) (still_take many plan (still_marks V sh _ call told plan makes.planned.marks))
+  still_on = subst AreStill (sym makes.done) (still_take many plan (still_marks V sh (policy_of b.checked) _ call told plan makes.planned.marks))
 
   -- the state now is that after the sweep and the first acts of the plan
   pub state_now : after_all sh s acts ≡ state_after_acts V sh mid (take many plan)
@@ -249,7 +258,7 @@ module _ (V : ℕ) (b : Books) (plan : List Act) (many : ℕ) (call : Call) (s :
       let planned = makes.planned in
       let may = allowed_next V sh mid plan many a planned.allowed (sym e) in
       let room = changes_left V sh mid plan many a sh.limit planned.allowed (sym e) planned.ends.quiet.quiet planned.ends.limit in
-      let still = still_next plan many a (still_marks V sh _ call told plan planned.marks) (sym e) in
+      let still = still_next plan many a (still_marks V sh (policy_of b.checked) _ call told plan planned.marks) (sym e) in
       subst (λ (t : State V). IsAllowedByClock sh t a × HasVersionSteps sh.limit t.version_steps a) (sym state_now) ((may, still_keeps {V = V} sh (state_after_acts V sh mid (take many plan)) a still), room)
 
   -- one act more was made
@@ -270,13 +279,13 @@ module _ (V : ℕ) (b : Books) (plan : List Act) (many : ℕ) (call : Call) (s :
       }
 
 -- a sweep and then all acts of a plan are a whole call
-pub whole_plan : (V : ℕ) (b : Books) (plan : List Act) (call : Call) (s : State V) (rs : List Swept) (others : List Made) (told : Answer) → AreAllowed (shape_of b.checked) s (hand_acts rs) → IsSweepOf V (shape_of b.checked) s rs told
+pub whole_plan : (V : ℕ) (b : Books) (plan : List Act) (call : Call) (s : State V) (rs : List Swept) (others : List Made) (told : Answer) → AreAllowed (shape_of b.checked) s (hand_acts rs) → IsSweepOf V (shape_of b.checked) (policy_of b.checked) s rs told
     → IsPlanned V b plan call s (state_after_sweep V (shape_of b.checked) s rs) told → acts_of others ≡ plan
-    → Answered V (shape_of b.checked) call s (hand_acts rs ++ others) told × (after_all (shape_of b.checked) s (hand_acts rs ++ others) ≡ state_after_acts V (shape_of b.checked) (state_after_sweep V (shape_of b.checked) s rs) plan)
+    → AnsweredBy V (shape_of b.checked) (policy_of b.checked) call s (hand_acts rs ++ others) told × (after_all (shape_of b.checked) s (hand_acts rs ++ others) ≡ state_after_acts V (shape_of b.checked) (state_after_sweep V (shape_of b.checked) s rs) plan)
 whole_plan V b plan call s rs others told hands sweeps p done =
     let sh = shape_of b.checked in
     let mid = state_after_sweep V sh s rs in
-    let still : AreStill (acts_of others) = subst AreStill (sym done) (still_marks V sh _ call told plan p.marks) in
+    let still : AreStill (acts_of others) = subst AreStill (sym done) (still_marks V sh (policy_of b.checked) _ call told plan p.marks) in
     let now : after_all sh s (hand_acts rs ++ others) ≡ state_after_acts V sh mid plan = after_all-append sh s (hand_acts rs) others ∙ same_state V sh mid others still ∙ ap (λ (xs : List Act). state_after_acts V sh mid xs) done in
     let rest = same_allowed V sh mid others still (subst (λ (xs : List Act). AreAllowed sh mid (as_made xs)) (sym done) p.allowed) in (
       record {
@@ -287,16 +296,16 @@ whole_plan V b plan call s rs others told hands sweeps p done =
         quiet = subst (λ (t : State V). IsQuiet V sh t) (sym now) p.ends.quiet;
         means = subst (λ (t : State V). Means sh call told s t) (sym now) p.means;
         sweeps = sweeps;
-        marks = subst (λ (xs : List Act). Marks V sh (after_all sh s (hand_acts rs ++ others)).words call told xs) (sym done) (subst (λ (t : State V). Marks V sh t.words call told plan) (sym now) p.marks);
+        marks = subst (λ (xs : List Act). Marks V sh (policy_of b.checked) (after_all sh s (hand_acts rs ++ others)).words call told xs) (sym done) (subst (λ (t : State V). Marks V sh (policy_of b.checked) t.words call told plan) (sym now) p.marks);
       },
       now,
     )
 
 -- a plan that was made after a sweep, and none of its acts
-pub planned_after : (V : ℕ) (b : Books) (plan : List Act) (many : ℕ) (call : Call) (s : State V) (rs : List Swept) (told : Answer) (sh : Shape) → sh ≡ shape_of b.checked → AreAllowed sh s (hand_acts rs) → IsSweepOf V sh s rs told
+pub planned_after : (V : ℕ) (b : Books) (plan : List Act) (many : ℕ) (call : Call) (s : State V) (rs : List Swept) (told : Answer) (sh : Shape) → sh ≡ shape_of b.checked → AreAllowed sh s (hand_acts rs) → IsSweepOf V sh (policy_of b.checked) s rs told
     → IsPlanned V b plan call s (state_after_sweep V sh s rs) told → length plan ≤ 64 → many ≡ 0 → MakesPlan V b plan many call s (hand_acts rs) told
 planned_after V b plan many call s rs told sh same hands sweeps planned fits none =
-    subst (λ (y : Shape). AreAllowed y s (hand_acts rs) → IsSweepOf V y s rs told → IsPlanned V b plan call s (state_after_sweep V y s rs) told → MakesPlan V b plan many call s (hand_acts rs) told) (sym same)
+    subst (λ (y : Shape). AreAllowed y s (hand_acts rs) → IsSweepOf V y (policy_of b.checked) s rs told → IsPlanned V b plan call s (state_after_sweep V y s rs) told → MakesPlan V b plan many call s (hand_acts rs) told) (sym same)
     (λ hands sweeps planned. record {
       sweep = rs;
       others = [];
@@ -345,13 +354,13 @@ whole_call V clerk call s acts told on next is =
     let at : slice_get plan clerk.made ≡ None = ap (λ (st : Stage V). next_in st plan clerk.made) (sym is) ∙ next in
     let whole = whole_plan V clerk.books plan call s makes.sweep makes.others told makes.hands makes.sweeps makes.planned (makes.done ∙ none_left plan clerk.made at) in
     let now : after_all sh s acts ≡ state_after_acts V sh (state_after_sweep V sh s makes.sweep) plan = ap (λ (xs : List Made). after_all sh s xs) makes.parts ∙ whole.1 in (
-      subst (λ (xs : List Made). Answered V sh call s xs told) (sym makes.parts) whole.0,
-      record { idle = refl; books = subst (λ (t : State V). AreBooksOf V clerk.books t) (sym now) makes.planned.ends },
+      subst (λ (p : Policy). AnsweredBy V sh p call s acts told) on.clock (subst (λ (xs : List Made). AnsweredBy V sh (policy_of clerk.books.checked) call s xs told) (sym makes.parts) whole.0),
+      record { idle = refl; clock = on.clock; books = subst (λ (t : State V). AreBooksOf V clerk.books t) (sym now) makes.planned.ends },
     )
 
 -- a call that was planned at once begins
-pub begins : (V : ℕ) (clerk : Clerk V) (call : Call) (s : State V) (told : Answer) → clerk.stage ≡ Planned told → clerk.made ≡ 0 → length clerk.plan.items ≤ 64 → IsQuiet V (shape_of_clerk clerk) s
-    → IsPlanned V clerk.books clerk.plan.items call s s told → IsSweepOf V (shape_of_clerk clerk) s [] told → IsOn V clerk call s []
-begins V clerk call s told owes none fits quiet planned sweeps =
+pub begins : (V : ℕ) (clerk : Clerk V) (call : Call) (s : State V) (told : Answer) → clerk.stage ≡ Planned told → clerk.made ≡ 0 → length clerk.plan.items ≤ 64 → IsQuiet V (shape_of_clerk clerk) s → policy_of clerk.books.checked ≡ Clock
+    → IsPlanned V clerk.books clerk.plan.items call s s told → IsSweepOf V (shape_of_clerk clerk) (policy_of clerk.books.checked) s [] told → IsOn V clerk call s []
+begins V clerk call s told owes none fits quiet clock planned sweeps =
     let makes = planned_after V clerk.books clerk.plan.items clerk.made call s [] told (shape_of_clerk clerk) refl tt sweeps planned fits none in
-    record { begun = quiet; now = subst (λ (st : Stage V). IsAtStage V st clerk.books clerk.plan.items clerk.made call s []) (sym owes) makes }
+    record { begun = quiet; clock = clock; now = subst (λ (st : Stage V). IsAtStage V st clerk.books clerk.plan.items clerk.made call s []) (sym owes) makes }

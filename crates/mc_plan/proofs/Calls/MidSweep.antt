@@ -55,7 +55,7 @@ module _ (V : ℕ) (b : Books) (waiting : Waiting V) (call : Call) (s : State V)
 
   -- a sweep with other readings
   pub sweep_on : (sweep : Sweep) (qs : List Swept) → HasSwept sweep (shape_of b.checked).items s.hand qs → IsSweeping V b (record waiting { sweep = sweep }) call s qs
-  sweep_on sweep qs has = record { waits = on.waits; called = on.called; has = has }
+  sweep_on sweep qs has = record { waits = on.waits; called = on.called; clock = on.clock; has = has }
 
 -- a sweep that has read nothing has an item to read
 starts : (sweep : Sweep) (items hand : ℕ) → HasSwept sweep items hand [] → IsSome (next_item sweep)
@@ -69,6 +69,7 @@ starts sweep items hand has =
 pub begins_sweep : (V : ℕ) (clerk : Clerk V) (call : Call) (s : State V) (waiting : Waiting V) → clerk.stage ≡ Sweeping waiting → clerk.made ≡ 0 → clerk.plan.items ≡ [] → IsSweeping V clerk.books waiting call s [] → IsOn V clerk call s []
 begins_sweep V clerk call s waiting is none empty on = record {
   begun = on.waits.known.quiet;
+  clock = on.clock;
   now = subst (λ (st : Stage V). IsAtStage V st clerk.books clerk.plan.items clerk.made call s []) (sym is) ([], on, starts waiting.sweep (shape_of_clerk clerk).items s.hand on.has, none, refl, empty);
 }
 

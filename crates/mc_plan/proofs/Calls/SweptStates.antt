@@ -152,6 +152,11 @@ swept_hand V sh s hand (r ∷ rs) at sweeps below =
     swept_hand V sh (after_act sh s (Hand r.item) r.bit) ((hand + 1) % sh.items) rs (ap (λ (i : ℕ). (i + 1) % sh.items) first) (sweep_tail sh.items hand r rs sweeps) (mod-lt (hand + 1) (omega arith))
     ∙ mod-add-mod (hand + 1) sh.items (length rs) ∙ ap (λ (m : ℕ). m % sh.items) (omega arith)
 
+-- wherever a search has led the hand, it is at one of the items
+pub swept_below : (V : ℕ) (sh : Shape) (s : State V) (rs : List Swept) → s.hand < sh.items → (after_all sh s (hand_acts rs)).hand < sh.items
+swept_below V sh s [] below = below
+swept_below V sh s (r ∷ rs) below = swept_below V sh (after_act sh s (Hand r.item) r.bit) rs (mod-lt (r.item + 1) (omega (arith, below)))
+
 -- the item that is cleared after it is its victim, if it has one
 last_cleared : (V : ℕ) (sh : Shape) (s : State V) (items : ℕ) (r : Swept) (rs : List Swept) → IsSearch items (r ∷ rs) → (after_all sh s (hand_acts (r ∷ rs))).cleared ≡ victim_of (r ∷ rs)
 last_cleared V sh s items r [] searches = refl

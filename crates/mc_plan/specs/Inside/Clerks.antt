@@ -1,6 +1,7 @@
 -- What only private contracts say beside `Clerks`.
-use Rattle.std.specs.Prelude.{ℕ, ◌≡◌, List, [], Some, Result, Ok, Err}
-use Rattle.mc_words.specs.Checks.{shape_of}
+use Rattle.std.specs.Prelude.{ℕ, ◌≡◌, ◌+◌, ◌%◌, ◌<◌, List, [], length, Some, Result, Ok, Err}
+use Rattle.mc_words.specs.declared.policy.Policy.TheVariants.{Clock}
+use Rattle.mc_words.specs.Checks.{policy_of, shape_of}
 use Rattle.mc_words.specs.History.{IsWord}
 use Rattle.mc_words.specs.KeyParts.{HasParts}
 use Rattle.mc_words.specs.Places.{IsPlace, slot_number}
@@ -21,7 +22,8 @@ use Rattle.mc_plan.specs.declared.waiting.Start.{Start}
 use Rattle.mc_plan.specs.declared.waiting.Start.TheVariants as start
 use Rattle.mc_plan.specs.declared.waiting.Waiting.{Waiting}
 use Rattle.mc_plan.specs.Making.{IsQuiet}
-use Rattle.mc_search.specs.Sweeps.{Swept, IsOver, victim_of}
+use Rattle.mc_search.specs.declared.room.Room.{Room}
+use Rattle.mc_search.specs.Sweeps.{Swept, IsOver, IsSearchBy, victim_of}
 use Rattle.mc_plan.specs.WholeCalls.{Call, PutCall, IsSweepOf}
 use Rattle.mc_plan.specs.Books.{IsPlanned, Waits, IsSweeping}
 use Rattle.mc_plan.specs.Clerks.{shape_of_clerk}
@@ -33,15 +35,18 @@ kept_told (Err refusal) = Err (why_of refusal)
 
 -- how a put starts: it is planned, or it waits for an item
 abbrev pub IsStarted : (V : ℕ) → Books → List Act → ℕ → List ℕ → State V → Start → Type 0
-IsStarted V books plan k v s (start.Planned told) = (IsPlanned V books plan (PutCall k v) s s (answer.Put told)) × IsSweepOf V (shape_of books.checked) s [] (answer.Put told)
+IsStarted V books plan k v s (start.Planned told) = (IsPlanned V books plan (PutCall k v) s s (answer.Put told)) × IsSweepOf V (shape_of books.checked) (policy_of books.checked) s [] (answer.Put told)
 IsStarted V books plan k v s (start.Waits room) = (plan ≡ []) × Waits V books k v s room
 
--- its sweep has found an item, and the books know where the hand is now
-pub record IsReplacing (V : ℕ) (books : Books) (waiting : Waiting V) (call : Call) (s : State V) (rs : List Swept) (item : ℕ) : Type 0 where
+-- the put of this key waited for an item, the search has found one, and the books know where CLOCK's hand is now
+pub record IsReplacing (V : ℕ) (books : Books) (k : ℕ) (v : List ℕ) (room : Room) (call : Call) (s : State V) (rs : List Swept) (item : ℕ) : Type 0 where
   pub before : ℕ
-  pub sweeping : IsSweeping V (record books { hand = before }) waiting call s rs
+  pub waits : Waits V (record books { hand = before }) k v s room
+  pub called : call ≡ PutCall k v
+  pub searched : IsSearchBy (policy_of books.checked) (shape_of books.checked).items s.hand rs
   pub found : victim_of rs ≡ Some item
-  pub stands : books.hand ≡ waiting.sweep.hand
+  pub hand : policy_of books.checked ≡ Clock → books.hand ≡ (s.hand + length rs) % (shape_of books.checked).items
+  pub inside : books.hand < (shape_of books.checked).items
 
 -- the key stands at the item, in this slot, and has these parts
 pub record IsVictim (V : ℕ) (books : Books) (s : State V) (item : ℕ) (r : Victim) : Type 0 where

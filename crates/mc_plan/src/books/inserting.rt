@@ -18,7 +18,7 @@ use crate::decision::{Move, Moves, Replacement, Storing, Victim};
 use crate::moves::path_moves;
 use crate::waiting::Waiting;
 use mc_search::{
-    OneMove, Room, find_hole, find_move, is_large, key_at, key_in, moment, place_of, slot_at,
+    OneMove, Pick, Room, find_hole, find_move, is_large, key_at, key_in, moment, place_of, slot_at,
     touch_bucket,
 };
 use mc_theory::Peek;
@@ -239,24 +239,23 @@ impl Books {
         }
     }
 
-    /// Decides the put of a key that is not there, where it finds this room. `None`: no item is free, and the hand looks for one. `mixed` is
-    /// the key, mixed.
+    /// Decides the put of a key that is not there, where it finds this room. `None`: no item is free, and one is to be searched.
     /// Condition: `near`, `by_move`, `by_path` or `room` has just found it, for a key that `decide` has answered with this `at`.
     #[inline(always)]
     pub fn insert<const V: usize, P: Peek>(
         &mut self,
         peek: &mut P,
-        mixed: u64,
+        key: u64,
         room: Room,
         at: u64,
     ) -> Option<Storing>
-        requires room { (k : ℕ) × (v : List ℕ) × (s : State V) × HasRoom V self.old k v s at room × (P.words peek.old ≡ s.words) }
-        ensures inserted { (k : ℕ) (v : List ℕ) (s : State V) → HasRoom V self.old k v s at room → P.words peek.old ≡ s.words →
-            IsInserted V self.new k v s room result }
+        requires room { (v : List ℕ) × (s : State V) × HasRoom V self.old key v s at room × (P.words peek.old ≡ s.words) }
+        ensures inserted { (v : List ℕ) (s : State V) → HasRoom V self.old key v s at room → P.words peek.old ≡ s.words →
+            IsInserted V self.new key v s room result }
         ensures shape { self.new.checked ≡ self.old.checked }
         ensures kept { peek.new ≡ peek.old }
     {
-        let Some(item) = self.free.take_least(mixed) else {
+        let Some(item) = self.free.take_least(self.checked.mixed(key)) else {
             return None;
         };
         Some(self.store::<V, P>(peek, room, item, at))
@@ -265,19 +264,21 @@ impl Books {
 
 // Whose item it takes.
 impl Books {
-    ghost use Rattle.mc_plan.specs.WholeCalls.{Call};
-    ghost use Rattle.mc_plan.specs.Books.{IsSweeping};
+    ghost use Rattle.mc_plan.specs.WholeCalls.{Call, PutCall};
+    ghost use Rattle.mc_plan.specs.Books.{AreBooksOf, IsPickingFor, IsSweeping};
     ghost use Rattle.mc_plan.specs.Deciding.{IsFinished, IsReplaced};
     ghost use Rattle.mc_plan.specs.Inside.Clerks.{IsReplacing, IsVictim};
+    ghost use Rattle.mc_search.specs.Items.{IsUsedIn};
     ghost use Rattle.mc_search.specs.Sweeps.{IsOver, Swept};
 
-    /// The key at the item, which is taken out: its parts, and its slot.
+    /// The key at an item in use: its parts, and its slot. Condition: the books are those of the table whose words are looked at, but perhaps for
+    /// the hand.
     #[inline(always)]
     pub(crate) fn victim<const V: usize, P: Peek>(&self, peek: &mut P, item: u32) -> Victim
-        requires books { (waiting : Waiting V) × (call : Call) × (s : State V) × (rs : List Swept) ×
-            IsReplacing V self.now waiting call s rs item × (P.words peek.old ≡ s.words) }
-        ensures victim { (waiting : Waiting V) (call : Call) (s : State V) (rs : List Swept) →
-            IsReplacing V self.now waiting call s rs item → P.words peek.old ≡ s.words → IsVictim V self.now s item result }
+        requires books { (hand : ℕ) × (s : State V) × AreBooksOf V (record self.now { hand = hand }) s × (P.words peek.old ≡ s.words) }
+        requires in_use { IsUsedIn self.now.free item }
+        ensures victim { (hand : ℕ) (s : State V) → AreBooksOf V (record self.now { hand = hand }) s → P.words peek.old ≡ s.words →
+            IsVictim V self.now s item result }
         ensures kept { peek.new ≡ peek.old }
     {
         let key = key_at::<V, P>(&self.checked, peek, item);
@@ -288,27 +289,29 @@ impl Books {
         Victim { key, parts, place }
     }
 
-    /// Decides how the key at the item is replaced. The room is cut at that key's slot.
+    /// Decides how the key at the item is replaced by this one. The room is cut at the old key's slot.
     #[inline(always)]
     fn replace<const V: usize, P: Peek>(
         &mut self,
         peek: &mut P,
-        waiting: &Waiting<V>,
+        key: u64,
+        room: Room,
         item: u32,
     ) -> Replacement
-        requires books { (call : Call) × (s : State V) × (rs : List Swept) × IsReplacing V self.old waiting.now call s rs item × (P.words peek.old ≡ s.words) }
-        ensures replaced { (call : Call) (s : State V) (rs : List Swept) →
-            IsReplacing V self.old waiting.now call s rs item → P.words peek.old ≡ s.words →
-            IsReplaced V self.new waiting.now call s rs result }
+        requires books { (v : List ℕ) × (call : Call) × (s : State V) × (rs : List Swept) × IsReplacing V self.old key v room call s rs item × (P.words peek.old ≡ s.words) }
+        ensures replaced { (v : List ℕ) (call : Call) (s : State V) (rs : List Swept) →
+            IsReplacing V self.old key v room call s rs item → P.words peek.old ≡ s.words →
+            IsReplaced V self.new key v call s rs result }
         ensures shape { self.new.checked ≡ self.old.checked }
         ensures kept { peek.new ≡ peek.old }
     {
         let at = moment(&self.checked, peek) + 2;
         let victim = self.victim::<V, P>(peek, item);
-        let left = waiting.room.cut_at(victim.place, &mut self.far.path);
+        let left = room.cut_at(victim.place, &mut self.far.path);
         let storing = self.store::<V, P>(peek, left, item, at);
         self.version_steps += 2;
-        self.free.hand_on(item, victim.parts.mixed, waiting.mixed);
+        let old = self.checked.mixed(victim.key);
+        self.free.hand_on(item, old, self.checked.mixed(key));
         Replacement { victim, storing }
     }
 
@@ -324,13 +327,37 @@ impl Books {
             IsOver (shape_of self.old.checked).items rs × (P.words peek.old ≡ s.words) }
         ensures finished { (call : Call) (s : State V) (rs : List Swept) →
             IsSweeping V self.old waiting.now call s rs → IsOver (shape_of self.old.checked).items rs →
-            P.words peek.old ≡ s.words → IsFinished V self.new waiting.now call s rs result }
+            P.words peek.old ≡ s.words → IsFinished V self.new waiting.now.key waiting.now.value call s rs result }
         ensures shape { self.new.checked ≡ self.old.checked }
         ensures kept { peek.new ≡ peek.old }
     {
         self.hand = waiting.sweep.hand();
         match waiting.sweep.victim() {
-            Some(item) => Ok(self.replace::<V, P>(peek, waiting, item)),
+            Some(item) => Ok(self.replace::<V, P>(peek, waiting.key, waiting.room, item)),
+            None => Err(PutError::AllRecent),
+        }
+    }
+
+    /// Decides the rest of a put of this key, whose search by new and proven items is over.
+    /// Condition: the put waits by these books, its search is over, and the words are those of its beginning.
+    #[inline(always)]
+    pub fn finish_picked<const V: usize, P: Peek>(
+        &mut self,
+        peek: &mut P,
+        pick: &Pick,
+        key: u64,
+        room: Room,
+    ) -> Result<Replacement, PutError>
+        requires over { (v : List ℕ) × (s : State V) × (rs : List Swept) × IsPickingFor V self.old pick.now key v room s rs ×
+            IsOver (shape_of self.old.checked).items rs × (P.words peek.old ≡ s.words) }
+        ensures finished { (v : List ℕ) (s : State V) (rs : List Swept) →
+            IsPickingFor V self.old pick.now key v room s rs → IsOver (shape_of self.old.checked).items rs →
+            P.words peek.old ≡ s.words → IsFinished V self.new key v (PutCall key v) s rs result }
+        ensures shape { self.new.checked ≡ self.old.checked }
+        ensures kept { peek.new ≡ peek.old }
+    {
+        match self.free.victim(pick) {
+            Some(item) => Ok(self.replace::<V, P>(peek, key, room, item)),
             None => Err(PutError::AllRecent),
         }
     }

@@ -22,7 +22,7 @@ loop-index-preserved g c =
     let more : take (i + 1) es ≡ take i es ++ e ∷ [] = take_more es i e below ∙ ap (λ (x : ℕ × List ℕ). take i es ++ x ∷ []) (sym c.index-entries-index.is) in
     let index : i ≡ length (take i es) = sym (length-take-le i es (omega (arith, below))) in
     let so : HasLoaded V sh start after (take i es ++ e ∷ []) (c.loop-index.left.items ++ left_by i told) =
-    loaded_more V sh start c.loop-index.writer after (take i es) i e.0 e.1 c.loop-index.left.items told index c.loop-index.invariant.loaded c.put_kept.ensures.called in
+    loaded_more V sh start c.loop-index.writer after (take i es) i e.0 e.1 c.loop-index.left.items told index c.loop-index.invariant.of c.loop-index.invariant.loaded c.put_kept.ensures.called in
     let all = subst (λ (xs : List (ℕ × List ℕ)). HasLoaded V sh start after xs (c.loop-index.left.items ++ left_by i told)) (sym more) so in
     let at : HasLoaded V sh start after (take (i + 1) es) c.match-put_kept.left.items = elim c.match-put_kept.branch [
       | in-Err w ↦

@@ -1,11 +1,12 @@
 use Rattle.std.proofs.Common.{ℕ, ◌^◌, ◌<◌, ◌≤◌, List, length, get_or, take, ap, sym, ◌∙◌, subst, arith}
 use Rattle.std.proofs.lemmas.List.{take_all, take_more, take_more_set}
 use Rattle.std.proofs.lemmas.List.Elements.{All-from_get_or}
+use Rattle.mc_words.specs.Checks.{policy_of}
 use Rattle.mc_words.specs.Shapes.{IsShape}
 use Rattle.mc_words.specs.declared.history.Reply.{Reply}
 use Rattle.mc_shared.specs.Records.{Opening}
 use Rattle.mc_shared.specs.TableRule.{IsRecord}
-use Rattle.mc_shared.specs.Views.{AreLawful, layout_of}
+use Rattle.mc_shared.specs.Views.{AreLawful, layout_with}
 use Rattle.mc_shared.specs.declared.layout.Layout.{Layout}
 use Rattle.mc_shared.proofs.ReaderRecords.{front_self}
 use Rattle.mc_reader.specs.Records.{HaveLooked}
@@ -37,7 +38,7 @@ returns-clause-truth g c =
     let looked = subst (λ (y : List ℕ × List (Reply V)). HaveLooked V sh y.0 c.args.seat.now c.loop-i.seat y.1)
     (λ j. (take_all i keys ends j, take_all i c.loop-i.replies (omega arith) j)) c.loop-i.invariant.looked in
     let e = ap (λ (l : Layout). l.shape) c.checked-checked.ensures.layout in
-    let layout = ap (λ (o : Opening). o.layout) (c.loop-i.invariant.of ∙ c.requires.of) ∙ (c.checked-checked.ensures.layout ∙ ap (layout_of V) (sym e)) in
+    let layout = ap (λ (o : Opening). o.layout) (c.loop-i.invariant.of ∙ c.requires.of) ∙ (c.checked-checked.ensures.layout ∙ ap (layout_with V (policy_of c.checked-checked.result.now)) (sym e)) in
     let shape : IsShape sh = subst IsShape (sym e) c.checked-checked.result.now.sound in
     let lawful = subst (λ (l : Layout). AreLawful l c.loop-i.seat.front) layout c.known.ensures.lawful in
     let recorded = subst (λ (l : Layout). IsRecord l c.loop-i.seat.front c.loop-i.seat.done) layout c.known.ensures.recorded in

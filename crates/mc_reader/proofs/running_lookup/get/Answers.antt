@@ -1,5 +1,6 @@
 use Rattle.std.proofs.Common.{◌+◌, ◌*◌, List, ap, sym, ◌∙◌, subst, arith, inl}
 use Rattle.std.specs.Prelude.{◌↔◌}
+use Rattle.mc_words.specs.Checks.{policy_of}
 use Rattle.mc_words.specs.Places.{payload}
 use Rattle.mc_words.specs.Shapes.{IsShape}
 use Rattle.mc_words.specs.declared.history.Reply.{Reply}
@@ -8,7 +9,7 @@ use Rattle.mc_theory.specs.Lookups.{IsLookup}
 use Rattle.mc_theory.specs.Readings.{Reading}
 use Rattle.mc_lookup.specs.Machine.{IsRemainder}
 use Rattle.mc_shared.specs.Records.{Opening}
-use Rattle.mc_shared.specs.Views.{layout_of}
+use Rattle.mc_shared.specs.Views.{layout_with}
 use Rattle.mc_shared.specs.declared.layout.Layout.{Layout}
 use Rattle.mc_reader.proofs.Course.{sets_out, ends, tells_true}
 use Rattle.mc_reader.proofs.running_lookup.get.Goals as goal
@@ -33,7 +34,7 @@ returns g c =
     let sh = c.args.cells.now.layout.shape in
     let layout = c.checked-checked.ensures.layout in
     let e = ap (λ (l : Layout). l.shape) layout in
-    let of = ap (λ (o : Opening). o.layout) (c.loop-seat.invariant.way.of ∙ c.requires.of) ∙ (layout ∙ ap (layout_of V) (sym e)) in
+    let of = ap (λ (o : Opening). o.layout) (c.loop-seat.invariant.way.of ∙ c.requires.of) ∙ (layout ∙ ap (layout_with V (policy_of c.checked-checked.result.now)) (sym e)) in
     let looked = ends V sh c.args.key c.args.seat.now c.loop-seat.seat c.loop-seat.lookup c.in-Some.reply of c.known.ensures.recorded (sym c.reply.ensures.reply ∙ c.in-Some.is) c.loop-seat.invariant.way in
     let true' = tells_true V sh c.args.key c.args.seat.now c.loop-seat.seat c.in-Some.reply (subst IsShape (sym e) c.checked-checked.result.now.sound) (omega arith) of c.known.ensures.lawful looked in
     record { looked = looked; truth = true'.0; between = true'.1 }

@@ -30,7 +30,7 @@ returns-in-Some-clause-decided g c s old same =
     let stands = subst (λ (x : List ℕ). Stands V (shape_of b.checked) x c.args.key (slot_number p) c.in-Some.item) (ap g.P.Peek.words c.moment-at.ensures.kept ∙ same) c.in-Some.ensures.found in
     let not_spent = unspent g (goal.at.returns-in-Some-clause-decided g c).Else-is_spent s old in
     let at = moment_in V b s (g.P.Peek.words c.args.peek.now) old same (c.moment-at.result + 1) (ap (λ (n : ℕ). n + 1) c.moment-at.ensures.value) in
-    removal_planned V b c.args.key c.in-Some.item (c.moment-at.result + 1) p c.give.new.self s b.checked.sound (omega arith) old c.in-Some.ensures.place.in_bucket stands not_spent (omega (arith, not_spent)) at c.give.ensures.kept c.give.ensures.items c.give.ensures.gives
+    removal_planned V b c.args.key c.in-Some.item (c.moment-at.result + 1) p c.give.new.self s b.checked.sound (omega arith) old c.in-Some.ensures.place.in_bucket stands not_spent (omega (arith, not_spent)) at c.give.ensures.kept c.give.ensures.policy c.give.ensures.items c.give.ensures.gives
 
 pub returns-in-None-clause-decided : goal.returns-in-None-clause-decided
 returns-in-None-clause-decided g c s old same =

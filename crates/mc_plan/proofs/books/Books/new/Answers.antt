@@ -9,4 +9,4 @@ pub returns-clause-books : goal.returns-clause-books
 returns-clause-books c V width =
     let b : Books = record { checked = c.args.checked.now; far = c.in-Ok.far; free = c.in_ok-free.free; hand = 0; version_steps = 0 } in
     let same : c.shape.result.items ≡ c.args.checked.now.shape.items = ap (λ (x : Shape). x.items) c.shape.ensures in
-    new_books V b width (ap (λ (f : Far). f.finder) c.in-Ok.ensures.ok ∙ c.in_ok-far.ensures.finder) refl refl c.in_ok-free.ensures.kept (c.in_ok-free.ensures.items ∙ same) (λ i l. c.in_ok-free.ensures.all i (omega (arith, same)))
+    new_books V b width (ap (λ (f : Far). f.finder) c.in-Ok.ensures.ok ∙ c.in_ok-far.ensures.finder) refl refl c.in_ok-free.ensures.kept (c.in_ok-free.ensures.policy ∙ c.policy.ensures) (c.in_ok-free.ensures.items ∙ same) (λ i l. c.in_ok-free.ensures.all i (omega (arith, same)))

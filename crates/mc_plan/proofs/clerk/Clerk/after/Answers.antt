@@ -60,7 +60,7 @@ returns-else-is_none-clause-on g c call s acts a on next words =
     let at = goal.at.returns-else-is_none-clause-on g c in
     let r = read g at.After-after call s acts a on next in
     let more = subst (λ (o : Option ℕ). IsSome o) c.next.ensures.value (c.is_none.ensures ∙ ap not c.if-is_none.false) in
-    record { begun = on.begun; now = (r.readings, r.sweeping, more, r.none, r.are, r.empty) }
+    record { begun = on.begun; clock = on.clock; now = (r.readings, r.sweeping, more, r.none, r.are, r.empty) }
 
 pub returns-else-is_none-clause-left : goal.returns-else-is_none-clause-left
 unfolding acts_left
@@ -79,7 +79,7 @@ returns-in-Planned-clause-on g c call s acts a on next words =
     let told = c.in-Planned.field-0 in
     let makes = at_stage V clerk call s acts told on c.in-Planned.is in
     let more = plan_next V clerk.books clerk.plan.items clerk.made call s acts told makes a c.args.word (planned_next g (goal.at.returns-in-Planned-clause-on g c).In-Planned a next) in
-    record { begun = on.begun; now = subst (λ (st : Stage V). IsAtStage V st clerk.books clerk.plan.items (clerk.made + 1) call s (acts ++ record { act = a; bit = c.args.word } ∷ [])) (sym c.in-Planned.is) more }
+    record { begun = on.begun; clock = on.clock; now = subst (λ (st : Stage V). IsAtStage V st clerk.books clerk.plan.items (clerk.made + 1) call s (acts ++ record { act = a; bit = c.args.word } ∷ [])) (sym c.in-Planned.is) more }
 
 pub returns-in-Planned-clause-left : goal.returns-in-Planned-clause-left
 unfolding acts_left

@@ -1,6 +1,7 @@
-use Rattle.std.proofs.Common.{◌≡◌, ◌+◌, ap, arith, refl, subst, sym}
+use Rattle.std.proofs.Common.{◌≡◌, ◌+◌, ◌∙◌, ap, arith, refl, subst, sym}
+use Rattle.mc_words.specs.declared.policy.Policy.TheVariants.{Clock}
 use Rattle.mc_words.specs.declared.shape.Shape.{Shape}
-use Rattle.mc_words.specs.Checks.{shape_of}
+use Rattle.mc_words.specs.Checks.{policy_of, shape_of}
 use Rattle.mc_plan.specs.WholeCalls.{PutCall}
 use Rattle.mc_plan.specs.Clerks.{acts_left, left_in}
 use Rattle.mc_plan.specs.Inside.Clerks.{IsStarted}
@@ -24,10 +25,11 @@ returns-clause-on g c s knows same =
     let clerk : Clerk V = record { books = b; stage = c.match-start_put.self; plan = plan; made = 0 } in
     let started = c.start_put.ensures.started s knows.books same in
     let quiet = subst (λ (sh : Shape). IsQuiet V sh s) (ap shape_of (sym c.start_put.ensures.shape)) knows.books.quiet in
+    let clock : policy_of b.checked ≡ Clock = ap policy_of c.start_put.ensures.shape ∙ knows.clock in
     elim c.match-start_put.branch [
       | in-Planned w ↦
           let planned = subst (λ (r : Start). IsStarted V b plan.items k v s r) w.in-Planned.is started in
-          begins V clerk (PutCall k v) s (answer.Put w.in-Planned.answer) w.self-is refl c.start_put.ensures.fits quiet planned.0 planned.1
+          begins V clerk (PutCall k v) s (answer.Put w.in-Planned.answer) w.self-is refl c.start_put.ensures.fits quiet clock planned.0 planned.1
       | in-Waits w ↦
           let waits = subst (λ (r : Start). IsStarted V b plan.items k v s r) w.in-Waits.is started in
           begins_sweep V clerk (PutCall k v) s w.new.result w.self-is refl waits.0 (w.new.ensures.sweeping s waits.1)

@@ -1,5 +1,5 @@
 use Rattle.std.proofs.Common.{[], Err, Ok, arith, refl, subst}
-use Rattle.mc_words.specs.Checks.{shape_of}
+use Rattle.mc_words.specs.Checks.{policy_of, shape_of}
 use Rattle.mc_plan.specs.Books.{HasRoom}
 use Rattle.mc_plan.specs.WholeCalls.{IsSweepOf, PutCall}
 use Rattle.mc_plan.specs.declared.answer.Answer.TheVariants as answer
@@ -43,5 +43,5 @@ returns-in-Some-store_in-clause-old g c =
     let pen = c.args.self.now in
     let s = state_at V pen in
     let lacks = c.requires.lacks in
-    let unswept = subst (λ (x : Pen V). IsSweepOf V x.cells.now.layout.shape (state_at V x) [] (answer.Put (Ok c.in-Some-store_in.put))) c.room.ensures.kept c.in-Some-store_in.ensures.unswept in
-    unswept_old V pen.cells.now.layout.shape s c.args.key c.in-Some-store_in.put unswept (absent_held V (shape_of c.args.books.now.checked) s c.args.key lacks.known.quiet lacks.absent)
+    let unswept = subst (λ (x : Pen V). IsSweepOf V x.cells.now.layout.shape (policy_of c.room.new.self.checked) (state_at V x) [] (answer.Put (Ok c.in-Some-store_in.put))) c.room.ensures.kept c.in-Some-store_in.ensures.unswept in
+    unswept_old V pen.cells.now.layout.shape (policy_of c.room.new.self.checked) s c.args.key c.in-Some-store_in.put unswept (absent_held V (shape_of c.args.books.now.checked) s c.args.key lacks.known.quiet lacks.absent)

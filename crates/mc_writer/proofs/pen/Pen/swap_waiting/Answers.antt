@@ -1,4 +1,5 @@
 use Rattle.std.proofs.Common.{◌∙◌, ◌++◌, None, Some, ap, arith, refl, subst, sym}
+use Rattle.mc_words.specs.Checks.{policy_of}
 use Rattle.mc_words.specs.KeyParts.{HasParts}
 use Rattle.mc_words.specs.Shapes.{IsShape}
 use Rattle.mc_words.specs.Standing.{Agrees}
@@ -31,7 +32,7 @@ entry_in-old-requires g c =
     let is = c.in-Ok.ensures.chosen in
     let due = chosen_due V b c.args.key c.args.value.now p q c.in-Ok.taken is in
     let sound = subst IsShape (shape_read V p q b b is.readings is.layout refl is.read) b.checked.sound in
-    let stands = evicted_stands V q.cells.now.layout.shape (state_at V q) c.in-Ok.taken.victim.key c.in-Ok.taken.victim.place (storing_acts b.far.value.moves.items q.cells.now.layout.shape c.args.key c.args.value.now c.in-Ok.taken.storing ++ due.later) sound due.due.allowed in
+    let stands = evicted_stands V q.cells.now.layout.shape (state_at V q) c.in-Ok.taken.victim.key c.in-Ok.taken.victim.place (storing_acts (policy_of b.checked) b.far.value.moves.items q.cells.now.layout.shape c.args.key c.args.value.now c.in-Ok.taken.storing ++ due.later) sound due.due.allowed in
     let width = c.requires.waits.known.width in
     (omega arith, (omega (arith, width.most), (width, (((state_at V p).history, agrees g (goal.at.entry_in-old-requires g c).In-Ok), stands))))
 

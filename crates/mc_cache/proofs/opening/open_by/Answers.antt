@@ -1,7 +1,7 @@
 use Rattle.std.proofs.Common.{ap}
 use Rattle.mc_shared.specs.Records.{WriterRecord}
 use Rattle.mc_cache.proofs.PlainCalls.{history_new, new_sees_none}
-use Rattle.mc_cache.proofs.opening.open.Goals as goal
+use Rattle.mc_cache.proofs.opening.open_by.Goals as goal
 
 pub returns-in-Ok-open_checked-clause-plain : goal.returns-in-Ok-open_checked-clause-plain
 returns-in-Ok-open_checked-clause-plain g c =

@@ -1,0 +1,52 @@
+-- A put for which a choice looks for an item.
+use Rattle.std.proofs.Common.{ℕ, ◌≡◌, ◌∙◌, List, [], Option, Some, None, ap, refl, sym, subst}
+use Rattle.mc_words.specs.Checks.{policy_of, shape_of}
+use Rattle.mc_words.specs.declared.policy.Policy.{Policy}
+use Rattle.mc_words.specs.declared.policy.Policy.TheVariants.{ScanResistant}
+use Rattle.mc_theory.specs.States.{State}
+use Rattle.mc_search.specs.Items.{IsConsistent, IsPicking, IsTied, policy_by, policy_in}
+use Rattle.mc_search.specs.Picks.{HasPicked}
+use Rattle.mc_search.specs.Sweeps.{Swept, IsSearch, IsSearchBy, victim_of}
+use Rattle.mc_search.specs.declared.choice.Choice.{Choice}
+use Rattle.mc_search.specs.declared.free.FreeList.{FreeList}
+use Rattle.mc_search.specs.declared.items.FreeItems.{FreeItems}
+use Rattle.mc_search.specs.declared.pick.Pick.{Pick}
+use Rattle.mc_search.specs.declared.room.Room.{Room}
+use Rattle.mc_plan.specs.Books.{IsPickingFor}
+use Rattle.mc_plan.specs.Inside.Clerks.{IsReplacing}
+use Rattle.mc_plan.specs.WholeCalls.{PutCall}
+use Rattle.mc_plan.specs.declared.books.Books.{Books}
+
+-- items that are not CLOCK's have a choice
+choice_by : (f : FreeList) (o : Option Choice) → IsTied f o → policy_by o ≡ ScanResistant → (c : Choice) × (o ≡ Some c) × (c.items ≡ f.items)
+choice_by f None tied is = absurd (cc is)
+choice_by f (Some c) tied is = (c, refl, tied.items)
+
+-- so a search of theirs begins
+pub picks_now : (f : FreeItems) (p : Pick) → IsConsistent f → policy_in f ≡ ScanResistant → ((c : Choice) → c.items ≡ f.list.items → HasPicked c p []) → IsPicking f p []
+picks_now f p kept is starts =
+    let there = choice_by f.list f.choice kept.tied is in
+    (there.0, there.1, starts there.0 there.2)
+
+-- the books of a table with a choice are of its policy
+pub picked_by : (V : ℕ) (b : Books) (pick : Pick) (k : ℕ) (v : List ℕ) (room : Room) (s : State V) (rs : List Swept) → IsPickingFor V b pick k v room s rs → policy_of b.checked ≡ ScanResistant
+picked_by V b pick k v room s rs on = sym on.waits.known.policy ∙ ap policy_by on.picking.1
+
+pub searched_picked : (V : ℕ) (b : Books) (pick : Pick) (k : ℕ) (v : List ℕ) (room : Room) (s : State V) (rs : List Swept) → IsPickingFor V b pick k v room s rs → IsSearch b.free.list.items rs → IsSearchBy (policy_of b.checked) (shape_of b.checked).items s.hand rs
+searched_picked V b pick k v room s rs on searches =
+    subst (λ (p : Policy). IsSearchBy p (shape_of b.checked).items s.hand rs) (sym (picked_by V b pick k v room s rs on)) (subst (λ (n : ℕ). IsSearch n rs) on.waits.known.items searches)
+
+-- it has found an item for its put
+pub replacing_picked : (V : ℕ) (b : Books) (pick : Pick) (k : ℕ) (v : List ℕ) (room : Room) (s : State V) (rs : List Swept) (i : ℕ) → IsPickingFor V b pick k v room s rs → IsSearch b.free.list.items rs → victim_of rs ≡ Some i
+    → IsReplacing V b k v room (PutCall k v) s rs i
+replacing_picked V b pick k v room s rs i on searches found =
+    let policy = picked_by V b pick k v room s rs on in
+    record {
+      before = b.hand;
+      waits = on.waits;
+      called = refl;
+      searched = searched_picked V b pick k v room s rs on searches;
+      found = found;
+      hand = λ clock. absurd (cc (sym clock ∙ policy));
+      inside = on.waits.known.inside;
+    }

@@ -1,0 +1,17 @@
+use Rattle.std.proofs.Common.{ℕ, ◌≡◌, [], List}
+use Rattle.mc_search.specs.Sweeps.{Swept}
+use Rattle.mc_search.specs.declared.room.Room.{Room}
+use Rattle.mc_plan.specs.Books.{IsPickingFor}
+use Rattle.mc_writer.specs.Inside.Pens.{IsSamePen, state_at}
+use Rattle.mc_writer.specs.Inside.Turns.{HasPicked}
+use Rattle.mc_writer.proofs.pen.Pen.read_round.Given as goal
+
+abbrev pub invariant-loop-i : goal.invariant-loop-i
+invariant-loop-i g l = record {
+  same : IsSamePen g.row.V l.fn.self l.self;
+  shape : l.books.checked ≡ l.fn.books.checked;
+  picked : (k : ℕ) (v : List ℕ) (room : Room) → IsPickingFor g.row.V l.fn.books l.fn.pick k v room (state_at g.row.V l.fn.self) [] → (rs : List Swept) × HasPicked g.row.V l.books l.pick k v room l.fn.self l.self rs;
+}
+
+abbrev pub decreases-loop-i : goal.decreases-loop-i
+decreases-loop-i g l = l.pick.left

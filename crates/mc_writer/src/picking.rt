@@ -1,0 +1,51 @@
+//! The writer's readings for a put that chooses among new keys and those that were used again.
+ghost use Rattle.std.specs.Prelude.{ℕ, ◌≡◌, ◌+◌, ◌*◌, ◌^◌, ◌<◌, ◌++◌, [], ◌∷◌, List, None, length};
+ghost use Rattle.mc_words.specs.Checks.{shape_of};
+ghost use Rattle.mc_words.specs.Places.{word_count};
+ghost use Rattle.mc_search.specs.Items.{IsUsedIn};
+ghost use Rattle.mc_search.specs.Sweeps.{Swept, IsOver, victim_of};
+ghost use Rattle.mc_plan.specs.Books.{IsPickingFor};
+
+use crate::pen::Pen;
+use mc_plan::{Books, Room};
+use mc_search::Pick;
+use mc_shared::turn_hand_unless_clear;
+
+impl<'a, const V: usize> Pen<'a, V> {
+    ghost use Rattle.mc_writer.specs.Inside.Pens.{IsSamePen, state_at};
+    ghost use Rattle.mc_writer.specs.Inside.Turns.{HasPicked};
+    ghost use Rattle.mc_writer.specs.declared.pen.Pen.{Pen};
+    ghost use Rattle.mc_search.specs.declared.room.Room.{Room};
+
+    // Reads and clears the bit of an item in use. The recency words begin at this place.
+    fn read_used(&mut self, start: usize, books: &mut Books, pick: &mut Pick, i: u32)
+        requires start { (start ≡ word_count V self.old.cells.now.layout.shape) × (start < 2 ^ 40) }
+        requires in_use { IsUsedIn books.old.free i }
+        requires picked { (k : ℕ) × (v : List ℕ) × (room : Room) × (before : Pen V) × (rs : List Swept) ×
+            HasPicked V books.old pick.old k v room before self.old rs × (victim_of rs ≡ None) × (length rs < 2 * books.old.free.list.items) }
+        ensures same { IsSamePen V self.old self.new }
+        ensures shape { books.new.checked ≡ books.old.checked }
+        ensures picked { (k : ℕ) (v : List ℕ) (room : Room) (before : Pen V) (rs : List Swept) →
+            HasPicked V books.old pick.old k v room before self.old rs → victim_of rs ≡ None →
+            (bit : ℕ) × HasPicked V books.new pick.new k v room before self.new (rs ++ record { item = i; bit = bit } ∷ []) }
+        ensures left { pick.new.left < pick.old.left }
+    {
+        let bit = turn_hand_unless_clear(self.cells, self.seat, start, i);
+        books.after_read(pick, i, bit);
+    }
+
+    /// Reads bits until the search of a put that waits is over.
+    #[inline(always)]
+    pub(crate) fn read_round(&mut self, books: &mut Books, pick: &mut Pick)
+        requires picking { (k : ℕ) × (v : List ℕ) × (room : Room) × IsPickingFor V books.old pick.old k v room (state_at V self.old) [] }
+        requires shape { shape_of books.old.checked ≡ self.old.cells.now.layout.shape }
+        ensures shape { books.new.checked ≡ books.old.checked }
+        ensures picked { (k : ℕ) (v : List ℕ) (room : Room) → IsPickingFor V books.old pick.old k v room (state_at V self.old) [] →
+            (rs : List Swept) × HasPicked V books.new pick.new k v room self.old self.new rs × IsOver (shape_of books.new.checked).items rs }
+    {
+        let start = self.cells.recency_start();
+        while let Some(i) = books.next_read(pick) {
+            self.read_used(start, books, pick, i);
+        }
+    }
+}
