@@ -16,14 +16,14 @@ ghost use Rattle.cefrodil.specs.Open.{{kept}};
 
 use crate::raw_handle::{{RawHandle, told_of_handle}};
 use mc_door::status::WIDTH;
-use mc_door::{{AnySide, RawReply, {uses}refused}};
+use mc_door::{{AnySide, Outcome, RawReply{uses}}};
 
 // {does} by a handle whose values have this width, and refuses any other. So a program that uses one width needs no code of the others.
 macro_rules! {name}_at {{
     ($width:ident, $handle:ident, $key:ident, $value:ident, $reply:ident) => {{
         told_of_handle!($handle, $reply, held => match held {{
             AnySide::$width(side) => side.{name}($key, $value.{slice}(), $reply),
-            _ => refused(WIDTH, $reply),
+            _ => Outcome::plain(WIDTH).tell($reply),
         }})
     }};
 }}
@@ -46,7 +46,7 @@ def by_width(call):
     taken = f'{call.value.name}: &{"mut " if looks else ""}[u64]'
     if taken not in contract:
         raise Wrong(f'{SOURCES}: {export} has no {taken}')
-    gives, uses = re.search(r'\w+Gives', contract)[0], 'Write, ' if 'Write.' in contract else ''
+    gives, uses = re.search(r'\w+Gives', contract)[0], ', Write' if 'Write.' in contract else ''
     text = HEAD.replace('{{{{{gives}}}}}', '{{{gives}}}').format(
         export=export, gives=gives, uses=uses, does='Looks up' if looks else 'Puts', name=call.name, slice='as_mut_slice' if looks else 'as_slice')
     passed = ', '.join(parameter.name for parameter in call.parameters)

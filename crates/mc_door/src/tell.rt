@@ -13,7 +13,7 @@ use mc_cache::{
 /// A status alone.
 #[cold]
 #[inline(never)]
-pub fn refused(status: u32, reply: &mut RawReply) -> u32
+pub(crate) fn refused(status: u32, reply: &mut RawReply) -> u32
     ensures { record { status = result; reply = reply.new } ≡ plain status }
 {
     Outcome::plain(status).tell(reply)
