@@ -15,14 +15,15 @@ ghost use Rattle.cefrodil.specs.Calls.{{{{{gives}}}}};
 ghost use Rattle.cefrodil.specs.Open.{{kept}};
 
 use crate::raw_handle::{{RawHandle, told_of_handle}};
-use mc_door::{{AnySide, RawReply{uses}}};
+use mc_door::status::WIDTH;
+use mc_door::{{AnySide, Outcome, RawReply{uses}}};
 
-// {does} by a handle whose values have this width. Any other handle is passed to `{export}`, which refuses it.
+// {does} by a handle whose values have this width, and refuses any other. So a program that uses one width needs no code of the others.
 macro_rules! {name}_at {{
     ($width:ident, $handle:ident, $key:ident, $value:ident, $reply:ident) => {{
         told_of_handle!($handle, $reply, held => match held {{
             AnySide::$width(side) => side.{name}($key, $value.{slice}(), $reply),
-            held => held.{name}($key, $value.{slice}(), $reply),
+            _ => Outcome::plain(WIDTH).tell($reply),
         }})
     }};
 }}

@@ -4,14 +4,15 @@ ghost use Rattle.cefrodil.specs.Calls.{GetGives};
 ghost use Rattle.cefrodil.specs.Open.{kept};
 
 use crate::raw_handle::{RawHandle, told_of_handle};
-use mc_door::{AnySide, RawReply};
+use mc_door::status::WIDTH;
+use mc_door::{AnySide, Outcome, RawReply};
 
-// Looks up by a handle whose values have this width. Any other handle is passed to `cefrodil_get`, which refuses it.
+// Looks up by a handle whose values have this width, and refuses any other. So a program that uses one width needs no code of the others.
 macro_rules! get_at {
     ($width:ident, $handle:ident, $key:ident, $value:ident, $reply:ident) => {
         told_of_handle!($handle, $reply, held => match held {
             AnySide::$width(side) => side.get($key, $value.as_mut_slice(), $reply),
-            held => held.get($key, $value.as_mut_slice(), $reply),
+            _ => Outcome::plain(WIDTH).tell($reply),
         })
     };
 }
