@@ -49,6 +49,8 @@ mod opened;
 #[cfg(test)]
 mod openings;
 #[cfg(test)]
+mod policies;
+#[cfg(test)]
 mod put_read_back;
 #[cfg(test)]
 mod refused;

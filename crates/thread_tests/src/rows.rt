@@ -2,8 +2,8 @@
 ghost use Rattle.std.specs.Prelude.{◌≡◌};
 
 use crate::calls::{Call, Told, make};
-use crate::opened::open_for_one;
-use mc_cache::{AbsentError, Cache, IfError, Mix, PutError, Reader, Shape, Writer, open};
+use crate::opened::open_for_one_by;
+use mc_cache::{AbsentError, Cache, IfError, Mix, Policy, PutError, Reader, Shape, Writer, open};
 use std::alloc::Global;
 use std::test::Fail;
 
@@ -45,9 +45,19 @@ fn check_rows_of(
     Ok(())
 }
 
-/// Makes the calls in turn, in a new cache with one reader. Each has to answer what is due.
+/// Makes the calls in turn, in a new cache with one reader, with CLOCK. Each has to answer what is due.
 pub fn check_rows(alloc: Global, shape: Shape, rows: &[(Call, Told)]) -> Result<(), Fail> {
-    let (cache, mut writer, mut reader) = open_for_one(alloc, shape)?;
+    check_rows_by(alloc, Policy::Clock, shape, rows)
+}
+
+/// The same in a cache of this policy.
+pub fn check_rows_by(
+    alloc: Global,
+    policy: Policy,
+    shape: Shape,
+    rows: &[(Call, Told)],
+) -> Result<(), Fail> {
+    let (cache, mut writer, mut reader) = open_for_one_by(alloc, policy, shape)?;
     check_rows_of(&cache, &mut writer, &mut reader, rows)
 }
 
