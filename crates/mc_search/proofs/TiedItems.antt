@@ -7,7 +7,7 @@ use Rattle.mc_search.specs.Free.{IsFreeList, IsInList, TakesListed, GivesListed}
 use Rattle.mc_search.specs.Sweeps.{Swept, IsSearch, victim_of}
 use Rattle.mc_search.specs.declared.items.FreeItems.{FreeItems}
 use Rattle.mc_search.specs.declared.pick.Pick.{Pick}
-use Rattle.mc_search.specs.Items.{IsConsistent, IsPicking, IsUsedIn, Follows, IsTied, policy_by}
+use Rattle.mc_search.specs.Items.{IsConsistent, IsPicking, IsUsedIn, Follows, IsTied}
 use Rattle.mc_search.specs.Inside.Items.{IsTakenIn, IsTakenOut}
 use Rattle.mc_search.specs.declared.choice.Choice.{Choice}
 use Rattle.mc_search.specs.declared.free.FreeList.{FreeList}

@@ -2,7 +2,7 @@
 use Rattle.std.proofs.Common.{ℕ, suc, ◌≡◌, ◌+◌, ◌%◌, ◌<◌, ◌∙◌, inr, List, [], ◌∷◌, ◌++◌, Option, Some, None, Err, ap, refl, sym, subst, drop, length, length-drop, append_assoc, append-nil, arith}
 use Rattle.std.specs.Prelude.{IsSome, slice_get}
 use Rattle.std.proofs.lemmas.List.{map-append, length-map, take-append-drop}
-use Rattle.mc_words.specs.Checks.{policy_of, shape_of}
+use Rattle.mc_words.specs.Checks.{policy_of}
 use Rattle.mc_words.specs.declared.policy.Policy.TheVariants.{Clock}
 use Rattle.mc_words.specs.declared.policy.Policy.{Policy}
 use Rattle.mc_theory.specs.Lists.{Made}

@@ -20,7 +20,6 @@ use Rattle.mc_plan.specs.declared.clerk.Stage.TheVariants.{Sweeping}
 use Rattle.mc_plan.specs.declared.decision.Victim.{Victim}
 use Rattle.mc_plan.specs.declared.waiting.Start.{Start}
 use Rattle.mc_plan.specs.declared.waiting.Start.TheVariants as start
-use Rattle.mc_plan.specs.declared.waiting.Waiting.{Waiting}
 use Rattle.mc_plan.specs.Making.{IsQuiet}
 use Rattle.mc_search.specs.declared.room.Room.{Room}
 use Rattle.mc_search.specs.Sweeps.{Swept, IsOver, IsSearchBy, victim_of}

@@ -1,4 +1,4 @@
-use Rattle.std.proofs.Common.{◌≡◌, List, [], Some, Ok, Err, Result, ap, sym, subst, rules}
+use Rattle.std.proofs.Common.{◌≡◌, List, [], Some, Ok, Err, Result, sym, subst, rules}
 use Rattle.mc_words.specs.Checks.{policy_of, shape_of}
 use Rattle.mc_words.specs.declared.checked.Checked.{Checked}
 use Rattle.mc_theory.specs.declared.act.Act.{Act}

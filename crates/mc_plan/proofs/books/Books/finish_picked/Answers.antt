@@ -1,5 +1,4 @@
-use Rattle.std.proofs.Common.{ℕ, List, ◌≡◌, ◌∙◌, Some, None, refl, sym}
-use Rattle.mc_words.specs.Checks.{shape_of}
+use Rattle.std.proofs.Common.{◌≡◌, ◌∙◌, None, refl, sym}
 use Rattle.mc_search.specs.Sweeps.{victim_of}
 use Rattle.mc_plan.specs.WholeCalls.{PutCall}
 use Rattle.mc_plan.proofs.Calls.AfterSweep.{recent_planned}

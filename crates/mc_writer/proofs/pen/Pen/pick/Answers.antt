@@ -1,7 +1,6 @@
 use Rattle.std.proofs.Common.{List, ◌∙◌}
 use Rattle.mc_words.specs.Checks.{shape_of}
 use Rattle.mc_search.specs.Sweeps.{Swept, IsOver}
-use Rattle.mc_plan.specs.Books.{IsPickingFor}
 use Rattle.mc_plan.specs.Deciding.{IsFinished}
 use Rattle.mc_plan.specs.WholeCalls.{PutCall}
 use Rattle.mc_writer.specs.Inside.Pens.{state_at}

@@ -1,4 +1,4 @@
-use Rattle.std.proofs.Common.{rules, arith, ℕ, ◌≡◌, ◌∙◌, [], inl, inr, refl, subst, sym}
+use Rattle.std.proofs.Common.{arith, ℕ, ◌≡◌, ◌∙◌, [], inl, inr, refl, subst, sym}
 use Rattle.mc_words.specs.Places.{word_count}
 use Rattle.mc_search.specs.Sweeps.{IsOver}
 use Rattle.mc_words.specs.declared.shape.Shape.{Shape}
