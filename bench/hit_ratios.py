@@ -1,9 +1,8 @@
 #!/usr/bin/env python3
 """How many lookups find their key, in the cache and in exact models of LRU, FIFO and random replacement.
 
-Drawn keys are looked up, and each that is absent is put. Of 100,000 keys, number n is drawn in proportion to 1 / n ** skew (Zipf). The
-table has items for 1 % or for 10 % of them. With scans, after every ten lookups an item there come as many fresh keys as there are
-items, which are never asked for again. Hits are counted among the lookups of drawn keys, the first tenth of them left out.
+The lookups are those of `plain` and `scans` of bench/traces.py, a million of drawn keys. A key that is absent is put. The table has items for 1 %
+or for 10 % of the keys. The first tenth of the lookups is left out, and so are those of keys that scans bring.
 
 mcstep plays all calls. A model of its hand says which of them are puts, and every answer of mcstep is compared with it.
 
@@ -16,29 +15,15 @@ import os
 import random
 import subprocess
 import sys
-from collections import OrderedDict, deque
+from collections import deque
 
 import plots
+import traces
+from policies import Clock, Lru
+from servers import TOP
 
-KEYS = 100_000
 SIZES = (500, 1000, 2000, 5000, 10_000, 20_000, 50_000)
 LOOKUPS = 1_000_000
-TOP = os.path.join(os.path.dirname(os.path.abspath(__file__)), '..')
-
-
-class Lru:
-    def __init__(self, items):
-        self.items, self.kept = items, OrderedDict()
-
-    def look_up(self, key):
-        found = key in self.kept
-        if found:
-            self.kept.move_to_end(key)
-        else:
-            if len(self.kept) == self.items:
-                self.kept.popitem(last=False)
-            self.kept[key] = True
-        return found
 
 
 class Fifo:
@@ -72,43 +57,24 @@ class Random:
         return found
 
 
-class Cache:
-    """The cache's hand. It writes the script that mcstep is to play, and the answers that are due."""
+class Cache(Clock):
+    """CLOCK that writes the script that mcstep is to play, and the answers that are due."""
 
     def __init__(self, items):
-        self.items, self.at, self.holds, self.marks = items, {}, [], []
-        self.hand = self.moment = 0
-        self.script, self.answers = [], []
+        super().__init__(items)
+        self.moment, self.script, self.answers = 0, [], []
 
     def look_up(self, key):
         self.script.append(f'get {key}')
-        if key in self.at:
-            self.marks[self.at[key]] = True
-            self.answers.append(f'found 1 at {self.moment}')
-            return True
-        self.answers.append(f'absent at {self.moment}')
-        self.script.append(f'put {key} 1')
-        self.put(key)
-        return False
+        self.answers.append(f'{"found 1" if key in self else "absent"} at {self.moment}')
+        return super().look_up(key)
 
     def put(self, key):
-        gone = ''
-        if len(self.holds) < self.items:
-            at = len(self.holds)
-            self.holds.append(key)
-            self.marks.append(True)
-        else:
-            while self.marks[self.hand]:
-                self.marks[self.hand] = False
-                self.hand = (self.hand + 1) % self.items
-            at, self.hand = self.hand, (self.hand + 1) % self.items
-            gone = f' evicted {self.holds[at]}'
-            del self.at[self.holds[at]]
-            self.holds[at], self.marks[at] = key, True
-            self.moment += 1
-        self.moment += 1
-        self.at[key] = at
-        self.answers.append(f'stored at {self.moment}{gone}')
+        evicted = super().put(key)
+        self.moment += 1 if evicted is None else 2
+        self.script.append(f'put {key} 1')
+        self.answers.append(f'stored at {self.moment}' + (f' evicted {evicted}' if evicted is not None else ''))
+        return evicted
 
     def check(self, program):
         """Fails unless mcstep answers so. What it says of moves is left out."""
@@ -121,31 +87,11 @@ class Cache:
             sys.exit('hit_ratios.py: mcstep does not answer as the model of its hand does')
 
 
-def requests(skew, items, scans):
-    """The keys that are looked up, each with whether it was drawn."""
-    weights = list(itertools.accumulate(1 / n ** skew for n in range(1, KEYS + 1)))
-    fresh = itertools.count(KEYS)
-    for number, key in enumerate(random.Random(1).choices(range(KEYS), cum_weights=weights, k=LOOKUPS)):
-        yield key, True
-        if scans and number % (10 * items) == 10 * items - 1:
-            for _ in range(items):
-                yield next(fresh), False
-
-
-def ratio(model, skew, items, scans):
-    hits = lookups = 0
-    for key, drawn in requests(skew, items, scans):
-        found = model.look_up(key)
-        if drawn:
-            lookups += 1
-            hits += found and lookups > LOOKUPS // 10
-    return hits / (LOOKUPS - LOOKUPS // 10)
-
-
-def ratios(program, skew, items, scans):
+def ratios(program, make, skew, items):
     """The hits of each kind of replacement, of which those of the cache are compared with mcstep."""
     models = {'Cefrodil': Cache(items), 'LRU': Lru(items), 'FIFO': Fifo(items), 'random': Random(items)}
-    found = {name: ratio(model, skew, items, scans) for name, model in models.items()}
+    keys = list(make(skew, items, LOOKUPS))
+    found = {name: traces.of_model(model, keys) for name, model in models.items()}
     models['Cefrodil'].check(program)
     return found
 
@@ -153,9 +99,9 @@ def ratios(program, skew, items, scans):
 def draw(program):
     lines = {}
     for items in SIZES:
-        for name, found in ratios(program, 0.99, items, False).items():
-            lines.setdefault(name, []).append((items, 100 * found))
-    plot = plots.Plot('hits', f'Lookups that find their key, of {KEYS:,} keys (Zipf, 0.99)', 'items', '% of lookups', '', is_wide=True)
+        for name, found in ratios(program, traces.plain, 0.99, items).items():
+            lines.setdefault(name, []).append((items, found))
+    plot = plots.Plot('hits', f'Lookups that find their key, of {traces.KEYS:,} keys (Zipf, 0.99)', 'items', '% of lookups', '', is_wide=True)
     with open(os.path.join(TOP, 'docs/plots/hits.svg'), 'w', encoding='utf-8') as file:
         file.write(plots.draw(plot, lines))
 
@@ -168,9 +114,9 @@ def main(arguments):
         sys.exit(f'hit_ratios.py: there is no program {program}; to build it: (cd crates/mcstep && rt run < stdin)')
     print('|skew|items|scans|Cefrodil|LRU|FIFO|random|')
     print('|---|---|---|---|---|---|---|')
-    for skew, items, scans in itertools.product((0.7, 0.99), (KEYS // 100, KEYS // 10), (False, True)):
-        cells = '|'.join(f'{100 * each:.1f}' for each in ratios(program, skew, items, scans).values())
-        print(f'|{skew}|{items}|{"yes" if scans else "no"}|{cells}|', flush=True)
+    for skew, items, make in itertools.product(traces.SKEWS, traces.SIZES, (traces.plain, traces.scans)):
+        cells = '|'.join(f'{each:.1f}' for each in ratios(program, make, skew, items).values())
+        print(f'|{skew}|{items}|{"yes" if make is traces.scans else "no"}|{cells}|', flush=True)
     draw(program)
 
 

@@ -205,6 +205,10 @@ impl Connection {
     fn answer(&mut self, store: &Store) {
         let (done, turn) = self.dialogue.turn(store, self.input.waiting(), &mut self.output);
         self.input.consume(done);
+        if done > 0 {
+            // What it holds from now on is something else.
+            self.seat.leave();
+        }
         match turn {
             Turn::Needs(bytes) => self.needs = bytes,
             Turn::HasMore => self.needs = 0,

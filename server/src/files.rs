@@ -1,4 +1,4 @@
-//! Limits of the process: how many files it may have open at a time, and how large its core files may be.
+//! Limits of the process: how many files it may have open at a time, how many addresses it has, and how large its core files may be.
 use std::io;
 use std::mem::MaybeUninit;
 
@@ -21,6 +21,16 @@ pub fn make_room(connections: usize, workers: usize) -> Result<(), String> {
     }
     limit.rlim_cur = needed;
     set_limit(libc::RLIMIT_NOFILE, limit).map_err(|why| format!("the limit of open files can't be raised to {needed}: {why}"))
+}
+
+/// An error if the system allows the process fewer bytes of addresses than so many. It says what to do.
+pub fn check_addresses(needed: usize) -> Result<(), String> {
+    let most = limit(libc::RLIMIT_AS).map_err(|why| format!("the limit of addresses can't be read: {why}"))?.rlim_cur;
+    if most >= needed as libc::rlim_t {
+        return Ok(());
+    }
+    let [needed, most] = [needed as libc::rlim_t, most].map(|bytes| bytes / 1024);
+    Err(format!("the server needs {needed} KB of addresses, and {most} are allowed: choose a smaller -m, or raise `ulimit -v`"))
 }
 
 /// Lets core files be as large as the system allows.

@@ -96,8 +96,12 @@ impl Holders {
 
     /// Cuts clients off until the others hold so many bytes at most.
     pub fn cut(&mut self, most: u64) {
+        let held = self.bytes + left();
+        if held <= most {
+            return;
+        }
         let going = self.all.iter().flatten().filter(|holder| holder.cut.is_some()).map(Holder::kept).sum::<u64>();
-        let mut over = (self.bytes + left()).saturating_sub(most + going);
+        let mut over = held.saturating_sub(most + going);
         while over > 0 {
             let held = self.all.iter_mut().flatten().filter(|holder| holder.cut.is_none() && holder.size() > 0);
             let Some(holder) = held.max_by_key(|holder| holder.weight()) else { return };

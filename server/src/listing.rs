@@ -11,6 +11,7 @@ use std::io::Write;
 use std::mem::ManuallyDrop;
 use std::net::{SocketAddr, TcpStream};
 use std::os::fd::{FromRawFd, RawFd};
+use std::os::unix::net::UnixStream;
 
 /// The class of all items. The others are empty.
 pub const CLASS: u64 = 1;
@@ -108,14 +109,14 @@ fn list_client(store: &Store, place: &mut usize, out: &mut Output) -> bool {
     let listeners = store.seats.listeners();
     if let Some(file) = listeners.get(*place) {
         *place += 1;
-        write_address(out, *file, "addr", TcpStream::local_addr);
+        write_address(out, *file, "addr", true);
         text!(out, "STAT {file}:state conn_listening\r\nSTAT {file}:secs_since_last_cmd {}\r\n", store.clock.uptime());
         return true;
     }
     let Some((index, Seen { file, turn, state })) = store.seats.seen_from(*place - listeners.len()) else { return false };
     *place = index + 1 + listeners.len();
-    write_address(out, file, "addr", TcpStream::peer_addr);
-    write_address(out, file, "listen_addr", TcpStream::local_addr);
+    write_address(out, file, "addr", false);
+    write_address(out, file, "listen_addr", true);
     let state = match state {
         State::Command => "conn_read",
         State::Block => "conn_nread",
@@ -127,13 +128,17 @@ fn list_client(store: &Store, place: &mut usize, out: &mut Output) -> bool {
     true
 }
 
-/// Writes an address of an open file. Its worker may close it meanwhile: then this is the address of another file, or none.
-fn write_address(out: &mut Output, file: RawFd, name: &str, of: fn(&TcpStream) -> std::io::Result<SocketAddr>) {
-    // SAFETY: the file is not closed here, and only asked for an address.
-    let stream = ManuallyDrop::new(unsafe { TcpStream::from_raw_fd(file) });
-    match of(&stream) {
-        Ok(address @ SocketAddr::V4(_)) => text!(out, "STAT {file}:{name} tcp:{address}\r\n"),
-        Ok(address) => text!(out, "STAT {file}:{name} tcp6:{address}\r\n"),
-        Err(_) => text!(out, "STAT {file}:{name} unix\r\n"),
+/// Writes the address of an open file's own end, or of the other one. Its worker may close it meanwhile: then this is the address of another file, or
+/// none.
+fn write_address(out: &mut Output, file: RawFd, name: &str, is_own: bool) {
+    // SAFETY: the file is not closed here, and only asked for an address: one of TCP, or otherwise of a Unix socket.
+    let (tcp, unix) =
+        unsafe { (ManuallyDrop::new(TcpStream::from_raw_fd(file)), ManuallyDrop::new(UnixStream::from_raw_fd(file))) };
+    let (address, path) = if is_own { (tcp.local_addr(), unix.local_addr()) } else { (tcp.peer_addr(), unix.peer_addr()) };
+    match (address, path.as_ref().ok().and_then(|address| address.as_pathname())) {
+        (Ok(address @ SocketAddr::V4(_)), _) => text!(out, "STAT {file}:{name} tcp:{address}\r\n"),
+        (Ok(address), _) => text!(out, "STAT {file}:{name} tcp6:{address}\r\n"),
+        (Err(_), Some(path)) => text!(out, "STAT {file}:{name} unix:{}\r\n", path.display()),
+        (Err(_), None) => text!(out, "STAT {file}:{name} unix\r\n"),
     }
 }

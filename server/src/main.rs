@@ -25,8 +25,12 @@ use std::sync::Arc;
 /// The process may take this part of the memory limit beside it: for what is no item and no part of the index, and for the allocator's loss.
 const PART_OF_LOSS: usize = 10;
 
-/// For small items, addresses of so many times the memory limit are reserved.
+/// For small items, addresses of so many times the memory limit are reserved. All else may need as many, and some for each thread.
 const ADDRESSES: usize = 2;
+const ADDRESSES_OF_A_THREAD: usize = 4 << 20;
+
+/// The program itself needs as many as so many threads.
+const OWN_THREADS: usize = 4;
 
 #[global_allocator]
 static ALLOCATOR: Spare = Spare::new(System);
@@ -71,10 +75,8 @@ fn serve(options: Options) -> Result<(), Box<dyn Error>> {
     let file = options.process_file.as_deref();
     let _own_file = file.map(|file| daemon::write_number(file).map_err(|why| named(&file.display(), &why))).transpose()?;
     allocator::set_up();
-    if let Err(why) = slabs::set_up(ADDRESSES * memory) {
-        complain(format_args!(
-            "no addresses for small items: {why}. When the sizes of values change, the server may take more memory"
-        ));
+    if let Err(why) = reserve_addresses(memory, threads) {
+        complain(format_args!("{why}. When the sizes of values change, the server may take more memory"));
     }
     let log = options.audit.as_deref().map(Audit::create).transpose()?.map(Arc::new);
     let room = Arc::new(Room::new(0));
@@ -92,6 +94,12 @@ fn serve(options: Options) -> Result<(), Box<dyn Error>> {
         starter.map_or(Ok(()), |starter| starter.tell_ready(verbosity > 0))
     })?;
     log.map_or(Ok(()), |log| log.end()).map_err(Into::into)
+}
+
+/// Reserves addresses for small items, unless too few would be left for all else.
+fn reserve_addresses(memory: usize, threads: usize) -> Result<(), String> {
+    files::check_addresses(2 * ADDRESSES * memory + (threads + OWN_THREADS) * ADDRESSES_OF_A_THREAD)?;
+    slabs::set_up(ADDRESSES * memory).map_err(|why| format!("no addresses for small items: {why}"))
 }
 
 /// Sets the limits of the process, listens, and then becomes the user's.

@@ -193,8 +193,8 @@ impl Seat {
         self.seats.holders().cut_of(number)
     }
 
-    /// It holds nothing that counts.
-    fn leave(&mut self) {
+    /// It holds nothing that counts, until it says so anew.
+    pub fn leave(&mut self) {
         if let Some(number) = self.number.take() {
             self.seats.holders().remove(number);
         }

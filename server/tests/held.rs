@@ -129,6 +129,52 @@ fn a_value_that_never_ends_is_refused_and_its_client_stays() {
     assert!((6..=8).contains(&stored), "{stored}");
 }
 
+/// What comes first of a value of 1,000,000 bytes.
+const PART: usize = 990_000;
+
+/// The begin of a command that stores such a value.
+fn begun(key: &str) -> Vec<u8> {
+    [format!("set {key} 0 0 1000000\r\n").as_bytes(), &[b'x'; PART][..]].concat()
+}
+
+/// The rest of such a value, and what follows.
+fn ended(next: &[u8]) -> Vec<u8> {
+    [&[b'x'; 1_000_000 - PART][..], b"\r\n", next].concat()
+}
+
+/// So many clients that have begun to send a value.
+fn stalled(client: &Client, count: usize) -> Vec<Both> {
+    let mut all: Vec<_> = (0..count).map(|_| Both::of(client)).collect();
+    all.iter_mut().for_each(|both| assert!(both.ask(client, &begun("u")).is_empty()));
+    all
+}
+
+#[test]
+fn a_client_has_one_value_refused_and_not_the_next() {
+    let _turn = turn();
+    let (client, _) = stored();
+    let mut first = Both::of(&client);
+    assert!(first.ask(&client, &begun("a")).is_empty());
+    let others = stalled(&client, 8);
+    let next = [b"set b 0 0 100000\r\n", &[b'x'; 50_000][..]].concat();
+    assert_eq!(first.ask(&client, &ended(&next)), b"SERVER_ERROR out of memory storing object\r\n");
+    drop(others);
+    assert_eq!(first.ask(&client, &[&[b'x'; 50_000][..], b"\r\n"].concat()), b"STORED\r\n");
+}
+
+#[test]
+fn who_sends_one_value_after_the_other_has_not_held_them_all_the_time() {
+    let _turn = turn();
+    let (client, _) = stored();
+    let mut busy = Both::of(&client);
+    assert!(busy.ask(&client, &begun("a")).is_empty());
+    let others = stalled(&client, 7);
+    assert_eq!(busy.ask(&client, &ended(&begun("b"))), b"STORED\r\n");
+    let last = stalled(&client, 1);
+    assert_eq!(busy.ask(&client, &ended(b"")), b"STORED\r\n");
+    drop((others, last));
+}
+
 /// Items that were replaced while clients read them are kept for these alone: they count, and who keeps most for longest is cut off.
 #[test]
 fn who_keeps_items_that_have_left_is_cut_off() {

@@ -56,6 +56,8 @@ def unix_socket(folder):
         assert stat.S_IMODE(os.stat(path).st_mode) == 0o660
         with client_of(path) as client:
             works(client)
+            conns = ask(client, b'stats conns\r\n', b'END\r\n').decode()
+            assert all(f':{name} unix:{path}\r\n' in conns for name in ['addr', 'listen_addr']), conns
         again = ran('-s', path)
         assert again.returncode == 1 and path in again.stderr, again
         with client_of(path) as client:

@@ -131,18 +131,28 @@ def root(program):
         assert (ran.returncode, ran.stdout) == (1, '') and '-u' in ran.stderr, ran
 
 
+def stored_within(program, kilobytes):
+    """How many of 300 values are stored in so many addresses, and what the server says of that at the start."""
+    limit = lambda: resource.setrlimit(resource.RLIMIT_AS, (kilobytes * 1024, kilobytes * 1024))
+    with running(program, '-m', '64', '-t', '2', before=limit, stderr=subprocess.PIPE) as (server, port), connect(port) as client:
+        stored = 0
+        for key in range(300):
+            size = [100, 5_000, 60_000, 900_000][key % 4]
+            answer = ask(client, b'set k%d 0 0 %d\r\n%s\r\n' % (key, size, VALUE[:size]))
+            assert answer in (STORED, b'SERVER_ERROR out of memory storing object\r\n'), answer
+            stored += answer == STORED
+        assert server.poll() is None
+        server.terminate()
+        return stored, server.stderr.read()
+
+
 def memory_is_refused(program):
-    """The system gives the process fewer addresses than -m needs."""
-    for kilobytes in [60_000, 200_000]:
-        limit = lambda: resource.setrlimit(resource.RLIMIT_AS, (kilobytes * 1024, kilobytes * 1024))
-        with running(program, '-m', '64', '-t', '2', before=limit, stderr=subprocess.DEVNULL) as (server, port), connect(port) as client:
-            stored = 0
-            for key in range(300):
-                size = [100, 5_000, 60_000, 900_000][key % 4]
-                answer = ask(client, b'set k%d 0 0 %d\r\n%s\r\n' % (key, size, VALUE[:size]))
-                assert answer in (STORED, b'SERVER_ERROR out of memory storing object\r\n'), answer
-                stored += answer == STORED
-            assert stored > 150 and server.poll() is None, stored
+    """The system gives the process fewer addresses than -m needs. The server says how many it needs. With so many it stores all."""
+    for kilobytes in [60_000, 150_000, 200_000]:
+        stored, told = stored_within(program, kilobytes)
+        found = re.match(rf'cefrodild: the server needs (\d+) KB of addresses, and {kilobytes} are allowed: ', told)
+        assert stored > 150 and found, (stored, told)
+    assert stored_within(program, int(found[1])) == (300, '')
 
 
 def main():

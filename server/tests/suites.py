@@ -24,7 +24,7 @@ AT_ONCE = 4
 STAND_IN = r'''#!/usr/bin/env python3
 import os, re, sys
 # What is about memcached's inside: threads' limits, growth of slabs, verbosity of its log, protocol of the first byte, backlog.
-WITHOUT = {'-o': 2, '-R': 2, '-f': 2, '-b': 2, '-B': 2, '-D': 2, '-L': 1, '-C': 1}
+WITHOUT = {'-R': 2, '-f': 2, '-b': 2, '-B': 2, '-D': 2, '-L': 1, '-C': 1}
 words, passed = [word for part in sys.argv[1:] for word in [part]], []
 while words:
     word = words.pop(0)
@@ -32,6 +32,8 @@ while words:
         del words[:WITHOUT[word] - 1]
     elif word == '-U':
         words.pop(0)
+    elif word == '-o':
+        passed += ['-o', ','.join(one for one in words.pop(0).split(',') if one.startswith('idle_timeout='))]
     elif word == '-m':
         passed += ['-m', str(max(16, int(words.pop(0))))]
     else:
@@ -85,7 +87,7 @@ def write(found, expected):
     with open(TABLE, 'w', encoding='utf-8') as file:
         file.writelines(head)
         for name, (good, bad, is_whole) in sorted(found.items()):
-            _, why = expected.get(name, (False, ''))
+            why = '' if is_whole else expected.get(name, (False, ''))[1]
             file.write(f'{name}|{good}|{bad}|{"whole" if is_whole else "in part"}|{why}\n')
 
 

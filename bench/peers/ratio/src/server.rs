@@ -3,6 +3,7 @@ use crate::{Cache, Failure};
 use cefrodild::dialogue::Dialogue;
 use cefrodild::objects::Objects;
 use cefrodild::options::{parse, Asked};
+use cefrodild::output::Output;
 use cefrodild::room::{cost, Room};
 use cefrodild::store::Store;
 use std::sync::Arc;
@@ -13,15 +14,14 @@ const BYTES: usize = 16;
 struct Client {
     store: Store,
     dialogue: Dialogue,
-    answer: Vec<u8>,
 }
 
 impl Client {
-    fn ask(&mut self, command: &str) -> &str {
-        self.answer.clear();
-        let (done, _) = self.dialogue.turn(&self.store, command.as_bytes(), &mut self.answer);
+    fn ask(&mut self, command: &str) -> String {
+        let mut output = Output::default();
+        let (done, _) = self.dialogue.turn(&self.store, command.as_bytes(), &mut output);
         assert_eq!(done, command.len());
-        std::str::from_utf8(&self.answer).expect("the answer is text")
+        String::from_utf8(output.to_vec()).expect("the answer is text")
     }
 }
 
@@ -45,5 +45,5 @@ pub fn open(capacity: usize, is_small: bool) -> Result<Box<dyn Cache>, Failure> 
     let room = Arc::new(Room::new(capacity as u64 * cost(BYTES, BYTES)));
     let index = Objects::open(options.items, 1, &room, None)?;
     let store = Store::new(Box::new(index), room, options);
-    Ok(Box::new(Client { store, dialogue: Dialogue::default(), answer: Vec::new() }))
+    Ok(Box::new(Client { store, dialogue: Dialogue::default() }))
 }
