@@ -50,7 +50,7 @@ module _ (V : ℕ) {policy : Policy} (sh : Shape) (states : ℕ → TableState) 
       }
 
 pub victims_were_clear : (V : ℕ) → VictimsWereClear V
-victims_were_clear V sh states run j n k b at =
+victims_were_clear V policy sh states run j n k b at =
     let l : Layout = layout_with V policy sh in
     let c = evicts_are_clear V sh ((run.ruled j).log) n k b (run.ruled j).lawful at in
     let below : n < length ((run.ruled j).log) = got_short ((run.ruled j).log) n (with_bit (Open k deed.Evict) b) at in

@@ -279,5 +279,5 @@ put_beside_get =
       looked = looked front;
       empty = refl;
       put = refl;
-      timed = lookups_are_timed 1 small g.states g.run g.early 17 0 0 2 [] (readings front) found is_shape (omega arith) (omega arith) in_order g.had_record ended (looked front);
+      timed = lookups_are_timed 1 Clock small g.states g.run g.early 17 0 0 2 [] (readings front) found is_shape (omega arith) (omega arith) in_order g.had_record ended (looked front);
     }

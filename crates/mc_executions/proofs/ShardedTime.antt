@@ -30,7 +30,7 @@ tells mix hs h k (Absent at) same now = ap (λ (z : List (Change _)). map_value 
 tells mix hs h k Busy same now = tt
 
 pub shards_are_timed : (V : ℕ) → ShardsAreTimed V
-shards_are_timed V sh count states runs steps hs i j k first last reply are histories le inside begins ends timed =
+shards_are_timed V policy sh count states runs steps hs i j k first last reply are histories le inside begins ends timed =
     let s = shard_of sh.mix count k in
     let m = timed.held in
     let whole : i + (j - i) ≡ j = omega (arith, le) in

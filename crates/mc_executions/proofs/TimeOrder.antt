@@ -21,13 +21,13 @@ moment_low (Absent at) m lo hi e b = omega (arith, e, b.0)
 moment_low Busy m lo hi e b = absurd e
 
 pub moments_keep_order : (V : ℕ) → MomentsKeepOrder V
-moments_keep_order V sh states run k first last k' first' last' m m' reply reply' one two order at at' =
+moments_keep_order V policy sh states run k first last k' first' last' m m' reply reply' one two order at at' =
     let high = moment_high reply m _ _ at one.between in
     let low = moment_low reply' m' _ _ at' two.between in
     omega (arith, high, many_rise V sh states run last first' order, low)
 
 pub writes_are_seen : (V : ℕ) → WritesAreSeen V
-writes_are_seen V sh states run k first last m n reply acts one at h =
+writes_are_seen V policy sh states run k first last m n reply acts one at h =
     let same = ap (λ (z : List Made). length (state_of V sh z).history) (acts_are (layout_with V policy sh) states run n acts h) in (
       λ le. omega (arith, moment_low reply m _ _ at one.between, many_rise V sh states run n first le, same),
       λ le. omega (arith, moment_high reply m _ _ at one.between, many_rise V sh states run last n le, same),

@@ -122,7 +122,7 @@ module _ (V : ℕ) {policy : Policy} (sh : Shape) (states : ℕ → TableState) 
   holds_between k first last Busy le t b = (first, omega arith, le, tt)
 
 pub changes_are_steps : (V : ℕ) → ChangesAreSteps V
-changes_are_steps V sh states run i j n before after le h h' low high =
+changes_are_steps V policy sh states run i j n before after le h h' low high =
     let was = ap (λ (z : List Made). length (state_of V sh z).history) (acts_are (layout_with V policy sh) states run i before h) in
     let is = ap (λ (z : List Made). length (state_of V sh z).history) (acts_are (layout_with V policy sh) states run j after h') in
     made V sh states run i j n le (omega (arith, was, low)) (omega (arith, is, high))

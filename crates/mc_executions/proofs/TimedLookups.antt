@@ -57,6 +57,7 @@ module _ (V : ℕ) {policy : Policy} (sh : Shape) (states : ℕ → TableState) 
   looks shape small looked =
       let acts : ℕ → List Made = λ n. (run.ruled n).log in
       let whole : IsLookedUp V sh k tries (acts f.p) (acts g.p) reply = record {
+        policy = policy;
         rs = rs;
         looked = looked;
         s = states f.p;
@@ -87,7 +88,7 @@ module _ (V : ℕ) {policy : Policy} (sh : Shape) (states : ℕ → TableState) 
       }
 
 pub lookups_are_timed : (V : ℕ) → LookupsAreTimed V
-lookups_are_timed V sh states run i j a k tries done rs reply shape small some' le h h' looked =
+lookups_are_timed V policy sh states run i j a k tries done rs reply shape small some' le h h' looked =
     let l : Layout = layout_with V policy sh in
     let long : length (done ++ rs) ≡ length done + length rs = length-append done rs in
     let more = starts V sh k tries rs reply some' looked in
@@ -97,9 +98,9 @@ lookups_are_timed V sh states run i j a k tries done rs reply shape small some' 
 
 -- ---- calls of readers
 pub gets_are_timed : (V : ℕ) → GetsAreTimed V
-gets_are_timed V sh states run i j k before after reply shape small le h h' looked =
+gets_are_timed V policy sh states run i j k before after reply shape small le h h' looked =
     let end : HasRecord before.number (states j) (before.done ++ looked.rs) = subst (λ (z : ℕ × List Reading). HasRecord z.0 (states j) z.1) (λ n. (looked.number n, looked.done n)) h' in
-    let x = lookups_are_timed V sh states run i j before.number k sh.tries before.done looked.rs reply shape small (omega (arith, shape.tries.0)) le h end looked.looked in
+    let x = lookups_are_timed V policy sh states run i j before.number k sh.tries before.done looked.rs reply shape small (omega (arith, shape.tries.0)) le h end looked.looked in
     (x.first, x.last, x.begins, x.in_order, x.ends, x.timed)
 
 -- lookups of many keys only add to the record
@@ -112,8 +113,8 @@ have_grown V sh [] before after (y ∷ ys) h = absurd h
 have_grown V sh (k ∷ ks) before after [] h = absurd h
 
 pub many_are_timed : (V : ℕ) → ManyAreTimed V
-many_are_timed V sh states run i j [] before after [] shape small le h h' looked = tt
-many_are_timed V sh states run i j (k ∷ ks) before after (y ∷ ys) shape small le h h' looked =
+many_are_timed V policy sh states run i j [] before after [] shape small le h h' looked = tt
+many_are_timed V policy sh states run i j (k ∷ ks) before after (y ∷ ys) shape small le h h' looked =
     let mid = looked.0 in
     let one = looked.1 in
     let more = have_grown V sh ks mid after ys looked.2 in
@@ -124,11 +125,11 @@ many_are_timed V sh states run i j (k ∷ ks) before after (y ∷ ys) shape smal
       p.0,
       p.1,
       p.2,
-      gets_are_timed V sh states run i p.0 k before mid y shape (small 0 k (omega arith)) p.1 h there one,
-      many_are_timed V sh states run p.0 j ks mid after ys shape (λ n x at. small (suc n) x (omega (arith, at))) p.2 there h' looked.2,
+      gets_are_timed V policy sh states run i p.0 k before mid y shape (small 0 k (omega arith)) p.1 h there one,
+      many_are_timed V policy sh states run p.0 j ks mid after ys shape (λ n x at. small (suc n) x (omega (arith, at))) p.2 there h' looked.2,
     )
-many_are_timed V sh states run i j [] before after (y ∷ ys) shape small le h h' looked = absurd looked
-many_are_timed V sh states run i j (k ∷ ks) before after [] shape small le h h' looked = absurd looked
+many_are_timed V policy sh states run i j [] before after (y ∷ ys) shape small le h h' looked = absurd looked
+many_are_timed V policy sh states run i j (k ∷ ks) before after [] shape small le h h' looked = absurd looked
 
 -- ---- calls with the writer at hand
 -- what the map holds now is a true answer
@@ -174,14 +175,14 @@ replies_keep V sh k acts acts' (Absent at) x = ap (λ (z : List Made). (state_of
 replies_keep V sh k acts acts' Busy x = absurd x
 
 pub writers_gets_are_timed : (V : ℕ) → WritersGetsAreTimed V
-writers_gets_are_timed V sh states run i j k before after reply h h' got n le le' =
+writers_gets_are_timed V policy sh states run i j k before after reply h h' got n le le' =
     let was = history_of V sh states run i before.acts h in
     let is = history_of V sh states run j after.acts h' ∙ replies_keep V sh k before.acts after.acts reply got.replies in
     now_timed V sh states run n k _ reply (still V sh states run i j n _ was is le le') (replies_hold V sh k (state_of V sh before.acts) (λ i. with_bit (Mark i) 0) before.acts after.acts reply got.replies)
 
 pub beside_is_timed : (V : ℕ) → BesideIsTimed V
-beside_is_timed V sh states run i j k acts before after reply h h' looked n le le' =
+beside_is_timed V policy sh states run i j k acts before after reply h h' looked n le le' =
     now_timed V sh states run n k _ reply (still V sh states run i j n _ (history_of V sh states run i acts h) (history_of V sh states run j acts h') le le') (replies_hold V sh k (state_of V sh acts) (λ i. mark_at i acts) before.done after.done reply looked.replies)
 
 pub fallbacks_are_timed : (V : ℕ) → FallbacksAreTimed V
-fallbacks_are_timed V sh states run i j k old new reply fallen h h' = beside_is_timed V sh states run i j k fallen.writer.acts fallen.mid new reply h h' fallen.looked
+fallbacks_are_timed V policy sh states run i j k old new reply fallen h h' = beside_is_timed V policy sh states run i j k fallen.writer.acts fallen.mid new reply h h' fallen.looked

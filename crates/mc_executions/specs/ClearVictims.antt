@@ -35,5 +35,5 @@ pub record WasClear (V : ℕ) {policy : Policy} (sh : Shape) (states : ℕ → T
 -- so was each victim
 abbrev pub VictimsWereClear : ℕ → Type 0
 VictimsWereClear V =
-    {policy : Policy} (sh : Shape) (states : ℕ → TableState) (run : IsExecution (layout_with V policy sh) states) (j n k b : ℕ) →
+    (policy : Policy) (sh : Shape) (states : ℕ → TableState) (run : IsExecution (layout_with V policy sh) states) (j n k b : ℕ) →
     slice_get (log_at run j) n ≡ Some (with_bit (Open k deed.Evict) b) → WasClear V sh states run j n k

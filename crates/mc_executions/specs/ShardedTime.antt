@@ -24,7 +24,7 @@ pub record AreHistories (V : ℕ) {policy : Policy} (sh : Shape) (count : ℕ) (
 -- after some number of steps of all, at which the shard is between these two
 abbrev pub ShardsAreTimed : ℕ → Type 0
 ShardsAreTimed V =
-    {policy : Policy} (sh : Shape) (count : ℕ) (states : ℕ → ℕ → TableState) (runs : (s : ℕ) → IsExecution (layout_with V policy sh) (states s)) (steps : ℕ → ℕ → ℕ) (hs : ℕ → List (List (Change V))) (i j k first last : ℕ) (reply : Reply V) →
+    (policy : Policy) (sh : Shape) (count : ℕ) (states : ℕ → ℕ → TableState) (runs : (s : ℕ) → IsExecution (layout_with V policy sh) (states s)) (steps : ℕ → ℕ → ℕ) (hs : ℕ → List (List (Change V))) (i j k first last : ℕ) (reply : Reply V) →
     AreStepsOf steps → AreHistories V sh count states runs steps hs → i ≤ j →
     let s = shard_of sh.mix count k in
     s < count → steps i s ≤ first → last ≤ steps j s → IsTimed V sh (states s) (runs s) k reply first last →

@@ -35,20 +35,20 @@ IsAt Busy m = ⊥
 -- if the last step for one reply comes no later than the first for another, its moment is no later either, whichever readers asked
 abbrev pub MomentsKeepOrder : ℕ → Type 0
 MomentsKeepOrder V =
-    {policy : Policy} (sh : Shape) (states : ℕ → TableState) (run : IsExecution (layout_with V policy sh) states) (k first last k' first' last' m m' : ℕ) (reply reply' : Reply V) →
+    (policy : Policy) (sh : Shape) (states : ℕ → TableState) (run : IsExecution (layout_with V policy sh) states) (k first last k' first' last' m m' : ℕ) (reply reply' : Reply V) →
     IsTimed V sh states run k reply first last → IsTimed V sh states run k' reply' first' last' → last ≤ first' → IsAt reply m → IsAt reply' m' → m ≤ m'
 
 -- Take a state n at which the writer's record is `acts`: a lookup that begins no earlier sees all their changes, and one that ends no later
 -- sees no others
 abbrev pub WritesAreSeen : ℕ → Type 0
 WritesAreSeen V =
-    {policy : Policy} (sh : Shape) (states : ℕ → TableState) (run : IsExecution (layout_with V policy sh) states) (k first last m n : ℕ) (reply : Reply V) (acts : List Made) →
+    (policy : Policy) (sh : Shape) (states : ℕ → TableState) (run : IsExecution (layout_with V policy sh) states) (k first last m n : ℕ) (reply : Reply V) (acts : List Made) →
     IsTimed V sh states run k reply first last → IsAt reply m → HasActs (states n) acts →
     (n ≤ first → length (state_of V sh acts).history ≤ m) × (last ≤ n → m ≤ length (state_of V sh acts).history)
 
 -- The writer's record grows between states i and j. Each change that it gets takes effect at one step between them
 abbrev pub ChangesAreSteps : ℕ → Type 0
 ChangesAreSteps V =
-    {policy : Policy} (sh : Shape) (states : ℕ → TableState) (run : IsExecution (layout_with V policy sh) states) (i j n : ℕ) (before after : List Made) → i ≤ j → HasActs (states i) before → HasActs (states j) after →
+    (policy : Policy) (sh : Shape) (states : ℕ → TableState) (run : IsExecution (layout_with V policy sh) states) (i j n : ℕ) (before after : List Made) → i ≤ j → HasActs (states i) before → HasActs (states j) after →
     length (state_of V sh before).history ≤ n → n < length (state_of V sh after).history →
     (m : ℕ) × (i ≤ m) × (m < j) × (length (history_at V sh states run m) ≡ n) × (length (history_at V sh states run (suc m)) ≡ suc n)

@@ -54,7 +54,7 @@ pub record LooksBetween (V : ℕ) {policy : Policy} (sh : Shape) (states : ℕ �
 -- Each lookup of each reader is one. A lookup with no try left reads nothing and is Busy
 abbrev pub LookupsAreTimed : ℕ → Type 0
 LookupsAreTimed V =
-    {policy : Policy} (sh : Shape) (states : ℕ → TableState) (run : IsExecution (layout_with V policy sh) states) (i j number k tries : ℕ) (done rs : List Reading) (reply : Reply V) →
+    (policy : Policy) (sh : Shape) (states : ℕ → TableState) (run : IsExecution (layout_with V policy sh) states) (i j number k tries : ℕ) (done rs : List Reading) (reply : Reply V) →
     IsShape sh → k < 2 ^ 64 → 0 < tries → i ≤ j → HasRecord number (states i) done → HasRecord number (states j) (done ++ rs) → IsLookup V sh k tries rs reply →
     LooksBetween V sh states run i j number k tries done rs reply
 
@@ -65,7 +65,7 @@ IsTimedIn V sh states run i j k reply = (first : ℕ) × (last : ℕ) × (i ≤ 
 -- what `get` ensures of a reader's record is such a lookup
 abbrev pub GetsAreTimed : ℕ → Type 0
 GetsAreTimed V =
-    {policy : Policy} (sh : Shape) (states : ℕ → TableState) (run : IsExecution (layout_with V policy sh) states) (i j k : ℕ) (before after : ReaderRecord) (reply : Reply V) → IsShape sh → k < 2 ^ 64 → i ≤ j →
+    (policy : Policy) (sh : Shape) (states : ℕ → TableState) (run : IsExecution (layout_with V policy sh) states) (i j k : ℕ) (before after : ReaderRecord) (reply : Reply V) → IsShape sh → k < 2 ^ 64 → i ≤ j →
     HasRecord before.number (states i) before.done → HasRecord after.number (states j) after.done → HasLooked V sh k before after reply → IsTimedIn V sh states run i j k reply
 
 -- each reply is true at a moment of its own, and each lookup begins after the one before
@@ -78,7 +78,7 @@ AllTimedIn V sh states run i j (k ∷ ks) [] = ⊥
 -- what `get_many` ensures are lookups one after the other
 abbrev pub ManyAreTimed : ℕ → Type 0
 ManyAreTimed V =
-    {policy : Policy} (sh : Shape) (states : ℕ → TableState) (run : IsExecution (layout_with V policy sh) states) (i j : ℕ) (keys : List ℕ) (before after : ReaderRecord) (replies : List (Reply V)) → IsShape sh → All (λ k. k < 2 ^ 64) keys → i ≤ j →
+    (policy : Policy) (sh : Shape) (states : ℕ → TableState) (run : IsExecution (layout_with V policy sh) states) (i j : ℕ) (keys : List ℕ) (before after : ReaderRecord) (replies : List (Reply V)) → IsShape sh → All (λ k. k < 2 ^ 64) keys → i ≤ j →
     HasRecord before.number (states i) before.done → HasRecord after.number (states j) after.done → HaveLooked V sh keys before after replies → AllTimedIn V sh states run i j keys replies
 
 -- ---- lookups with the writer at hand: no change is made from state i to state j, and the reply is true at each state between
@@ -88,17 +88,17 @@ IsTimedAt V sh states run i j k reply = (n : ℕ) → i ≤ n → n ≤ j → Is
 -- what the writer's own `get` ensures
 abbrev pub WritersGetsAreTimed : ℕ → Type 0
 WritersGetsAreTimed V =
-    {policy : Policy} (sh : Shape) (states : ℕ → TableState) (run : IsExecution (layout_with V policy sh) states) (i j k : ℕ) (before after : WriterRecord) (reply : Reply V) →
+    (policy : Policy) (sh : Shape) (states : ℕ → TableState) (run : IsExecution (layout_with V policy sh) states) (i j k : ℕ) (before after : WriterRecord) (reply : Reply V) →
     HasActs (states i) before.acts → HasActs (states j) after.acts → HasGot V sh k before after reply → IsTimedAt V sh states run i j k reply
 
 -- what `get_beside` ensures
 abbrev pub BesideIsTimed : ℕ → Type 0
 BesideIsTimed V =
-    {policy : Policy} (sh : Shape) (states : ℕ → TableState) (run : IsExecution (layout_with V policy sh) states) (i j k : ℕ) (acts : List Made) (before after : ReaderRecord) (reply : Reply V) →
+    (policy : Policy) (sh : Shape) (states : ℕ → TableState) (run : IsExecution (layout_with V policy sh) states) (i j k : ℕ) (acts : List Made) (before after : ReaderRecord) (reply : Reply V) →
     HasActs (states i) acts → HasActs (states j) acts → HasLookedBeside V sh k acts before after reply → IsTimedAt V sh states run i j k reply
 
 -- what `get_or_desk` ensures where the lookup was busy: states i and j are those at which the turn was got and given back
 abbrev pub FallbacksAreTimed : ℕ → Type 0
 FallbacksAreTimed V =
-    {policy : Policy} (sh : Shape) (states : ℕ → TableState) (run : IsExecution (layout_with V policy sh) states) (i j k : ℕ) (old new : ReaderRecord) (reply : Reply V) → (fallen : HasFallenBack V sh k old new reply) →
+    (policy : Policy) (sh : Shape) (states : ℕ → TableState) (run : IsExecution (layout_with V policy sh) states) (i j k : ℕ) (old new : ReaderRecord) (reply : Reply V) → (fallen : HasFallenBack V sh k old new reply) →
     HasActs (states i) fallen.writer.acts → HasActs (states j) fallen.writer.acts → IsTimedAt V sh states run i j k reply

@@ -73,9 +73,7 @@ impl<const V: usize> Clerk<V> {
         self.made = 0;
         self.stage = match start_put::<V, P>(&mut self.books, peek, &mut self.plan, key, &value) {
             Start::Planned(answer) => Stage::Planned(Answer::Put(answer)),
-            Start::Waits(room) => {
-                Stage::Sweeping(Waiting::new(&self.books, key, value, room))
-            }
+            Start::Waits(room) => { Stage::Sweeping(Waiting::new(&self.books, key, value, room)) }
         };
     }
 

@@ -38,12 +38,14 @@ returns-clause-picked g c k v room before rs h none =
     c.turn_hand_unless_clear-bit.ensures.acted.acts
     ∙ ap (λ (xs : List Made). xs ++ record { act = Hand c.args.i; bit = bit } ∷ []) h.acts
     ∙ append_assoc before.seat.now.acts (hand_acts rs) (record { act = Hand c.args.i; bit = bit } ∷ [])
-    ∙ ap (λ (xs : List Made). before.seat.now.acts ++ xs) (sym (hand_acts_then rs (read ∷ []))) in
-    (bit, record {
-      same = same_then h.same (record { cells = refl; seat = refl });
-      of = c.turn_hand_unless_clear-bit.ensures.acted.of ∙ h.of;
-      acts = acts;
-      notes = grow_trans h.notes (grow_acted c.turn_hand_unless_clear-bit.ensures.acted);
-      shape = ap shape_of c.after_read.ensures.shape ∙ h.shape;
-      picking = record { waits = c.after_read.ensures.waits g.row.V k v _ room h.picking.waits; picking = c.after_read.ensures.picking rs h.picking.picking none };
-    })
+    ∙ ap (λ (xs : List Made). before.seat.now.acts ++ xs) (sym (hand_acts_then rs (read ∷ []))) in (
+      bit,
+      record {
+        same = same_then h.same (record { cells = refl; seat = refl });
+        of = c.turn_hand_unless_clear-bit.ensures.acted.of ∙ h.of;
+        acts = acts;
+        notes = grow_trans h.notes (grow_acted c.turn_hand_unless_clear-bit.ensures.acted);
+        shape = ap shape_of c.after_read.ensures.shape ∙ h.shape;
+        picking = record { waits = c.after_read.ensures.waits g.row.V k v _ room h.picking.waits; picking = c.after_read.ensures.picking rs h.picking.picking none };
+      },
+    )

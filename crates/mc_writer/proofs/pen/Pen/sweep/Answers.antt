@@ -51,7 +51,7 @@ finished g c =
     let call = PutCall c.args.key c.args.value.now in
     let s = state_at g.row.V c.args.self.now in
     subst (λ (y : ℕ × List ℕ). IsFinished g.row.V c.finish.new.self y.0 y.1 call s t.readings c.finish.result) (sym (ap named t.sweeping.called))
-        (c.finish.ensures.finished call s t.readings t.sweeping (over g at) (words_still g.row.V c.args.self.now c.turn_round.new.self t.readings (read g at)))
+    (c.finish.ensures.finished call s t.readings t.sweeping (over g at) (words_still g.row.V c.args.self.now c.turn_round.new.self t.readings (read g at)))
 
 pub returns-clause-same : goal.returns-clause-same
 returns-clause-same g c = (decided g (goal.at.returns-clause-same g c).After-finish).same
