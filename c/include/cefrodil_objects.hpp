@@ -151,23 +151,20 @@ template <class K, class V> class Objects {
             return counted(slot, slot.handle.try_swap(index, object->word()));
         });
     }
-    // Puts only where nothing is. present: something is. What was computed keeps the generation in which that began.
-    Changed put_absent(uint64_t index, Own &object, bool is_computed) noexcept {
+    // Puts where nothing is, if the moment is 0, or else over what has ended and was put then. present: something is there. stale: the object was
+    // computed in a generation that has ended.
+    Changed put_new(uint64_t index, uint64_t since, Own &object, bool is_computed) noexcept {
         return offered(index, object, [&](Slot<1> &slot) {
-            if (!is_computed) {
-                object->end_making(object->kind(), generation_.now());
+            if (!begins(*object, is_computed)) {
+                return refusal<Swapped<1>>(Status::stale);
             }
-            return counted(slot, slot.handle.try_swap_if_absent(index, object->word()));
+            return since != 0 ? slot.handle.try_swap_if(index, since, object->word())
+                              : counted(slot, slot.handle.try_swap_if_absent(index, object->word()));
         });
     }
-    // Puts over what was put at that moment. `is_new`: over what has ended, in the generation of now.
-    Changed put_over(uint64_t index, uint64_t since, Own &object, bool is_new = false) noexcept {
-        return offered(index, object, [&](Slot<1> &slot) {
-            if (is_new) {
-                object->end_making(object->kind(), generation_.now());
-            }
-            return slot.handle.try_swap_if(index, since, object->word());
-        });
+    // Puts over what was put at that moment, in the generation that the object has.
+    Changed replace(uint64_t index, uint64_t since, Own &object) noexcept {
+        return offered(index, object, [&](Slot<1> &slot) { return slot.handle.try_swap_if(index, since, object->word()); });
     }
     // What gave way is no older value of the key: it is another key's, or had ended.
     void gave_way(Changed &change) noexcept {
@@ -178,7 +175,7 @@ template <class K, class V> class Objects {
     }
     // Removes what was put at that moment.
     Changed take(uint64_t index, uint64_t since, Left why = Left::removed) noexcept {
-        return removed(why, [&](Slot<1> &slot) { return slot.handle.try_take_if(index, since); });
+        return removed(index, why, [&](Slot<1> &slot) { return slot.handle.try_take_if(index, since); });
     }
     // Ends a change, once: the listener hears of what gave way, and then it is retired. Then objects leave until the others are within the bound on
     // weights, and `evicted` is set if any did. Call it when the caller has no pin of its own any more.
@@ -200,7 +197,7 @@ template <class K, class V> class Objects {
         std::vector<uint64_t> list;
         Status status = turns_.repeated([&](Slot<1> &slot) { return slot.handle.try_entries(list); });
         for (size_t at = 0; at < list.size() && status == Status::ok; at += 2) {
-            status = end(removed(Left::removed, [&](Slot<1> &slot) { return slot.handle.try_take(list[at]); }));
+            status = end(removed(list[at], Left::removed, [&](Slot<1> &slot) { return slot.handle.try_take(list[at]); }));
             status = status == Status::absent ? Status::ok : status;
         }
         return status;
@@ -231,16 +228,26 @@ template <class K, class V> class Objects {
         slot.add(tried.status == Status::ok && !tried.old ? 1 : 0);
         return tried;
     }
-    template <class Take> Changed removed(Left why, Take take) noexcept {
+    // With the key's lock. The object gets the generation of now, or, if it was computed, must have that.
+    bool begins(Each &object, bool is_computed) noexcept {
+        const uint64_t now = generation_.now();
+        if (!is_computed) {
+            object.end_making(object.kind(), now);
+        }
+        return object.generation() == now;
+    }
+    template <class Take> Changed removed(uint64_t index, Left why, Take take) noexcept {
         if (is_too_deep()) {
             return refused(Status::too_deep);
         }
-        const Swapped<1> taken = turns_.repeated([&](Slot<1> &slot) {
+        const auto removal = [&](Slot<1> &slot) {
             const Swapped<1> tried = take(slot);
             slot.add(tried.status == Status::ok ? -1 : 0);
             slot.count(evictions, tried.status == Status::ok && why == Left::evicted ? 1 : 0);
             return tried;
-        });
+        };
+        // Nobody can tell at which moment a key was evicted.
+        const Swapped<1> taken = why == Left::evicted ? turns_.repeated(removal) : turns_.locked(index, removal);
         Each *const old = taken.old ? Each::at((*taken.old)[0]) : nullptr;
         if (weights_ && old != nullptr) {
             leave(Heavy::of(*old), why == Left::evicted);
