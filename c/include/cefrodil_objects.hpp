@@ -57,7 +57,7 @@ template <class K, class V> class Objects {
         const uint32_t room = each != 0 && share_of(more, shards) != 0 ? more : options.entries;
         const Status status = turns_.open(room, shards, options.passes, options.tries, mix);
         is_open_ = status == Status::ok;
-        waiting_ = is_open_ && turns_.lines() ? &turns_.lines()->waiting() : &uncounted_;
+        waiting_weight_ = is_open_ && turns_.lines() ? &turns_.lines()->waiting_weight() : &uncounted_;
         const auto grow = [&] {
             if (each != 0) {
                 weights_.open(shards, each, each, true);
@@ -214,7 +214,9 @@ template <class K, class V> class Objects {
         return status;
     }
     size_t free_now() noexcept { return free(epochs_.free_now()); }
-    const Waiting &waiting() const noexcept { return *waiting_; }
+    // How many objects have left and wait to be freed, and what they weigh.
+    uint64_t waiting() noexcept { return epochs_.waiting(); }
+    uint64_t waiting_weight() const noexcept { return waiting_weight_->load(std::memory_order_relaxed); }
     // The weights of all objects that are there, with those that calls are about to put. Without a weigher 0.
     uint64_t weight() const noexcept { return rules_.weigher ? weights_.sum() : 0; }
     uint64_t capacity() const noexcept { return weights_ && !rules_.weigher ? weights_.bound() : turns_.capacity(); }
@@ -338,8 +340,16 @@ template <class K, class V> class Objects {
             rules_.listener(change.old->key, change.old->value, has_ended(*change.old, generation_.now()) ? Left::expired : change.why);
             listeners()--;
         }
-        waiting_->add(1, weight_of(*change.old));
-        static_cast<void>(free(epochs_.retire(*change.old)));
+        Slot<1> *const slot = turns_.own_slot();
+        count_waiting(slot, *change.old, 1);
+        static_cast<void>(free(epochs_.retire(*change.old, turns_.place_of(slot))));
+    }
+    // Counts one object more or less.
+    void count_waiting(Slot<1> *slot, Each &object, int64_t more) noexcept {
+        turns_.count(slot, inside::waiting, static_cast<uint64_t>(more));
+        if (rules_.weigher) {
+            waiting_weight_->fetch_add(static_cast<uint64_t>(more) * Heavy::of(object).weight, std::memory_order_relaxed);
+        }
     }
     // Removes objects until the others are within the bound: `next` first, if there is one. Whether any was removed. It gives up if there is none left, or
     // if other threads keep it from each try: then a later put goes on.
@@ -364,7 +374,7 @@ template <class K, class V> class Objects {
     }
     // Frees what it can if more than a sixteenth of the bound waits. Without a weigher nothing weighs.
     void free_much() noexcept {
-        if (rules_.weigher && waiting_->weight() > weights_.bound() / 16) {
+        if (rules_.weigher && waiting_weight() > weights_.bound() / 16) {
             static_cast<void>(free_now());
         }
     }
@@ -383,11 +393,10 @@ template <class K, class V> class Objects {
         for (Retired *next = nullptr; first != nullptr; first = next, count++) {
             next = first->next;
             const Own object(static_cast<Each *>(first));
-            waiting_->subtract(1, weight_of(*object));
+            count_waiting(turns_.own_slot(), *object, -1);
         }
         return count;
     }
-    uint64_t weight_of(Each &object) const noexcept { return rules_.weigher ? Heavy::of(object).weight : 0; }
     // Whether the call comes from so many listeners within each other that it is refused.
     bool is_too_deep() const noexcept { return rules_.listener && listeners() >= most_listeners; }
 
@@ -398,8 +407,8 @@ template <class K, class V> class Objects {
     const Rules rules_;
     const Clock clock_;
     PartedWeights weights_{};
-    // What has left and waits to be freed.
-    Waiting uncounted_{}, *waiting_ = &uncounted_;
+    // That of what has left and waits to be freed. All puts of a map with a weigher share a lock, so they may share this.
+    std::atomic<uint64_t> uncounted_{0}, *waiting_weight_ = &uncounted_;
 };
 
 } // namespace inside

@@ -108,8 +108,9 @@ template <size_t Words> class Turns {
     Slot<Words> *own_slot() noexcept { return passes_.own_slot(); }
     // Counts lookups of the map, by such a slot.
     [[gnu::always_inline]] void count(Slot<Words> *own, Status status, uint64_t number = 1) noexcept {
-        passes_.count(own, static_cast<Counted>(status), number);
+        count(own, static_cast<Counted>(status), number);
     }
+    [[gnu::always_inline]] void count(Slot<Words> *own, Counted what, uint64_t number) noexcept { passes_.count(own, what, number); }
     // Makes a call by this thread's slot, or by the shared one.
     template <class Call> auto call(Call made) noexcept { return passes_.call(made); }
     // The same, until it is neither busy nor held. An answer may be large, and copies of it would cost, so the loop is not that of `within`.
