@@ -1,7 +1,8 @@
 // When an object of a map of objects is freed: the epochs of c/include/cefrodil_epochs.hpp, the header's own code, with atomics and locks of Relacy.
 //
-// One thread removes two objects one after the other and frees what may be freed. Another thread, which has a slot, looks objects up, and so does
-// one without a slot. No object is used after it is freed, and each use comes before the free in the order of the memory model.
+// One thread removes two objects one after the other and frees what may be freed. Another thread, which has a slot, looks objects up. One without a
+// slot looks one up, and then frees what may be freed of the first thread's. No object is used after it is freed, and each use comes before the free in
+// the order of the memory model.
 //
 // The index is one entry: a lookup is an acquire load, a removal acquires and releases. A step of the header that is sequentially consistent, and so
 // a locked instruction, is a weaker one here, with a fence after it where a schedule needs that.
@@ -12,8 +13,8 @@
 
 struct CxxEpochs : rl::test_suite<CxxEpochs, 3> {
     static constexpr unsigned interruptions = 2;
-    static constexpr std::array<std::string_view, 8> steps{"fence of an announcement",    "fence of a retirement",       "acquire of the number",
-                                                           "release of the number",       "acquire of an announcement",  "release of the end of a pin",
+    static constexpr std::array<std::string_view, 8> steps{"fence of an announcement",    "fence of a retirement",       "acquire of the epoch",
+                                                           "fence of a new epoch",        "acquire of an announcement",  "release of the end of a pin",
                                                            "lock of pins without a slot", "removal before the retirement"};
 
     static std::memory_order unless(std::string_view step, std::memory_order order) {
@@ -25,14 +26,20 @@ struct CxxEpochs : rl::test_suite<CxxEpochs, 3> {
         }
     }
 
+    // Whether a thread reads announcements: since it began an epoch, until its next call. Else it reads the epoch, and thread 0 does so to retire.
+    static inline std::array<bool, 3> reads_pins{};
+
     struct Parts {
-        // Thread 0 alone reads announcements, and the others the number of what was retired.
         template <class T> struct Atomic : explored::Atomic<T> {
             using Own = explored::Atomic<T>;
             using Own::Own;
             T load(std::memory_order) const {
-                const bool is_announced = explored::this_thread() == 0;
-                return Own::load(unless(is_announced ? "acquire of an announcement" : "acquire of the number", std::memory_order_acquire));
+                const bool is_announced = reads_pins[explored::this_thread()];
+                if (explored::this_thread() == 0 && !is_announced) {
+                    fence_unless("fence of a retirement");
+                    return Own::load(std::memory_order_acquire);
+                }
+                return Own::load(unless(is_announced ? "acquire of an announcement" : "acquire of the epoch", std::memory_order_acquire));
             }
             void store(T value, std::memory_order order) {
                 if (order == std::memory_order_seq_cst) {
@@ -43,8 +50,9 @@ struct CxxEpochs : rl::test_suite<CxxEpochs, 3> {
                 }
             }
             T fetch_add(T more, std::memory_order) {
-                const T before = Own::fetch_add(more, unless("release of the number", std::memory_order_release));
-                fence_unless("fence of a retirement");
+                reads_pins[explored::this_thread()] = true;
+                const T before = Own::fetch_add(more, std::memory_order_relaxed);
+                fence_unless("fence of a new epoch");
                 return before;
             }
         };
@@ -59,13 +67,14 @@ struct CxxEpochs : rl::test_suite<CxxEpochs, 3> {
 
     std::array<Thing, 2> things{};
     explored::Atomic<size_t> entry{0};
-    Epochs epochs{2};
+    Epochs epochs{3};
 
     void look_up(size_t slot) {
         std::optional<explored::Mutex::Off> off;
         if (slot == 0) {
             off.emplace("lock of pins without a slot");
         }
+        reads_pins[explored::this_thread()] = false;
         const Epochs::Pinned pinned(epochs, slot);
         const size_t word = entry.load(std::memory_order_acquire);
         RL_ASSERT(word == no_thing || things[word].lives.get() == 1);
@@ -76,8 +85,8 @@ struct CxxEpochs : rl::test_suite<CxxEpochs, 3> {
         }
     }
     void retire(size_t word) {
-        const explored::Mutex::Off off("lock of pins without a slot");
-        free(epochs.retire(things[word]));
+        reads_pins[0] = false;
+        free(epochs.retire(things[word], 2));
         free(epochs.free_now());
     }
     void remove() {
@@ -97,6 +106,7 @@ struct CxxEpochs : rl::test_suite<CxxEpochs, 3> {
             look_up(1);
         } else {
             look_up(0);
+            free(epochs.free_now());
         }
     }
 };

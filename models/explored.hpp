@@ -74,6 +74,7 @@ class Mutex {
             own_.lock($);
         }
     }
+    bool try_lock() { return is_off() || own_.try_lock($); }
     void unlock() {
         if (!is_off()) {
             own_.unlock($);

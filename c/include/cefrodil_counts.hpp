@@ -42,7 +42,7 @@ struct Counts {
 namespace inside {
 
 // The numbers of a line. The first three are statuses of a lookup.
-enum Counted : size_t { hits = CEFRODIL_OK, misses = CEFRODIL_ABSENT, busy = CEFRODIL_BUSY, held, evictions, refusals, all_counted };
+enum Counted : size_t { hits = CEFRODIL_OK, misses = CEFRODIL_ABSENT, busy = CEFRODIL_BUSY, held, evictions, refusals, waiting, all_counted };
 
 // What a handle has counted. Only one thread at a time adds to a number alone, and any thread reads. The processor loads cache lines in pairs, so it has a
 // pair of its own.
@@ -84,23 +84,6 @@ class Stalls {
     }
     std::atomic<int64_t> first_{never}, last_{never};
     std::atomic<uint64_t> number_{0};
-};
-
-// Objects that have left a map and wait to be freed. Relaxed: a number says nothing of other memory.
-class Waiting {
-  public:
-    void add(uint64_t objects, uint64_t weight) noexcept {
-        number_.fetch_add(objects, std::memory_order_relaxed);
-        if (weight != 0) {
-            weight_.fetch_add(weight, std::memory_order_relaxed);
-        }
-    }
-    void subtract(uint64_t objects, uint64_t weight) noexcept { add(0 - objects, 0 - weight); }
-    uint64_t number() const noexcept { return number_.load(std::memory_order_relaxed); }
-    uint64_t weight() const noexcept { return weight_.load(std::memory_order_relaxed); }
-
-  private:
-    std::atomic<uint64_t> number_{0}, weight_{0};
 };
 
 // The lines of handles that were opened together.
@@ -149,17 +132,21 @@ class Lines {
         for (const LineGroup *group = last_.load(std::memory_order_acquire); group != nullptr; group = group->before) {
             group->add_to(all);
         }
-        return {all[hits],          all[misses],       all[busy],        all[held],         all[evictions],
-                all[refusals],      stalls_.number(),  stalls_.length(), waiting_.number(), waiting_.weight()};
+        // A thread frees what another one has retired, and the latter's line may have been read before that.
+        const auto number = static_cast<uint64_t>(std::max<int64_t>(0, static_cast<int64_t>(all[waiting])));
+        const uint64_t weight = waiting_weight_.load(std::memory_order_relaxed);
+        return {all[hits],     all[misses],      all[busy],        all[held], all[evictions],
+                all[refusals], stalls_.number(), stalls_.length(), number,    weight};
     }
     Stalls &stalls() noexcept { return stalls_; }
-    Waiting &waiting() noexcept { return waiting_; }
+    // What the objects weigh that have left a map and wait to be freed. Relaxed: a number says nothing of other memory.
+    std::atomic<uint64_t> &waiting_weight() noexcept { return waiting_weight_; }
 
   private:
     std::atomic<LineGroup *> last_{nullptr};
     const Maker maker_{};
     Stalls stalls_{};
-    Waiting waiting_{};
+    std::atomic<uint64_t> waiting_weight_{0};
 };
 
 // A handle's line. A handle that was opened by a call of C has none.

@@ -1,8 +1,9 @@
 // When an object that has left an index may be freed, for cefrodil_object_map.hpp: when no call is left that could have found it.
 //
-// A call that looks objects up is pinned first, and announces how many objects had been retired by then. An object is retired after it has left the
-// index, and gets the next number. A call that is pinned since an earlier number may have found the object. All others can't. map/SAFETY.md of
-// Cefrodil's repository has the argument in full: the same is done there in Rust.
+// A call that looks objects up is pinned first, and announces the epoch. An object is retired after it has left the index, and notes the epoch of that.
+// A call that is pinned since this epoch or an earlier one may have found the object. All others can't. Each look for objects that can be freed begins
+// the next epoch. Each thread that has a slot has a list of what it retired. map/SAFETY.md of Cefrodil's repository has the argument in full: the same
+// is done there in Rust.
 #ifndef CEFRODIL_EPOCHS_HPP
 #define CEFRODIL_EPOCHS_HPP
 
@@ -13,6 +14,7 @@
 #include <cstdint>
 #include <limits>
 #include <mutex>
+#include <numeric>
 #include <vector>
 
 namespace cefrodil {
@@ -22,14 +24,14 @@ namespace inside {
 // What an object has that is retired.
 struct Retired {
     Retired *next = nullptr;
-    uint64_t number = 0;
+    uint64_t epoch = 0;
 };
 
 // The calls that are pinned, and the objects that wait for them.
 template <class Parts> class EpochsOf {
   public:
     // For threads with so many slots.
-    explicit EpochsOf(size_t slots) : pins_(slots) {}
+    explicit EpochsOf(size_t slots) : pins_(slots), lists_(slots) {}
     EpochsOf(const EpochsOf &) = delete;
     EpochsOf &operator=(const EpochsOf &) = delete;
 
@@ -42,7 +44,7 @@ template <class Parts> class EpochsOf {
                 epochs_.share(*this);
             } else if (Pin &pin = epochs_.pins_[slot_]; pin.depth++ == 0) {
                 // Sequentially consistent, so that it comes before the lookups of this call.
-                pin.since.store(epochs_.retired_.load(std::memory_order_seq_cst), std::memory_order_seq_cst);
+                pin.since.store(epochs_.epoch_.load(std::memory_order_seq_cst), std::memory_order_seq_cst);
             }
         }
         Pinned(const Pinned &) = delete;
@@ -60,29 +62,53 @@ template <class Parts> class EpochsOf {
         friend EpochsOf;
         EpochsOf &epochs_;
         const size_t slot_;
-        // Without a slot: its number, and its place among the others. With one they have no value.
+        // Without a slot: its epoch, and its place among the others. With one they have no value.
         uint64_t since_;
         Pinned *next_, **link_;
     };
 
-    // Retires an object, which has left the index by a call that returned it. Returns those that may be freed now, each with the next one.
-    [[nodiscard]] Retired *retire(Retired &object) noexcept {
-        const std::lock_guard<typename Parts::Mutex> guard(lock_);
-        object.number = retired_.fetch_add(1, std::memory_order_seq_cst);
-        object.next = nullptr;
-        *last_ = &object;
-        last_ = &object.next;
-        waiting_++;
-        return waiting_ < look_at_ ? nullptr : take_free();
+    // Retires an object, which has left the index by a call that returned it: by the thread that has this slot, or by one without a slot. Returns those
+    // that may be freed now, each with the next one.
+    [[nodiscard]] Retired *retire(Retired &object, size_t slot) noexcept {
+        uint64_t end = 0;
+        Retired *free = nullptr;
+        {
+            List &own = lists_[slot];
+            const Guard guard(own.lock);
+            own.add(object, epoch_.load(std::memory_order_seq_cst));
+            if (own.length < own.look_at) {
+                return nullptr;
+            }
+            end = begin_epoch();
+            free = own.take_free(end, free);
+        }
+        // And what waits in another list, whose thread may have ended.
+        List &other = lists_[other_.fetch_add(1, std::memory_order_relaxed) % lists_.size()];
+        const std::unique_lock<typename Parts::Mutex> guard(other.lock, std::try_to_lock);
+        return guard ? other.take_free(end, free) : free;
     }
     // Returns the objects that may be freed now.
     [[nodiscard]] Retired *free_now() noexcept {
-        const std::lock_guard<typename Parts::Mutex> guard(lock_);
-        return take_free();
+        const uint64_t end = begin_epoch();
+        Retired *free = nullptr;
+        for (List &list : lists_) {
+            const Guard guard(list.lock);
+            free = list.take_free(end, free);
+        }
+        return free;
+    }
+    // How many objects wait.
+    uint64_t waiting() noexcept {
+        return std::accumulate(lists_.begin(), lists_.end(), uint64_t(0), [](uint64_t sum, List &list) {
+            const Guard guard(list.lock);
+            return sum + list.length;
+        });
     }
 
   private:
-    // So many objects wait before a call looks whether it can free them.
+    using Guard = std::lock_guard<typename Parts::Mutex>;
+
+    // So many objects of a thread wait before it looks whether it can free them.
     static constexpr size_t batch = 32;
     // No call is pinned.
     static constexpr uint64_t none = std::numeric_limits<uint64_t>::max();
@@ -94,10 +120,37 @@ template <class Parts> class EpochsOf {
         size_t depth = 0;
     };
 
+    // What one thread has retired, in the order of the epochs. The first list is that of all threads without a slot.
+    struct alignas(128) List {
+        typename Parts::Mutex lock{};
+        Retired *first = nullptr, **last = &first;
+        size_t length = 0, look_at = batch; // at this length, a call looks which can be freed
+
+        void add(Retired &object, uint64_t epoch) noexcept {
+            object.epoch = epoch;
+            object.next = nullptr;
+            *last = &object;
+            last = &object.next;
+            length++;
+        }
+        // Takes out those of the epochs before this one. Returns them, and then the others.
+        Retired *take_free(uint64_t end, Retired *others) noexcept {
+            Retired *free = first, **link = &free;
+            for (; *link != nullptr && (*link)->epoch < end; link = &(*link)->next) {
+                length--;
+            }
+            first = *link;
+            last = first == nullptr ? &first : last;
+            *link = others;
+            look_at = length + batch;
+            return free;
+        }
+    };
+
     // Not compiled into the callers, which are quicker then with a slot.
     [[gnu::cold]] [[gnu::noinline]] void share(Pinned &call) noexcept {
-        const std::lock_guard<typename Parts::Mutex> guard(sharing_);
-        call.since_ = retired_.load(std::memory_order_seq_cst);
+        const Guard guard(sharing_);
+        call.since_ = epoch_.load(std::memory_order_seq_cst);
         call.next_ = shared_, call.link_ = &shared_;
         if (shared_ != nullptr) {
             shared_->link_ = &call.next_;
@@ -105,13 +158,19 @@ template <class Parts> class EpochsOf {
         shared_ = &call;
     }
     [[gnu::cold]] [[gnu::noinline]] void unshare(Pinned &call) noexcept {
-        const std::lock_guard<typename Parts::Mutex> guard(sharing_);
+        const Guard guard(sharing_);
         *call.link_ = call.next_;
         if (call.next_ != nullptr) {
             call.next_->link_ = call.link_;
         }
     }
-    // The smallest number that a pinned call has announced.
+    // Begins an epoch. Returns the first one whose objects can't be freed: one that a pinned call has announced, or the one that has begun, in which
+    // calls may be pinned that were not seen.
+    uint64_t begin_epoch() noexcept {
+        const uint64_t begun = epoch_.fetch_add(1, std::memory_order_seq_cst) + 1;
+        return std::min(pinned_since(), begun);
+    }
+    // The first epoch that a pinned call has announced.
     uint64_t pinned_since() noexcept {
         uint64_t least = shared_since();
         for (const Pin &pin : pins_) {
@@ -120,39 +179,20 @@ template <class Parts> class EpochsOf {
         return least;
     }
     uint64_t shared_since() noexcept {
-        const std::lock_guard<typename Parts::Mutex> guard(sharing_);
+        const Guard guard(sharing_);
         uint64_t least = none;
         for (const Pinned *call = shared_; call != nullptr; call = call->next_) {
             least = std::min(least, call->since_);
         }
         return least;
     }
-    // They wait in the order of their numbers.
-    Retired *take_free() noexcept {
-        const uint64_t pinned = pinned_since();
-        Retired *const free = first_;
-        Retired **end = &first_;
-        while (*end != nullptr && (*end)->number < pinned) {
-            end = &(*end)->next;
-            waiting_--;
-        }
-        look_at_ = waiting_ + batch;
-        if (end == &first_) {
-            return nullptr;
-        }
-        first_ = *end;
-        *end = nullptr;
-        last_ = first_ == nullptr ? &first_ : last_;
-        return free;
-    }
-
-    typename Parts::template Atomic<uint64_t> retired_{0};
+    typename Parts::template Atomic<uint64_t> epoch_{0};
+    // The list that a thread looks at beside its own. Relaxed: a guess.
+    typename Parts::template Atomic<uint64_t> other_{0};
     std::vector<Pin> pins_;
+    std::vector<List> lists_;
     typename Parts::Mutex sharing_{};
     Pinned *shared_ = nullptr;
-    typename Parts::Mutex lock_{};
-    Retired *first_ = nullptr, **last_ = &first_;
-    size_t waiting_ = 0, look_at_ = batch;
 };
 
 using Epochs = EpochsOf<Threads>;

@@ -70,8 +70,7 @@ template <class K, class V, class Hash, class Equal> struct KeyedObjects {
             if (seen.status != Status::absent) {
                 return Entries::refused(seen.status == Status::ok ? Status::present : seen.status);
             }
-            Changed put = seen.since != 0 ? objects.put_over(known.index, seen.since, object, !is_computed)
-                                          : objects.put_absent(known.index, object, is_computed);
+            Changed put = objects.put_new(known.index, seen.since, object, is_computed);
             if (!is_lost(put.status)) {
                 if (put.renewed) {
                     objects.gave_way(put);
@@ -93,7 +92,7 @@ template <class K, class V, class Hash, class Equal> struct KeyedObjects {
         }
         // A flight may have begun while the function ran.
         flights_of(known).outdate(known);
-        return object ? objects.put_over(known.index, seen.since, object) : Entries::refused(Status::no_memory);
+        return object ? objects.replace(known.index, seen.since, object) : Entries::refused(Status::no_memory);
     }
     template <class Function>
     [[gnu::always_inline]] Own made_of(const Identity &known, Key key, const Life &life, Function &function, uint64_t generation,

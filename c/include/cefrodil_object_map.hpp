@@ -36,8 +36,8 @@
 // This header is plain C++ and is not proved. The index below it is. The map's own part is an argument by hand: map/SAFETY.md of Cefrodil's repository.
 // Whoever finds an object keeps it until its call ends. An object that has left the map is freed by a later call that writes, once no call can have
 // found it. So a value's destructor runs in any thread that writes, and under no lock of the map. While a function of `look` runs, all objects that
-// leave the map wait for it, above any bound. Copy a std::shared_ptr out of it for anything that may block. `waiting` and `waiting_weight` say how many
-// objects wait, and `meter` does.
+// leave the map wait for it, above any bound, and so do up to 32 of each thread that left shortly before. Copy a std::shared_ptr out of it for anything
+// that may block. `waiting` and `waiting_weight` say how many objects wait, and `meter` does.
 //
 // Keys are compared. Two keys whose hashes of 64 bits are the same can't be in the map at once: the later one replaces the earlier.
 //
@@ -263,8 +263,8 @@ template <class K, class V, class Hash = SipHash<K>, class Equal = std::equal_to
     // be freed. Without a weigher 0.
     uint64_t weight() const noexcept { return inner_ ? inner_->objects.weight() : 0; }
     // How many objects have left the map and wait to be freed, and what they weigh. `meter` has the same.
-    uint64_t waiting() const noexcept { return inner_ ? inner_->objects.waiting().number() : 0; }
-    uint64_t waiting_weight() const noexcept { return inner_ ? inner_->objects.waiting().weight() : 0; }
+    uint64_t waiting() const noexcept { return inner_ ? inner_->objects.waiting() : 0; }
+    uint64_t waiting_weight() const noexcept { return inner_ ? inner_->objects.waiting_weight() : 0; }
     // What the lookups of this map came to, each counted once: the calls of look, find, get, contains and find_or_compute. As by cefrodil::map.
     Meter meter() const noexcept { return inner_ ? inner_->objects.turns().meter() : Meter(nullptr); }
 

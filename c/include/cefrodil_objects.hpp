@@ -57,7 +57,7 @@ template <class K, class V> class Objects {
         const uint32_t room = each != 0 && share_of(more, shards) != 0 ? more : options.entries;
         const Status status = turns_.open(room, shards, options.passes, options.tries, mix);
         is_open_ = status == Status::ok;
-        waiting_ = is_open_ && turns_.lines() ? &turns_.lines()->waiting() : &uncounted_;
+        waiting_weight_ = is_open_ && turns_.lines() ? &turns_.lines()->waiting_weight() : &uncounted_;
         const auto grow = [&] {
             if (each != 0) {
                 weights_.open(shards, each, each, true);
@@ -151,23 +151,20 @@ template <class K, class V> class Objects {
             return counted(slot, slot.handle.try_swap(index, object->word()));
         });
     }
-    // Puts only where nothing is. present: something is. What was computed keeps the generation in which that began.
-    Changed put_absent(uint64_t index, Own &object, bool is_computed) noexcept {
+    // Puts where nothing is, if the moment is 0, or else over what has ended and was put then. present: something is there. stale: the object was
+    // computed in a generation that has ended.
+    Changed put_new(uint64_t index, uint64_t since, Own &object, bool is_computed) noexcept {
         return offered(index, object, [&](Slot<1> &slot) {
-            if (!is_computed) {
-                object->end_making(object->kind(), generation_.now());
+            if (!begins(*object, is_computed)) {
+                return refusal<Swapped<1>>(Status::stale);
             }
-            return counted(slot, slot.handle.try_swap_if_absent(index, object->word()));
+            return since != 0 ? slot.handle.try_swap_if(index, since, object->word())
+                              : counted(slot, slot.handle.try_swap_if_absent(index, object->word()));
         });
     }
-    // Puts over what was put at that moment. `is_new`: over what has ended, in the generation of now.
-    Changed put_over(uint64_t index, uint64_t since, Own &object, bool is_new = false) noexcept {
-        return offered(index, object, [&](Slot<1> &slot) {
-            if (is_new) {
-                object->end_making(object->kind(), generation_.now());
-            }
-            return slot.handle.try_swap_if(index, since, object->word());
-        });
+    // Puts over what was put at that moment, in the generation that the object has.
+    Changed replace(uint64_t index, uint64_t since, Own &object) noexcept {
+        return offered(index, object, [&](Slot<1> &slot) { return slot.handle.try_swap_if(index, since, object->word()); });
     }
     // What gave way is no older value of the key: it is another key's, or had ended.
     void gave_way(Changed &change) noexcept {
@@ -178,7 +175,7 @@ template <class K, class V> class Objects {
     }
     // Removes what was put at that moment.
     Changed take(uint64_t index, uint64_t since, Left why = Left::removed) noexcept {
-        return removed(why, [&](Slot<1> &slot) { return slot.handle.try_take_if(index, since); });
+        return removed(index, why, [&](Slot<1> &slot) { return slot.handle.try_take_if(index, since); });
     }
     // Ends a change, once: the listener hears of what gave way, and then it is retired. Then objects leave until the others are within the bound on
     // weights, and `evicted` is set if any did. Call it when the caller has no pin of its own any more.
@@ -200,7 +197,7 @@ template <class K, class V> class Objects {
         std::vector<uint64_t> list;
         Status status = turns_.repeated([&](Slot<1> &slot) { return slot.handle.try_entries(list); });
         for (size_t at = 0; at < list.size() && status == Status::ok; at += 2) {
-            status = end(removed(Left::removed, [&](Slot<1> &slot) { return slot.handle.try_take(list[at]); }));
+            status = end(removed(list[at], Left::removed, [&](Slot<1> &slot) { return slot.handle.try_take(list[at]); }));
             status = status == Status::absent ? Status::ok : status;
         }
         return status;
@@ -217,7 +214,9 @@ template <class K, class V> class Objects {
         return status;
     }
     size_t free_now() noexcept { return free(epochs_.free_now()); }
-    const Waiting &waiting() const noexcept { return *waiting_; }
+    // How many objects have left and wait to be freed, and what they weigh.
+    uint64_t waiting() noexcept { return epochs_.waiting(); }
+    uint64_t waiting_weight() const noexcept { return waiting_weight_->load(std::memory_order_relaxed); }
     // The weights of all objects that are there, with those that calls are about to put. Without a weigher 0.
     uint64_t weight() const noexcept { return rules_.weigher ? weights_.sum() : 0; }
     uint64_t capacity() const noexcept { return weights_ && !rules_.weigher ? weights_.bound() : turns_.capacity(); }
@@ -231,16 +230,26 @@ template <class K, class V> class Objects {
         slot.add(tried.status == Status::ok && !tried.old ? 1 : 0);
         return tried;
     }
-    template <class Take> Changed removed(Left why, Take take) noexcept {
+    // With the key's lock. The object gets the generation of now, or, if it was computed, must have that.
+    bool begins(Each &object, bool is_computed) noexcept {
+        const uint64_t now = generation_.now();
+        if (!is_computed) {
+            object.end_making(object.kind(), now);
+        }
+        return object.generation() == now;
+    }
+    template <class Take> Changed removed(uint64_t index, Left why, Take take) noexcept {
         if (is_too_deep()) {
             return refused(Status::too_deep);
         }
-        const Swapped<1> taken = turns_.repeated([&](Slot<1> &slot) {
+        const auto removal = [&](Slot<1> &slot) {
             const Swapped<1> tried = take(slot);
             slot.add(tried.status == Status::ok ? -1 : 0);
             slot.count(evictions, tried.status == Status::ok && why == Left::evicted ? 1 : 0);
             return tried;
-        });
+        };
+        // Nobody can tell at which moment a key was evicted.
+        const Swapped<1> taken = why == Left::evicted ? turns_.repeated(removal) : turns_.locked(index, removal);
         Each *const old = taken.old ? Each::at((*taken.old)[0]) : nullptr;
         if (weights_ && old != nullptr) {
             leave(Heavy::of(*old), why == Left::evicted);
@@ -331,8 +340,16 @@ template <class K, class V> class Objects {
             rules_.listener(change.old->key, change.old->value, has_ended(*change.old, generation_.now()) ? Left::expired : change.why);
             listeners()--;
         }
-        waiting_->add(1, weight_of(*change.old));
-        static_cast<void>(free(epochs_.retire(*change.old)));
+        Slot<1> *const slot = turns_.own_slot();
+        count_waiting(slot, *change.old, 1);
+        static_cast<void>(free(epochs_.retire(*change.old, turns_.place_of(slot))));
+    }
+    // Counts one object more or less.
+    void count_waiting(Slot<1> *slot, Each &object, int64_t more) noexcept {
+        turns_.count(slot, inside::waiting, static_cast<uint64_t>(more));
+        if (rules_.weigher) {
+            waiting_weight_->fetch_add(static_cast<uint64_t>(more) * Heavy::of(object).weight, std::memory_order_relaxed);
+        }
     }
     // Removes objects until the others are within the bound: `next` first, if there is one. Whether any was removed. It gives up if there is none left, or
     // if other threads keep it from each try: then a later put goes on.
@@ -357,7 +374,7 @@ template <class K, class V> class Objects {
     }
     // Frees what it can if more than a sixteenth of the bound waits. Without a weigher nothing weighs.
     void free_much() noexcept {
-        if (rules_.weigher && waiting_->weight() > weights_.bound() / 16) {
+        if (rules_.weigher && waiting_weight() > weights_.bound() / 16) {
             static_cast<void>(free_now());
         }
     }
@@ -376,11 +393,10 @@ template <class K, class V> class Objects {
         for (Retired *next = nullptr; first != nullptr; first = next, count++) {
             next = first->next;
             const Own object(static_cast<Each *>(first));
-            waiting_->subtract(1, weight_of(*object));
+            count_waiting(turns_.own_slot(), *object, -1);
         }
         return count;
     }
-    uint64_t weight_of(Each &object) const noexcept { return rules_.weigher ? Heavy::of(object).weight : 0; }
     // Whether the call comes from so many listeners within each other that it is refused.
     bool is_too_deep() const noexcept { return rules_.listener && listeners() >= most_listeners; }
 
@@ -391,8 +407,8 @@ template <class K, class V> class Objects {
     const Rules rules_;
     const Clock clock_;
     PartedWeights weights_{};
-    // What has left and waits to be freed.
-    Waiting uncounted_{}, *waiting_ = &uncounted_;
+    // That of what has left and waits to be freed. All puts of a map with a weigher share a lock, so they may share this.
+    std::atomic<uint64_t> uncounted_{0}, *waiting_weight_ = &uncounted_;
 };
 
 } // namespace inside

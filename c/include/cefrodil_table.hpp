@@ -135,7 +135,7 @@ template <class V, class Times = Timeless> class Table : private Packing<V, Time
             }
         }
     }
-    // The same, as an entry of this generation. stale: a newer one has begun, and what is there may be of it.
+    // The same, as an entry of this generation. stale: a newer one has begun.
     Stored put_if_absent_in(uint64_t generation, const Identity &key, const V &value) noexcept {
         return put_new(key, value, Times::ends({}), [generation] { return generation; });
     }
@@ -299,10 +299,14 @@ template <class V, class Times = Timeless> class Table : private Packing<V, Time
     Words pack_in(uint64_t generation, const Identity &key, const Ends &ends, const V &value) const noexcept {
         return pack(in_generation(key, generation), Times::in_generation(ends, generation), value);
     }
-    // Puts if the key is absent, as an entry of the generation that `begun()` says at each try.
+    // Puts if the key is absent, as an entry of the generation that `begun()` says at each try. stale: that has ended.
     template <class Begun> Stored put_new(const Identity &key, const V &value, const Ends &ends, const Begun &begun) noexcept {
+        const auto give = [&] {
+            const uint64_t generation = begun();
+            return generation == generation_.now() ? std::optional<Words>(pack_in(generation, key, ends, value)) : std::nullopt;
+        };
         for (uint32_t repeat = 0;; repeat++) {
-            const Stored put = stored(tiers_.put_if_absent(key.index, [&] { return pack_in(begun(), key, ends, value); }));
+            const Stored put = stored(tiers_.put_if_absent(key.index, give));
             if (put.status != Status::present) {
                 return put;
             }

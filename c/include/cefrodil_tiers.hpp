@@ -81,23 +81,29 @@ template <size_t Words> class Tiers {
     template <class Give> Written put(uint64_t key, const Give &give) noexcept {
         return between_ ? put_in_two(key, give) : turns_.write(key, [&](Handle<Words> &handle) { return handle.try_put(key, give()); });
     }
+    // The same if no table has the key. If there is nothing to put, that is stale.
     template <class Give> Written put_if_absent(uint64_t key, const Give &give) noexcept {
-        return between_ ? put_in_two_if_absent(key, give)
-                        : turns_.write(key, [&](Handle<Words> &handle) { return handle.try_put_if_absent(key, give()); });
+        if (between_) {
+            return put_in_two_if_absent(key, give);
+        }
+        return turns_.write(key, [&](Handle<Words> &handle) {
+            const std::optional<Value> value = give();
+            return value ? handle.try_put_if_absent(key, *value) : refusal<Written>(Status::stale);
+        });
     }
     // `since` is of `get`.
     Written put_if(uint64_t key, uint64_t since, const Value &value) noexcept {
         if (!between_) {
             return turns_.write(key, [&](Handle<Words> &handle) { return handle.try_put_if(key, since, value); });
         }
-        return change_if(key, since, refused(Status::held), refused(Status::changed), [&](Slot<Words> &, Handle<Words> &handle, uint64_t moment) {
+        return change_if(key, since, refusal<Written>(Status::held), refusal<Written>(Status::changed), [&](Slot<Words> &, Handle<Words> &handle, uint64_t moment) {
             return handle.try_put_if(key, moment, value);
         });
     }
     // `since` is of `get`.
     Status take_if(uint64_t key, uint64_t since) noexcept {
         if (!between_) {
-            return turns_.removal([&](Handle<Words> &handle) { return handle.try_take_if(key, since).status; });
+            return turns_.removal(key, [&](Handle<Words> &handle) { return handle.try_take_if(key, since).status; });
         }
         return change_if(key, since, Status::held, Status::changed, [&](Slot<Words> &slot, Handle<Words> &handle, uint64_t moment) {
             return removed(slot, handle, between_->lines.of(key), handle.try_take_if(key, moment).status);
@@ -106,7 +112,7 @@ template <size_t Words> class Tiers {
     // Removes the key from both tables.
     Status remove(uint64_t key) noexcept {
         if (!between_) {
-            return turns_.removal([&](Handle<Words> &handle) { return handle.try_remove(key).status; });
+            return turns_.removal(key, [&](Handle<Words> &handle) { return handle.try_remove(key).status; });
         }
         return turns_.repeated([&](Slot<Words> &slot) {
             return in_place(slot, key, Status::held, [&](Place at, const Spot &spot) {
@@ -135,8 +141,6 @@ template <size_t Words> class Tiers {
     static constexpr uint64_t of_small = uint64_t(1) << 63;
 
     enum class Place { main, small, nowhere };
-
-    static Written refused(Status status) noexcept { return {status, std::nullopt, 0, 0, false}; }
 
     // Looks a key up by one slot: ok, absent, busy; present if the small table has it; changed if a key has moved meanwhile, perhaps this one. Then
     // it is in the main table.
@@ -270,7 +274,7 @@ template <size_t Words> class Tiers {
         spot.fetch();
         return turns_.repeated([&](Slot<Words> &slot) {
             const KeyLock::Guard locked = spot.lock();
-            return locked ? put_locked(slot, spot, give()) : refused(Status::held);
+            return locked ? put_locked(slot, spot, give()) : refusal<Written>(Status::held);
         });
     }
     Written put_locked(Slot<Words> &slot, const Spot &spot, const Value &value) noexcept {
@@ -279,14 +283,18 @@ template <size_t Words> class Tiers {
         }
         const std::optional<bool> in_main = is_in_main(slot, spot);
         if (!in_main) {
-            return refused(Status::held);
+            return refusal<Written>(Status::held);
         }
         return *in_main ? put_main(slot, spot, value) : put_beside_main(slot, spot, value);
     }
     template <class Give> [[gnu::noinline]] Written put_in_two_if_absent(uint64_t key, const Give &give) noexcept {
         return turns_.repeated([&](Slot<Words> &slot) {
-            return in_place(slot, key, refused(Status::held), [&](Place at, const Spot &spot) {
-                return at == Place::nowhere ? put_beside_main(slot, spot, give()) : refused(Status::present);
+            return in_place(slot, key, refusal<Written>(Status::held), [&](Place at, const Spot &spot) {
+                if (at != Place::nowhere) {
+                    return refusal<Written>(Status::present);
+                }
+                const std::optional<Value> value = give();
+                return value ? put_beside_main(slot, spot, *value) : refusal<Written>(Status::stale);
             });
         });
     }
@@ -297,7 +305,7 @@ template <size_t Words> class Tiers {
         if (is_noted || !is_full) {
             const std::optional<bool> in_small = is_in_small(slot, spot);
             if (!in_small || !*in_small) {
-                const Written put = in_small ? put_main(slot, spot, value) : refused(Status::held);
+                const Written put = in_small ? put_main(slot, spot, value) : refusal<Written>(Status::held);
                 // The next try finds the note again.
                 if (is_noted && put.status == Status::held) {
                     spot.note();

@@ -9,6 +9,7 @@
 #include <chrono>
 #include <memory>
 #include <thread>
+#include <type_traits>
 
 namespace cefrodil {
 
@@ -43,6 +44,17 @@ template <class Call> Status within(uint32_t most, Status status, const Call &ca
         status = call();
     }
     return status;
+}
+
+// The answer of a call that did nothing.
+template <class Answer> Answer refusal(Status status) noexcept {
+    if constexpr (std::is_same_v<Answer, Status>) {
+        return status;
+    } else {
+        Answer answer{};
+        answer.status = status;
+        return answer;
+    }
 }
 
 // What a lookup came to. ok: the moment of the put of what it found.
@@ -96,8 +108,9 @@ template <size_t Words> class Turns {
     Slot<Words> *own_slot() noexcept { return passes_.own_slot(); }
     // Counts lookups of the map, by such a slot.
     [[gnu::always_inline]] void count(Slot<Words> *own, Status status, uint64_t number = 1) noexcept {
-        passes_.count(own, static_cast<Counted>(status), number);
+        count(own, static_cast<Counted>(status), number);
     }
+    [[gnu::always_inline]] void count(Slot<Words> *own, Counted what, uint64_t number) noexcept { passes_.count(own, what, number); }
     // Makes a call by this thread's slot, or by the shared one.
     template <class Call> auto call(Call made) noexcept { return passes_.call(made); }
     // The same, until it is neither busy nor held. An answer may be large, and copies of it would cost, so the loop is not that of `within`.
@@ -126,7 +139,7 @@ template <size_t Words> class Turns {
     template <class Call> auto locked(uint64_t key, Call call) noexcept {
         return repeated([&](Slot<Words> &slot) {
             const KeyLock::Guard guard = locks_.of(key).lock();
-            return guard ? call(slot) : held_of<decltype(call(slot))>();
+            return guard ? call(slot) : refusal<decltype(call(slot))>(Status::held);
         });
     }
     // Makes a put with the key's lock, and counts a new key.
@@ -137,9 +150,9 @@ template <size_t Words> class Turns {
             return tried;
         });
     }
-    // Makes a removal, and counts it.
-    template <class Removal> Status removal(Removal make) noexcept {
-        return repeated([&](Slot<Words> &slot) {
+    // Makes a removal with the key's lock, and counts it.
+    template <class Removal> Status removal(uint64_t key, Removal make) noexcept {
+        return locked(key, [&](Slot<Words> &slot) {
             const Status status = make(slot.handle);
             slot.add(status == Status::ok ? -1 : 0);
             return status;
@@ -159,12 +172,6 @@ template <size_t Words> class Turns {
     uint64_t shared_calls() const noexcept { return passes_.shared_calls(); }
 
   private:
-    // The answer of a call that another thread keeps from its lock.
-    template <class Written> static Written held_of() noexcept {
-        Written answer{};
-        answer.status = Status::held;
-        return answer;
-    }
     // Counts a call that ends without an answer, if it slept.
     [[gnu::cold]] [[gnu::noinline]] void give_up(uint32_t most) noexcept {
         if (lines() && most > sleeps_from) {

@@ -1,19 +1,27 @@
 // Calls that another one meets in the middle: between a put's call of the index and its end, between an entry's end and its update, and before a key's
-// lock. What such a put or update made is not found a second time, and what was erased does not come back.
+// lock or under it. What such a put or update made is not found a second time, what was erased does not come back, and a put that succeeds is found.
 #include "cefrodil.h"
 #include <functional>
 #include <utility>
 
 // What this thread does after its next put into the index.
 static thread_local std::function<void()> then;
-static cefrodil_status ended(cefrodil_status status) {
-    if (then) {
-        std::exchange(then, nullptr)();
+// What it does after its next lookup, and before its next put where nothing is.
+static thread_local std::function<void()> looked, putting;
+static void meet(std::function<void()> &act) {
+    if (act) {
+        std::exchange(act, nullptr)();
     }
+}
+static cefrodil_status ended(cefrodil_status status, std::function<void()> &act) {
+    meet(act);
     return status;
 }
-#define cefrodil_put_of_width(...) ended(cefrodil_put_of_width(__VA_ARGS__))
-#define cefrodil_swap(...) ended(cefrodil_swap(__VA_ARGS__))
+#define cefrodil_put_of_width(...) ended(cefrodil_put_of_width(__VA_ARGS__), then)
+#define cefrodil_swap(...) ended(cefrodil_swap(__VA_ARGS__), then)
+#define cefrodil_get_or_turn_of_width(...) ended(cefrodil_get_or_turn_of_width(__VA_ARGS__), looked)
+#define cefrodil_put_if_absent(...) (meet(putting), cefrodil_put_if_absent(__VA_ARGS__))
+#define cefrodil_swap_if_absent(...) (meet(putting), cefrodil_swap_if_absent(__VA_ARGS__))
 #include "cefrodil_object_map.hpp"
 #include "cefrodil_timed_map.hpp"
 #include "must.h"
@@ -99,14 +107,12 @@ static void updates_of_what_has_ended() {
     update_of_what_has_ended(objects);
 }
 
-// What happens when a map next asks for the time.
-static std::function<void()> act;
+// What happens when a call of this thread next asks for the time.
+static thread_local std::function<void()> act;
 static void open_acting(Objects &map) {
     Objects::Rules rules;
     rules.lives.clock = [] {
-        if (act) {
-            std::exchange(act, nullptr)();
-        }
+        meet(act);
         return clock_now();
     };
     now = 0;
@@ -137,10 +143,104 @@ static void insert_over_what_has_ended_since() {
     MUST(map.insert_for(1, 11, std::chrono::hours(1)).status == Status::ok && !act && map.find(1) == 11u);
 }
 
+// Each key is its own number, by which the map's flights are told apart.
+struct Same {
+    cefrodil::HashPair operator()(const uint64_t &key, const cefrodil::HashSecret &) const noexcept { return {key, key}; }
+};
+
+// While a call computes a value, another one puts a value of the same key. The latter is invalidated and taken out. The former is not put then, though its
+// flight is not outdated so far: a flight of key 0 is landing, so the invalidation waits.
+template <class Any> static void computed_before_an_end(Any &map) {
+    std::atomic<int> step{0};
+    const auto wait_for = [&](int least) {
+        while (step < least) {
+            std::this_thread::yield();
+        }
+    };
+    // So calls ask for the time when they have looked.
+    MUST(map.insert_for(0, 1, nanoseconds(0)).status == Status::ok && map.insert_for(1, 2, nanoseconds(0)).status == Status::ok);
+    // It has outdated no flight.
+    std::thread other([&] {
+        act = [&] { step = 1, wait_for(2); };
+        MUST(map.insert(1, 10).status == Status::ok);
+    });
+    wait_for(1);
+    std::thread landing, invalidating;
+    const auto land = [&] {
+        act = [&] { step = 3, wait_for(4); };
+        return uint64_t(3);
+    };
+    const auto compute = [&] {
+        step = 2;
+        other.join();
+        MUST(map.find(1) == 10u);
+        landing = std::thread([&] { MUST(map.find_or_compute(0, land).computed); });
+        wait_for(3);
+        invalidating = std::thread([&] { MUST(map.invalidate_all() == Status::ok); });
+        while (map.find(1)) {
+            std::this_thread::yield();
+        }
+        MUST(map.erase_expired() == Status::ok && map.size() == 0);
+        return uint64_t(11);
+    };
+    MUST(map.find_or_compute(1, compute).status == Status::stale && !map.find(1) && map.size() == 0);
+    step = 4;
+    landing.join();
+    invalidating.join();
+}
+
+// The key's entry is invalidated, and another call would take it out, when an insert is about to put. It may have to wait for the insert, and gives up.
+template <class Any> static void take_out_before_put(Any &map) {
+    putting = [&map] {
+        const auto take_out = [&map] {
+            const Status status = map.invalidate_all() == Status::ok ? map.erase_expired() : Status::closed;
+            MUST(status == Status::ok || status == Status::held);
+        };
+        std::thread(take_out).join();
+    };
+}
+// If the insert says `ok`, the key has its value.
+template <class Any> static void insert_before_an_end(Any &map) {
+    const Status status = map.insert(2, 11).status;
+    MUST(!putting && (status != Status::ok || map.find(2) == 11u));
+}
+
+static void what_has_ended_is_taken_out_before_a_put() {
+    cefrodil::Lives lives;
+    lives.clock = [] {
+        meet(act);
+        return clock_now();
+    };
+    cefrodil::MapOptions options{100, 1};
+    options.tries = 3;
+    for (const bool small_table : {false, true}) {
+        options.small_table = small_table;
+        cefrodil::timed_map<uint64_t, uint64_t, Same> timed;
+        cefrodil::object_map<uint64_t, uint64_t, Same> objects;
+        cefrodil::ObjectRules<uint64_t, uint64_t> rules;
+        rules.lives = lives;
+        MUST(timed.open(options, lives) == Status::ok && objects.open(options, rules) == Status::ok);
+        computed_before_an_end(timed);
+        computed_before_an_end(objects);
+        if (!small_table) {
+            MUST(timed.insert(2, 10).status == Status::ok);
+            take_out_before_put(timed);
+            insert_before_an_end(timed);
+        }
+        // Nothing is there when it looks.
+        looked = [&] {
+            MUST(objects.insert(2, 10).status == Status::ok);
+            take_out_before_put(objects);
+        };
+        insert_before_an_end(objects);
+    }
+}
+
 int main() {
     puts_that_are_invalidated();
     updates_of_what_has_ended();
     computed_over_what_is_taken_out();
     insert_over_what_has_ended_since();
+    what_has_ended_is_taken_out_before_a_put();
     return outcome("crossed");
 }

@@ -66,6 +66,24 @@ static void few_wait_after_a_look() {
     MUST(map.waiting() < 40);
 }
 
+// What a thread has left behind is freed by another one that goes on to write.
+static void what_a_thread_leaves_is_freed() {
+    Map map;
+    MUST(map.open({1000, 1, 4}) == Status::ok);
+    for (uint64_t key = 0; key < 300; key++) {
+        MUST(map.insert(key, uint64_t(1)).status == Status::ok);
+    }
+    const auto erase = [&](uint64_t first, uint64_t end) {
+        for (uint64_t key = first; key < end; key++) {
+            MUST(map.erase(key) == Status::ok);
+        }
+    };
+    std::thread([&] { erase(0, 20); }).join();
+    MUST(map.waiting() == 20 && map.meter().counts().waiting == 20);
+    erase(20, 20 + 4 * 32);
+    MUST(map.waiting() < 20 && map.meter().counts().waiting == map.waiting());
+}
+
 // Another thread has erased the object that a put has chosen to leave. The put goes on with the next one.
 static void a_victim_is_erased_meanwhile() {
     Map map;
@@ -130,6 +148,7 @@ static void listeners_that_erase() {
 int main() {
     what_waits_is_counted();
     few_wait_after_a_look();
+    what_a_thread_leaves_is_freed();
     a_victim_is_erased_meanwhile();
     closed_maps_leave_nothing();
     listeners_that_put();

@@ -197,9 +197,9 @@ static void stays_while_it_is_used() {
         MUST(mine.lives() && mine.number() == 10 && living == before + 200);
     });
     MUST(status == Status::ok && map.free_unused() == 201 && living == before - 1);
-    // A lookup that began later keeps none of them.
-    MUST(map.insert(2, Tracked(20)).status == Status::ok && map.erase(2) == Status::ok);
-    MUST(map.insert(3, Tracked(30)).status == Status::ok);
+    // A lookup that began after a look for such objects keeps none of them.
+    MUST(map.insert(2, Tracked(20)).status == Status::ok && map.insert(3, Tracked(30)).status == Status::ok);
+    MUST(map.look(3, [&](const Tracked &) { MUST(map.erase(2) == Status::ok && map.free_unused() == 0); }) == Status::ok);
     MUST(map.look(3, [&](const Tracked &) { MUST(map.free_unused() == 1); }) == Status::ok);
 }
 

@@ -1,7 +1,8 @@
 //! A value that is computed where the map has none.
 use super::inner::ObjectInner;
 use super::map::ObjectMap;
-use super::object::Object;
+use super::object::{Held, Object};
+use super::pinned::Over;
 use super::put::Fail;
 use crate::error::{GetError, UpdateError};
 use crate::flight::{Boarding, Leader};
@@ -144,6 +145,7 @@ impl<K: Eq, V: Clone, S> ObjectInner<Object<K, V>, S> {
             let pinned = self.pin();
             let over = match pinned.place(hash, &object.key, tries) {
                 Some((Some(seen), _)) => return Published::Other(seen.object.value.clone()),
+                Some((None, Over::Absent)) => Over::AbsentIn(object.generation()),
                 Some((None, over)) => over,
                 None => {
                     why = UpdateError::Busy;

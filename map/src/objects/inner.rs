@@ -24,7 +24,7 @@ pub(crate) struct ObjectInner<O: Held, S> {
     pub epochs: Epochs,
     pub flights: Flights<()>,
     pub generation: Generation,
-    /// A call that moves or keeps a deadline locks its key's stripe.
+    /// A call that moves or keeps a deadline locks its key's stripe, and so do the removal of what has expired and the put of a loaded object.
     pub stripes: Box<[Stripe]>,
     pub clock: Clock,
     pub hasher: S,

@@ -33,4 +33,4 @@ pub(crate) use epochs::{Epochs, BATCH};
 #[cfg(test)]
 pub(crate) use object::{Held, Object};
 #[cfg(test)]
-pub(crate) use pinned::State;
+pub(crate) use pinned::{Over, State};

@@ -38,6 +38,8 @@ pub(crate) enum Over {
     Any,
     /// Nothing.
     Absent,
+    /// Nothing, by an object that was made in this generation. If that has ended, it is refused like one whose key is present.
+    AbsentIn(u64),
     /// What was put at this moment.
     At(u64),
 }

@@ -245,7 +245,8 @@ impl<O: Held, S> ObjectInner<O, S> {
     pub fn put_over(&self, hash: u64, object: O::Owner, over: Over, tries: u32) -> Offered<O> {
         self.offer(hash, object, |word| match over {
             Over::Any => self.put_any(hash, word, tries),
-            Over::Absent => self.put_absent(hash, word, tries),
+            Over::Absent => self.put_absent(hash, word, tries, None),
+            Over::AbsentIn(generation) => self.put_absent(hash, word, tries, Some(generation)),
             Over::At(since) => self.put_at(hash, word, since, tries),
         })
     }
@@ -302,8 +303,19 @@ impl<O: Held, S> ObjectInner<O, S> {
         Ok(self.queued(hash, word, self.swapped(swapped), pinned))
     }
 
-    fn put_absent(&self, hash: u64, word: u64, tries: u32) -> Result<Done, Fail> {
-        let put = self.in_pinned_turn(tries, || self.slots.call(|handle| handle.try_swap_if_absent(hash, &[word])));
+    // With the lock, nothing that has ended is taken out meanwhile. So the key has had no object since the look at the generation, or it was evicted.
+    fn put_absent(&self, hash: u64, word: u64, tries: u32, made_in: Option<u64>) -> Result<Done, Fail> {
+        let swap = |handle: &mut Handle<1>| handle.try_swap_if_absent(hash, &[word]);
+        let put = self.in_pinned_turn(tries, || match made_in {
+            None => self.slots.call(swap),
+            Some(generation) => self.in_stripe(hash, |handle| {
+                if self.generation.now() == generation {
+                    swap(handle)
+                } else {
+                    Err(TurnError::Call(PutIfAbsentError::Present { since: 0 }))
+                }
+            }),
+        });
         put.map(|(swapped, pinned)| self.queued(hash, word, self.swapped(swapped), pinned)).map_err(|why| match why {
             TurnError::Held => Fail::Insert(InsertError::Held),
             TurnError::Call(PutIfAbsentError::Present { .. }) => Fail::Present,

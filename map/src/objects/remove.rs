@@ -8,7 +8,7 @@ use super::object::{Held, Keyed};
 use super::pinned::State;
 use crate::error::RemoveError;
 use crate::stats::Kind;
-use cefrodil::{PutIfError, TurnError};
+use cefrodil::{Handle, PutIfError, TurnError};
 use std::borrow::Borrow;
 use std::hash::{BuildHasher, Hash};
 
@@ -91,9 +91,14 @@ impl<O: Held, S> ObjectInner<O, S> {
         }
     }
 
-    /// Takes out the object under this hash if it was put at the moment `since`, and retires it. Returns the moment of the removal.
+    /// Takes out the object under this hash if it was put at the moment `since`, and retires it. Returns the moment of the removal. What has expired
+    /// detaches no flight, so it is taken out with the lock of its stripe.
     pub fn take_if(&self, hash: u64, since: u64, reason: Reason) -> Result<u64, TurnError<PutIfError>> {
-        let taken = self.slots.in_turn(self.tries, || self.slots.call(|handle| handle.try_take_if(hash, since)))?;
+        let take = |handle: &mut Handle<1>| handle.try_take_if(hash, since);
+        let taken = self.slots.in_turn(self.tries, || match reason {
+            Reason::Expired => self.in_stripe(hash, take),
+            _ => self.slots.call(take),
+        })?;
         self.slots.count(if reason == Reason::Evicted { Kind::Evicted } else { Kind::Removed });
         self.left(hash, taken.old.value[0], reason);
         Ok(taken.at)

@@ -4,7 +4,7 @@ use super::done;
 use super::one_shard;
 use super::turns::{before_calls, calls};
 #[cfg(feature = "objects")]
-use crate::ObjectMap;
+use crate::{generation::NONE, objects::Over, ObjectMap, Published};
 use crate::{Board, Map};
 use std::cell::Cell;
 use std::rc::Rc;
@@ -132,6 +132,26 @@ fn an_update_of_an_object_that_began_before_loses_no_later_one() {
     });
     calls(|| map.update(1, |old| old.map_or(100, |old| old + 1))).1.unwrap();
     assert_eq!(map.get(&1), Some(11));
+}
+
+// Another thread, which had detached no flight, puts the key between the lookup and the put of a load. Its object is invalidated and taken out, if that
+// can be. The flight is not detached so far.
+#[cfg(feature = "objects")]
+#[test]
+fn a_load_of_an_object_says_that_it_is_outdated_though_the_key_is_absent_again() {
+    let map = ObjectMap::<u64, u64>::builder(1).open_shaped(&one_shard(100), 1, 5).unwrap();
+    let other = map.clone();
+    let Board::Lead(lead) = map.try_board(&1) else { panic!("nobody loads it") };
+    before_calls(1, 1, move || {
+        let object = other.inner.object(1, 10, None, NONE);
+        let put = other.inner.put_over(other.hash_of(&1), object, Over::Absent, 1);
+        done(other.inner.end(put.ok().unwrap()));
+        assert_eq!(other.get(&1), Some(10));
+        other.inner.generation.end();
+        let _ = other.remove_expired();
+    });
+    assert_eq!(calls(|| lead.try_publish(7)).1, Published::Outdated(7));
+    assert_eq!(map.get(&1), None);
 }
 
 #[cfg(feature = "objects")]
