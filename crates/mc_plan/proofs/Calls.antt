@@ -1,4 +1,5 @@
 pub mod AfterPlan
+pub mod NewKeys
 pub mod IfCalls
 pub mod KeptCalls
 pub mod Loading

@@ -1,9 +1,9 @@
 //! Where a key is, and how to make room for one more.
 //!
 //! `find` gives a key's slot and item, and a `Finder` a least path of displacements to an empty slot, breadth first. A
-//! `Sweep` is CLOCK's hand on its way round the items, and `FreeItems` keeps those that no slot names. A `Choice` may keep
-//! the others, each of them new or proven, and a `Pick` is its search for one that gives way. No cache has a choice yet. The words of the
-//! table are read through `Peek`, so the same code serves a list of words, a world and shared words.
+//! `Sweep` is CLOCK's hand on its way round the items, and `FreeItems` keeps those that no slot names. With the other policy a `Choice` keeps
+//! those in use, each of them new or proven, and a `Pick` is its search for one that gives way. The words of the table are read through
+//! `Peek`, so the same code serves a list of words, a world and shared words.
 //!
 //! ```text
 //! let mut finder = Finder::new(alloc, &checked)?;

@@ -1,5 +1,5 @@
 -- What the books say of the state after a plan, and what the plan's answer means.
-use Rattle.std.proofs.Common.{ℕ, ◌≡◌, ◌+◌, ◌*◌, ◌<◌, ◌≤◌, ◌∙◌, inl, inr, List, [], ◌∷◌, ◌++◌, Option, None, Ok, Err, ap, refl, sym, subst, length, arith, append-nil, length-append}
+use Rattle.std.proofs.Common.{ℕ, ◌≡◌, ◌+◌, ◌<◌, ◌≤◌, ◌∙◌, inl, inr, List, [], ◌∷◌, ◌++◌, Ok, Err, ap, refl, sym, subst, length, arith, length-append}
 use Rattle.std.proofs.lemmas.Bool.{cases_eq}
 use Rattle.mc_words.specs.declared.history.Change.{Change}
 use Rattle.mc_words.specs.declared.history.Change.TheVariants.{Put, Remove}
@@ -17,8 +17,7 @@ use Rattle.mc_words.specs.declared.key_parts.KeyParts.{KeyParts}
 use Rattle.mc_words.specs.Places.{IsWidth, moment, slot, slot_number, word_count}
 use Rattle.mc_words.specs.Shapes.{IsShape}
 use Rattle.mc_words.specs.Standing.{NamesItem, Stands, IsAbsent, IsFree}
-use Rattle.mc_words.proofs.Count.{full_from_named, room_from_free}
-use Rattle.mc_theory.specs.Lists.{AreAllowed}
+use Rattle.mc_words.proofs.Count.{full_from_named}
 use Rattle.mc_theory.specs.Phases.{close_owed}
 use Rattle.mc_theory.specs.States.{State, opening}
 use Rattle.mc_theory.specs.declared.act.Act.{Act}
@@ -37,26 +36,22 @@ use Rattle.mc_search.specs.declared.path.Path.{Path}
 use Rattle.mc_plan.specs.WholeCalls.{Call, PutCall, RemoveCall, Means, Marks, MarksLast, MarksPut, AreOfDeeds, quiet_of}
 use Rattle.mc_plan.specs.Books.{AreBooksOf, HasRoom, IsLackingKey, IsPlanned}
 use Rattle.mc_plan.specs.Deciding.{IsWithoutPath}
-use Rattle.mc_search.specs.Items.{IsConsistent, IsFreeIn, TakesFree, GivesBack, policy_in}
-use Rattle.mc_plan.specs.Decisions.{new_marks}
+use Rattle.mc_search.specs.Items.{IsConsistent, IsFreeIn, GivesBack, policy_in}
 use Rattle.mc_plan.specs.Laws.{IsValue}
-use Rattle.mc_plan.specs.Making.{IsQuiet, Makes, as_made, state_after_acts}
+use Rattle.mc_plan.specs.Making.{IsQuiet, state_after_acts}
 use Rattle.mc_search.specs.Kept.{KeepsSlots}
-use Rattle.mc_plan.specs.Moves.{AreKeys}
 use Rattle.mc_search.specs.Paths.{IsCrowded, IsLeastPath, first_place}
 use Rattle.mc_search.specs.declared.room.Room.TheVariants as room
 use Rattle.mc_plan.specs.Plans.{payload_acts, value_acts, fill_acts, renew_acts, remove_acts, moves_acts}
 use Rattle.mc_search.specs.Readable.{IsFilled, IsPlaced}
-use Rattle.mc_plan.specs.Puts.{CanPut, TakesItem, put_acts}
+use Rattle.mc_plan.specs.Puts.{put_acts}
 use Rattle.mc_words.proofs.Frames.{empty_names_none}
 use Rattle.mc_theory.proofs.Lists.Bounds.{opening_counted}
 use Rattle.mc_theory.proofs.Invariant.EachState.{opening_holds, zeros}
-use Rattle.mc_plan.proofs.Deeds.Walks.{Walk}
 use Rattle.mc_plan.proofs.Puts.NamedItems.{GivesItem, slot_given, kept_free, kept_named}
 use Rattle.mc_plan.proofs.Deeds.QuietStates.{at_length, agrees_quiet, keys_quiet, absent_held, stands_held, marked}
 use Rattle.mc_plan.proofs.Deeds.Removals.{removes}
 use Rattle.mc_plan.proofs.Deeds.Renewals.{renews}
-use Rattle.mc_plan.proofs.Puts.MadeRoom.{puts_room}
 use Rattle.mc_search.proofs.KeySlots.{placed-quiet}
 
 -- ---- acts of deeds
@@ -85,7 +80,7 @@ pub deeds_put : (V : ℕ) (sh : Shape) (w : List ℕ) (k : ℕ) (v : List ℕ) (
 deeds_put V sh w k v at i ps hole = deeds_then (moves_acts V sh w ps hole) _ (deeds_moves V sh w ps hole) (deeds_fill sh k v at i (first_place ps hole))
 
 -- ---- the moment after one change more
-moment_after : (V : ℕ) (s t : State V) (at : ℕ) (change : Change V) (sh : Shape) → IsQuiet V sh s → t.history ≡ s.history ++ change ∷ [] → at ≡ moment s.words + 1 → at ≡ length t.history
+pub moment_after : (V : ℕ) (s t : State V) (at : ℕ) (change : Change V) (sh : Shape) → IsQuiet V sh s → t.history ≡ s.history ++ change ∷ [] → at ≡ moment s.words + 1 → at ≡ length t.history
 moment_after V s t at change sh quiet grows is =
     let now = (agrees_quiet V sh s quiet).at_moment in
     let more = length-append s.history (change ∷ []) in
@@ -219,74 +214,10 @@ removal_planned V b k i at p free s shape key old below stands unspent limit is 
       ends = books_after V b s t 2 free old ends (free_given V b s t.words free i old kept policy items gives given);
     }
 
--- ---- a put of a new key
--- the mark of a new key's item, if the policy makes one, is allowed, and leaves the state as it is
-pub new_marked : (policy : Policy) (V : ℕ) (sh : Shape) (s : State V) (acts : List Act) (new : List (Change V)) (steps i : ℕ) → Makes V sh s acts new steps → i < sh.items → Walk V sh s (acts ++ new_marks policy i) (state_after_acts V sh s acts)
-new_marked Clock V sh s acts new steps i makes below = marked V sh s acts new steps i makes below
-new_marked ScanResistant V sh s acts new steps i makes below =
-    let same = sym (append-nil acts) in
-    record { allowed = subst (λ (xs : List Act). AreAllowed sh s (as_made xs)) same makes.allowed; leads = ap (λ (xs : List Act). state_after_acts V sh s xs) (append-nil acts) }
-
--- a new key's item is marked last, or not at all
-pub stored_marks : (policy : Policy) (V : ℕ) (sh : Shape) (w : List ℕ) (k at moves : ℕ) (evicted : Option ℕ) (acts : List Act) (q i : ℕ) → AreOfDeeds acts → Stands V sh w k q i → MarksPut policy V sh w k (put.Stored at moves evicted) (acts ++ new_marks policy i)
-stored_marks Clock V sh w k at moves evicted acts q i deeds stands = record { before = acts; slot = q; item = i; last = refl; deeds = deeds; stands = stands }
-stored_marks ScanResistant V sh w k at moves evicted acts q i deeds stands = subst AreOfDeeds (sym (append-nil acts)) deeds
-
-free_taken : (V : ℕ) (b : Books) (s : State V) (x : List ℕ) (free : FreeItems) (i : ℕ) → AreBooksOf V b s → IsConsistent free → policy_in free ≡ policy_in b.free → free.list.items ≡ b.free.list.items → TakesFree b.free free i → TakesItem (shape_of b.checked) s.words x i → FreeAfter V b free x
-free_taken V b s x free i old kept policy items takes taken = record {
-  kept = kept;
-  policy = policy;
-  items = items;
-  frees = λ j f. elim (cases_eq j i) [
-    | inl e ↦ absurd (takes.taken (subst (λ (n : ℕ). IsFreeIn free n) e f))
-    | inr ne ↦ taken.free j ne (old.free j (takes.free j f))
-  ];
-  named = λ j l none. elim (cases_eq j i) [
-    | inl e ↦ (taken.taken.0, subst (λ (n : ℕ). NamesItem (shape_of b.checked) x taken.taken.0 n) (sym e) taken.taken.1)
-    | inr ne ↦ let was = old.named j l (λ f. none (takes.others j ne f)) in taken.named was.0 j was.1
-  ];
-}
-
+-- ---- least paths
 -- how long a least path is
 pub least_length : (sh : Shape) (w : List ℕ) (k : ℕ) (path : Path) → IsLeastPath sh w k path → IsLeastLength sh w k (length path.places.items)
 least_length sh w k path least = record { places = path.places.items; hole = path.hole; chain = least.chain; many = refl; least = least.least }
-
--- an absent key is stored at the end of a least path, in a free item
-pub stored_planned : (V : ℕ) (b : Books) (k : ℕ) (v : List ℕ) (i at : ℕ) (path : Path) (free : FreeItems) (s : State V) → IsShape (shape_of b.checked) → IsWord k → IsValue V v → AreBooksOf V b s
-    → IsAbsent V (shape_of b.checked) s.words k → IsLeastPath (shape_of b.checked) s.words k path → AreKeys V (shape_of b.checked) s.words path.places.items → i < (shape_of b.checked).items
-    → (PutIsSpent (shape_of b.checked) (quiet_of s) → ⊥) → at ≡ moment s.words + 1
-    → IsFreeIn b.free i → IsConsistent free → policy_in free ≡ policy_in b.free → free.list.items ≡ b.free.list.items → TakesFree b.free free i
-    → IsPlanned V (record b { free = free; version_steps = b.version_steps + (2 * length path.places.items + 2) }) (put_acts V (shape_of b.checked) s.words k v at i path.places.items path.hole ++ new_marks (policy_of b.checked) i) (PutCall k v) s s (answer.Put (Ok (put.Stored at (length path.places.items) None)))
-stored_planned V b k v i at path free s shape key value old absent least keys in_items unspent is was kept policy items takes =
-    let sh = shape_of b.checked in
-    let ps = path.places.items in
-    let acts = put_acts V sh s.words k v at i ps path.hole in
-    let t = state_after_acts V sh s acts in
-    let steps = 2 * length ps + 2 in
-    let can : CanPut V sh s.words k i ps path.hole = record { absent = absent; in_items = in_items; free = old.free i was; chain = least.chain; keys = keys } in
-    let law = puts_room V sh s k v at i ps path.hole shape key value (next_word V b s at old (omega (arith, is))) old.quiet can is in
-    let makes = law.0 in
-    let walk = new_marked (policy_of b.checked) V sh s acts (Put k v ∷ []) steps i makes in_items in
-    let told = answer.Put (Ok (put.Stored at (length ps) None)) in
-    let limit : s.version_steps + steps ≤ sh.limit = omega (arith, least.within, unspent) in
-    let stored : means.Stores V sh (quiet_of s) (quiet_of t) k v at (length ps) = record {
-      unspent = unspent;
-      absent = absent_held V sh s k old.quiet absent;
-      within = least.within;
-      least = least_length sh s.words k path least;
-      room = room_from_free V sh s.words s.history (keys_quiet V sh s old.quiet) (i, in_items, old.free i was);
-      grows = record { history = makes.history; version_steps = makes.version_steps ∙ omega arith };
-      hand = makes.hand;
-      moment = moment_after V s t at (Put k v) sh old.quiet makes.history is;
-    } in
-    let ends : Ends V b s t steps = record { quiet = makes.quiet; version_steps = makes.version_steps; hand = makes.hand; limit = limit } in
-    record {
-      allowed = walk.allowed;
-      means = subst (λ (x : State V). Means sh (PutCall k v) told s x) (sym walk.leads) stored;
-      marks = stored_marks (policy_of b.checked) V sh _ k at (length ps) None acts (slot_number (first_place ps path.hole)) i (deeds_put V sh s.words k v at i ps path.hole)
-          (subst (λ (x : State V). Stands V sh x.words k (slot_number (first_place ps path.hole)) i) (sym walk.leads) law.1);
-      ends = subst (λ (x : State V). AreBooksOf V (record b { free = free; version_steps = b.version_steps + steps }) x) (sym walk.leads) (books_after V b s t steps free old ends (free_taken V b s t.words free i old kept policy items takes law.2));
-    }
 
 -- ---- a call that changes nothing
 pub idle_planned : (V : ℕ) (b : Books) (call : Call) (s : State V) (told : Answer) → AreBooksOf V b s → Means (shape_of b.checked) call told s s → Marks V (shape_of b.checked) (policy_of b.checked) s.words call told [] → IsPlanned V b [] call s s told

@@ -33,7 +33,8 @@ use Rattle.mc_search.specs.Paths.{IsCut, first_place, path_of_room}
 use Rattle.mc_search.specs.declared.path.Path.{Path}
 use Rattle.mc_plan.specs.Replacing.{CanReplace, replace_acts}
 use Rattle.mc_search.specs.Sweeps.{Swept, IsOver, IsSearch, IsSearchBy, victim_of}
-use Rattle.mc_plan.proofs.Calls.AfterPlan.{deeds_put, needs_item, new_marked, next_word, stored_marks}
+use Rattle.mc_plan.proofs.Calls.AfterPlan.{deeds_put, needs_item, next_word}
+use Rattle.mc_plan.proofs.Calls.NewKeys.{new_marked, stored_marks}
 use Rattle.mc_plan.proofs.Deeds.QuietStates.{agrees_quiet, keys_quiet, stands_held}
 use Rattle.mc_plan.proofs.Puts.Replacements.{evictions_room}
 use Rattle.mc_plan.proofs.Calls.SweptStates.{over_without, swept_below, sweep_allowed, swept_cleared, swept_hand, swept_home, sweep_quiet, swept_still, victim_below}

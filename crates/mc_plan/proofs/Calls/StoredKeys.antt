@@ -26,7 +26,8 @@ use Rattle.mc_plan.specs.declared.books.Books.{Books}
 use Rattle.mc_plan.specs.declared.far.Far.{Far}
 use Rattle.mc_plan.specs.declared.decision.Replacement.{Replacement}
 use Rattle.mc_plan.specs.declared.decision.Storing.{Storing}
-use Rattle.mc_plan.proofs.Calls.AfterPlan.{books_kept, listed_planned, stored_planned, with_far}
+use Rattle.mc_plan.proofs.Calls.AfterPlan.{books_kept, listed_planned, with_far}
+use Rattle.mc_plan.proofs.Calls.NewKeys.{stored_planned}
 use Rattle.mc_plan.proofs.Calls.AfterSweep.{victim_stands, replaced_planned}
 use Rattle.mc_plan.proofs.Calls.SweptStates.{swept_still}
 use Rattle.mc_plan.proofs.Puts.MoveLists.{replaced_acts, stored_acts}
