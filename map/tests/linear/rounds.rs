@@ -12,6 +12,7 @@ use std::time::{Duration, Instant};
 pub const KEYS: [u64; 2] = [1, 2];
 const THREADS: usize = 4;
 const MOST_CALLS: u64 = 8;
+const MOST_SIGNALS: usize = 1000;
 
 /// What a call says: what it did with its key, or with all keys. `None`: it failed, so it says nothing.
 pub enum Told {
@@ -190,13 +191,15 @@ impl Shared<'_> {
         Call { begin, end: self.clock.next(), thread, did }
     }
 
-    // Sends signals to the threads until all have made their calls.
+    // Sends signals to the threads until all have made their calls, but not for ever: a call that sleeps begins anew at each.
     fn stop_threads(&self) {
         let mut number = 0;
         while self.running.load(SeqCst) > 0 {
-            // SAFETY: the thread has told its number, and does not end before this has returned.
-            unsafe { pthread_kill(self.threads[number % THREADS].load(SeqCst), SIGUSR1) };
-            number += 1;
+            if number < MOST_SIGNALS {
+                // SAFETY: the thread has told its number, and does not end before this has returned.
+                unsafe { pthread_kill(self.threads[number % THREADS].load(SeqCst), SIGUSR1) };
+                number += 1;
+            }
             (0..number % 7 * 200).for_each(|_| std::hint::spin_loop());
             thread::yield_now();
         }
