@@ -22,7 +22,7 @@ use mc_search::{
     touch_bucket,
 };
 use mc_theory::Peek;
-use mc_words::{Checked, KeyParts};
+use mc_words::{Checked, KeyParts, Policy};
 
 // The one move that makes room.
 // Condition: the words reach as far as the shape says, each slot is empty or names an item, and the place is occupied.
@@ -239,6 +239,15 @@ impl Books {
         }
     }
 
+    // The key as it is noted: mixed. With CLOCK nothing is noted, and so nothing is mixed.
+    #[inline(always)]
+    fn for_notes(&self, key: u64) -> u64 {
+        match self.checked.policy() {
+            Policy::Clock => 0,
+            Policy::ScanResistant => self.checked.mixed(key),
+        }
+    }
+
     /// Decides the put of a key that is not there, where it finds this room. `None`: no item is free, and one is to be searched.
     /// Condition: `near`, `by_move`, `by_path` or `room` has just found it, for a key that `decide` has answered with this `at`.
     #[inline(always)]
@@ -255,7 +264,7 @@ impl Books {
         ensures shape { self.new.checked ≡ self.old.checked }
         ensures kept { peek.new ≡ peek.old }
     {
-        let Some(item) = self.free.take_least(self.checked.mixed(key)) else {
+        let Some(item) = self.free.take_least(self.for_notes(key)) else {
             return None;
         };
         Some(self.store::<V, P>(peek, room, item, at))
@@ -310,8 +319,8 @@ impl Books {
         let left = room.cut_at(victim.place, &mut self.far.path);
         let storing = self.store::<V, P>(peek, left, item, at);
         self.version_steps += 2;
-        let old = self.checked.mixed(victim.key);
-        self.free.hand_on(item, old, self.checked.mixed(key));
+        let old = self.for_notes(victim.key);
+        self.free.hand_on(item, old, self.for_notes(key));
         Replacement { victim, storing }
     }
 
