@@ -264,7 +264,8 @@ impl Books {
         ensures shape { self.new.checked ≡ self.old.checked }
         ensures kept { peek.new ≡ peek.old }
     {
-        let Some(item) = self.free.take_least(self.for_notes(key)) else {
+        let noted = self.for_notes(key);
+        let Some(item) = self.free.take_least(noted) else {
             return None;
         };
         Some(self.store::<V, P>(peek, room, item, at))
@@ -320,7 +321,8 @@ impl Books {
         let storing = self.store::<V, P>(peek, left, item, at);
         self.version_steps += 2;
         let old = self.for_notes(victim.key);
-        self.free.hand_on(item, old, self.for_notes(key));
+        let new = self.for_notes(key);
+        self.free.hand_on(item, old, new);
         Replacement { victim, storing }
     }
 
