@@ -28,7 +28,7 @@ use Rattle.mc_door.specs.declared.rest.Rest.{Rest}
 use Rattle.cefrodil.specs.Inside.Filling.{AreAmong, HasPassesTo}
 use Rattle.cefrodil.specs.Loading.{AreEntries, AreLoaded, entry_status}
 use Rattle.cefrodil.specs.Open.{kept}
-use Rattle.cefrodil.specs.RawShapes.{HasMix, IsShapeOf}
+use Rattle.cefrodil.specs.RawShapes.{GoAsAsked, HasMix, HasPolicy, IsShapeOf}
 use Rattle.cefrodil.specs.Openings.{AreOpened, IsPassAt, Keeps, RefusesOpen}
 use Rattle.cefrodil.specs.declared.shape.RawShape.{RawShape}
 use Rattle.cefrodil.specs.declared.raw_handle.RawHandle.{RawHandle}
@@ -99,12 +99,13 @@ new_pass V s passes (Holds s' h) fresh of = absurd of
 new_pass V s passes Idle fresh of = absurd of
 
 pub are_opened : (raw : RawShape) (shards words : ℕ) (handles : List RawHandle) (sh : Shape) (first : Rest) → IsShapeOf raw sh
-    → (shards_on first).shape ≡ sh → length (shards_on first).tables ≡ shards → width_on first ≡ words → HaveSeenNothing words (passes_on first)
+    → (shards_on first).shape ≡ sh → length (shards_on first).tables ≡ shards → GoAsAsked raw (shards_on first).tables → width_on first ≡ words → HaveSeenNothing words (passes_on first)
     → All (IsPassAt (shards_on first) (width_on first) (passes_on first)) handles → AreOpened raw shards words handles
-are_opened raw shards words handles sh first of shape count wide fresh all = record {
+are_opened raw shards words handles sh first of shape count policy wide fresh all = record {
   sharded = shards_on first;
   shape = rw shape of;
   count = count;
+  policy = policy;
   has_passes = λ k d lt. keeps_more (λ h. (width_of h ≡ words) × IsPassOf (shards_on first) (passes_on first) (role_in h))
       (λ h. (width_of h ≡ words) × IsNewPass words (shards_on first) (role_in h)) (kept (get_or handles k d))
       (λ h has. (has.0, new_pass words (shards_on first) (passes_on first) (role_in h) fresh.each has.1))
@@ -122,20 +123,21 @@ refused_so_many sh shards cut handles error.Shards same refused = refused
 refused_so_many sh shards cut handles (error.Open why) same refused = (refused.0, table_refused sh cut handles why same refused.1)
 
 -- and if there is none, memory was refused
-pub refused_memory : (raw : RawShape) (shards words handles cut : ℕ) (sh : Shape) → IsWidth words → HasMix raw → IsShapeOf raw sh → HasShards shards → IsShape sh → HasReaders cut
+pub refused_memory : (raw : RawShape) (shards words handles cut : ℕ) (sh : Shape) → IsWidth words → HasMix raw → HasPolicy raw → IsShapeOf raw sh → HasShards shards → IsShape sh → HasReaders cut
     → (HasReaders cut ↔ HasReaders handles) → RefusesOpen raw shards words handles NO_MEMORY
-refused_memory raw shards words handles cut sh wide mixed of many shaped has same = inr (sh, error.Open opening.NoMemory, wide, mixed, of, (many, (shaped, same.0 has)), refl)
+refused_memory raw shards words handles cut sh wide mixed ruled of many shaped has same = inr (sh, error.Open opening.NoMemory, wide, mixed, ruled, of, (many, (shaped, same.0 has)), refl)
 
 pub are_loaded : (raw : RawShape) (shards words count : ℕ) (entries statuses : List ℕ) (passes : List RawHandle) (sh : Shape) (first : Rest) (left : List (ℕ × Why)) → IsShapeOf raw sh
-    → (shards_on first).shape ≡ sh → length (shards_on first).tables ≡ shards → width_on first ≡ words → length statuses ≡ count → AreEntries words (length entries) count
+    → (shards_on first).shape ≡ sh → length (shards_on first).tables ≡ shards → GoAsAsked raw (shards_on first).tables → width_on first ≡ words → length statuses ≡ count → AreEntries words (length entries) count
     → HaveSeenLoads words (shards_on first) (entries_in words count entries) left (passes_on first) → All (IsPassAt (shards_on first) (width_on first) (passes_on first)) passes
     → EachIndex statuses (λ i. slice_index statuses i ≡ entry_status left i) → AreLoaded raw shards words entries statuses passes
-are_loaded raw shards words count entries statuses passes sh first left of shape tables wide many fit loaded all told = record {
+are_loaded raw shards words count entries statuses passes sh first left of shape tables policy wide many fit loaded all told = record {
   sharded = shards_on first;
   records = passes_on first;
   left = left;
   shape = rw shape of;
   count = tables;
+  policy = policy;
   fits = subst (λ (n : ℕ). AreEntries words (length entries) n) (sym many) fit;
   loaded = subst (λ (n : ℕ). HaveSeenLoads words (shards_on first) (entries_in words n entries) left (passes_on first)) (sym many) loaded;
   has_passes = subst (λ (w : ℕ). All (IsPassAt (shards_on first) w (passes_on first)) passes) wide all;

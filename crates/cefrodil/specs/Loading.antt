@@ -7,7 +7,7 @@ use Rattle.mc_shared.specs.Records.{ReaderRecord}
 use Rattle.mc_shards.specs.Sharded.{Sharded}
 use Rattle.mc_door.specs.Loading.{HaveSeenLoads, entries_in}
 use Rattle.cefrodil.specs.Openings.{IsPassAt}
-use Rattle.cefrodil.specs.RawShapes.{IsShapeOf}
+use Rattle.cefrodil.specs.RawShapes.{GoAsAsked, IsShapeOf}
 use Rattle.cefrodil.specs.declared.shape.RawShape.{RawShape}
 use Rattle.cefrodil.specs.declared.raw_handle.RawHandle.{RawHandle}
 use Rattle.mc_door.specs.declared.status.TheConstants.{OK, COUNT, NO_ITEM, NO_PATH, SPENT}
@@ -26,7 +26,7 @@ entry_status (l ∷ left) i = if l.0 == i then left_status l.1 else entry_status
 abbrev pub AreEntries : ℕ → ℕ → ℕ → Type 0
 AreEntries words entry_words count = entry_words ≡ count * (1 + words)
 
--- passes of `shards` new shards, each of the requested shape. Each pass has seen the puts of these entries, except those that were left, and
+-- passes of `shards` new shards, each of the requested shape and policy. Each pass has seen the puts of these entries, except those that were left, and
 -- the statuses say what became of each
 pub record AreLoaded (raw : RawShape) (shards words : ℕ) (entries statuses : List ℕ) (handles : List RawHandle) : Type 0 where
   pub sharded : Sharded
@@ -34,6 +34,7 @@ pub record AreLoaded (raw : RawShape) (shards words : ℕ) (entries statuses : L
   pub left : List (ℕ × Why)
   pub shape : IsShapeOf raw sharded.shape
   pub count : length sharded.tables ≡ shards
+  pub policy : GoAsAsked raw sharded.tables
   pub fits : AreEntries words (length entries) (length statuses)
   pub loaded : HaveSeenLoads words sharded (entries_in words (length statuses) entries) left records
   pub has_passes : All (IsPassAt sharded words records) handles

@@ -15,10 +15,10 @@ use Rattle.mc_door.specs.AnySides.{role_in, width_of}
 use Rattle.mc_door.specs.NewPasses.{IsNewPass, IsPassOf}
 use Rattle.mc_door.specs.declared.any_side.AnySide.{AnySide}
 use Rattle.cefrodil.specs.Open.{kept}
-use Rattle.cefrodil.specs.RawShapes.{HasMix, IsShapeOf}
+use Rattle.cefrodil.specs.RawShapes.{GoAsAsked, HasMix, HasPolicy, IsShapeOf}
 use Rattle.cefrodil.specs.declared.shape.RawShape.{RawShape}
 use Rattle.cefrodil.specs.declared.raw_handle.RawHandle.{RawHandle}
-use Rattle.mc_door.specs.declared.status.TheConstants.{IN_USE, WORDS, MIX, NO_MEMORY, BUCKETS, ITEMS, STRIPES, DEPTH, TRIES, LIMIT, HANDLES, SHARDS}
+use Rattle.mc_door.specs.declared.status.TheConstants.{IN_USE, WORDS, MIX, POLICY, NO_MEMORY, BUCKETS, ITEMS, STRIPES, DEPTH, TRIES, LIMIT, HANDLES, SHARDS}
 
 abbrev pub IsClosed : RawHandle → Type 0
 IsClosed s = s.live ≡ false
@@ -36,11 +36,12 @@ IsPassAt s words passes handle = Keeps (λ h. (width_of h ≡ words) × IsPassOf
 abbrev pub IsNewPassAt : Sharded → ℕ → RawHandle → Type 0
 IsNewPassAt s words handle = Keeps (λ h. (width_of h ≡ words) × IsNewPass words s (role_in h)) (kept handle)
 
--- the passes of `shards` new shards, each of the requested shape
+-- the passes of `shards` new shards, each of the requested shape and policy
 pub record AreOpened (raw : RawShape) (shards words : ℕ) (handles : List RawHandle) : Type 0 where
   pub sharded : Sharded
   pub shape : IsShapeOf raw sharded.shape
   pub count : length sharded.tables ≡ shards
+  pub policy : GoAsAsked raw sharded.tables
   pub has_passes : All (IsNewPassAt sharded words) handles
 
 abbrev pub open_status : OpenError → ℕ
@@ -58,13 +59,15 @@ shards_status shards.Shards = SHARDS
 shards_status (shards.Open why) = open_status why
 
 abbrev pub RefusesAsked : RawShape → ℕ → ℕ → Type 0
-RefusesAsked raw words status = ((status ≡ WORDS) × (¬ IsWidth words)) ⊎ ((status ≡ MIX) × IsWidth words × (¬ HasMix raw))
+RefusesAsked raw words status =
+    ((status ≡ WORDS) × (¬ IsWidth words)) ⊎ ((status ≡ MIX) × IsWidth words × (¬ HasMix raw)) ⊎
+    ((status ≡ POLICY) × IsWidth words × HasMix raw × (¬ HasPolicy raw))
 
--- the first fault, in this order: the width, the mix, the number of shards, those of the shape, the number of handles, memory
+-- the first fault, in this order: the width, the mix, the policy, the number of shards, those of the shape, the number of handles, memory
 abbrev pub RefusesOpen : RawShape → ℕ → ℕ → ℕ → ℕ → Type 0
 RefusesOpen raw shards words handles status =
     RefusesAsked raw words status ⊎
-    ((sh : Shape) × (why : OpenShardsError) × IsWidth words × HasMix raw × IsShapeOf raw sh × RefusesShards sh shards handles why × (status ≡ shards_status why))
+    ((sh : Shape) × (why : OpenShardsError) × IsWidth words × HasMix raw × HasPolicy raw × IsShapeOf raw sh × RefusesShards sh shards handles why × (status ≡ shards_status why))
 
 -- and before all of them: a handle is open
 abbrev pub RefusesHandles : Type 0 → (ℕ → Type 0) → ℕ → Type 0

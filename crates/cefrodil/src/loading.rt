@@ -3,13 +3,14 @@ ghost use Rattle.std.specs.Prelude.{◌≡◌, ◌≢◌, ◌<◌, ◌^◌, ◌�
 ghost use Rattle.mc_words.specs.Places.{IsWidth};
 ghost use Rattle.cefrodil.specs.Loading.{AreEntries, AreLoaded, RefusesWith, entry_status, left_status};
 ghost use Rattle.cefrodil.specs.Openings.{IsClosed, RefusesAsked, RefusesHandles, RefusesOpen};
-ghost use Rattle.cefrodil.specs.RawShapes.{HasMix, IsShapeOf};
+ghost use Rattle.cefrodil.specs.RawShapes.{HasMix, HasPolicy, IsPolicyOf, IsShapeOf};
 
 use crate::opening::{MOST_WORDS, all_closed, asked, count_of, fill, status_of};
 use crate::raw_handle::RawHandle;
 use crate::shape::RawShape;
 use mc_door::status::{COUNT, IN_USE, NO_ITEM, NO_MEMORY, NO_PATH, OK, SPENT};
 use mc_door::{Shape, Why, open_with};
+use mc_words::Policy;
 use std::alloc::Global;
 
 fn status_of_left(why: Why) -> u32
@@ -30,14 +31,15 @@ fn are_entries(words: usize, entry_words: usize, count: usize) -> bool
     count.checked_mul(1 + words) == Some(entry_words)
 }
 
-// The requested shape, or the first fault before those that the cache reports.
+// The requested policy and shape, or the first fault before those that the cache reports.
 fn asked_with(
     shape: &RawShape,
     words: usize,
     entry_words: usize,
     count: usize,
-) -> Result<Shape, u32>
-    ensures { MatchResult result (λ sh. IsWidth words × AreEntries words entry_words count × HasMix shape.now × IsShapeOf shape.now sh)
+) -> Result<(Policy, Shape), u32>
+    ensures { MatchResult result (λ r. IsWidth words × AreEntries words entry_words count × HasMix shape.now × HasPolicy shape.now ×
+            IsPolicyOf shape.now r.0 × IsShapeOf shape.now r.1)
         (λ status. RefusesWith words entry_words count (RefusesAsked shape.now words) status) }
 {
     if words <= MOST_WORDS && words > 0 && !are_entries(words, entry_words, count) {
@@ -82,12 +84,13 @@ fn open_all_with(
     ensures refused { result ≢ OK → RefusesWith words (length entries.now) (length statuses.old) (RefusesOpen shape.now shards words (length handles.old)) result }
     ensures closed { result ≢ OK → (statuses.new ≡ statuses.old) × All IsClosed handles.new }
 {
-    let shape = match asked_with(shape, words, entries.len(), statuses.len()) {
-        Ok(shape) => shape,
+    let (policy, shape) = match asked_with(shape, words, entries.len(), statuses.len()) {
+        Ok(asked) => asked,
         Err(status) => return status,
     };
     let opened = open_with(
         alloc,
+        policy,
         shape,
         words,
         shards,

@@ -4,15 +4,16 @@ ghost use Rattle.mc_words.specs.Places.{IsWidth};
 ghost use Rattle.mc_words.specs.Readers.{HasReaders};
 ghost use Rattle.mc_door.specs.NewPasses.{count_on, passes_on, shards_on, width_on};
 ghost use Rattle.cefrodil.specs.Openings.{AreOpened, IsClosed, IsPassAt, RefusesAsked, RefusesHandles, RefusesOpen, open_status, shards_status};
-ghost use Rattle.cefrodil.specs.RawShapes.{HasMix, IsShapeOf};
+ghost use Rattle.cefrodil.specs.RawShapes.{HasMix, HasPolicy, IsPolicyOf, IsShapeOf};
 
 use crate::raw_handle::RawHandle;
 use crate::shape::RawShape;
 use mc_door::status::{
-    BUCKETS, DEPTH, HANDLES, IN_USE, ITEMS, LIMIT, MIX, NO_MEMORY, OK, SHARDS, STRIPES, TRIES,
-    WORDS,
+    BUCKETS, DEPTH, HANDLES, IN_USE, ITEMS, LIMIT, MIX, NO_MEMORY, OK, POLICY, SHARDS, STRIPES,
+    TRIES, WORDS,
 };
 use mc_door::{OpenError, OpenShardsError, Rest, Shape, ShapeError, open};
+use mc_words::Policy;
 use std::alloc::Global;
 
 /// The most words of a value.
@@ -106,16 +107,20 @@ pub(crate) fn fill(alloc: Global, rest: Rest, handles: &mut [RawHandle]) -> bool
     filled
 }
 
-// The requested shape, or the first fault before those that the cache reports.
-pub(crate) fn asked(shape: &RawShape, words: usize) -> Result<Shape, u32>
-    ensures { MatchResult result (λ sh. IsWidth words × HasMix shape.now × IsShapeOf shape.now sh) (λ status. RefusesAsked shape.now words status) }
+// The requested policy and shape, or the first fault before those that the cache reports.
+pub(crate) fn asked(shape: &RawShape, words: usize) -> Result<(Policy, Shape), u32>
+    ensures { MatchResult result (λ r. IsWidth words × HasMix shape.now × HasPolicy shape.now × IsPolicyOf shape.now r.0 × IsShapeOf shape.now r.1)
+        (λ status. RefusesAsked shape.now words status) }
 {
     if words == 0 || words > MOST_WORDS {
         return Err(WORDS);
     }
-    match shape.shape() {
-        Some(shape) => Ok(shape),
-        None => Err(MIX),
+    let Some(table) = shape.shape() else {
+        return Err(MIX);
+    };
+    match shape.policy() {
+        Some(policy) => Ok((policy, table)),
+        None => Err(POLICY),
     }
 }
 
@@ -141,11 +146,18 @@ fn open_all(
     ensures refused { result ≢ OK → RefusesOpen shape.now shards words (length handles.old) result }
     ensures closed { result ≢ OK → All IsClosed handles.new }
 {
-    let shape = match asked(shape, words) {
-        Ok(shape) => shape,
+    let (policy, shape) = match asked(shape, words) {
+        Ok(asked) => asked,
         Err(status) => return status,
     };
-    let rest = match open(alloc, shape, words, shards, count_of(handles.len())) {
+    let rest = match open(
+        alloc,
+        policy,
+        shape,
+        words,
+        shards,
+        count_of(handles.len()),
+    ) {
         Ok(rest) => rest,
         Err(why) => return status_of(why),
     };
@@ -155,7 +167,7 @@ fn open_all(
     OK
 }
 
-/// Opens a cache of `shards` shards for values of `words` words, each shard a table of this shape.
+/// Opens a cache of `shards` shards for values of `words` words, each shard a table of this shape and policy.
 #[unsafe(no_mangle)]
 pub extern "C" fn cefrodil_open(
     alloc: Global,

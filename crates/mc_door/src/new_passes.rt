@@ -4,7 +4,7 @@ ghost use Rattle.mc_words.specs.Places.{IsWidth};
 ghost use Rattle.mc_words.specs.Readers.{HasReaders};
 ghost use Rattle.mc_words.specs.Shapes.{HasShards, IsShape};
 ghost use Rattle.mc_cache.specs.declared.opening.OpenError.TheVariants as error;
-ghost use Rattle.mc_shards.specs.Openings.{RefusesShards};
+ghost use Rattle.mc_shards.specs.Openings.{GoBy, RefusesShards};
 ghost use Rattle.mc_shards.specs.Sharded.{ArePassOf};
 ghost use Rattle.mc_shards.specs.Spares.{AreSparesOf};
 ghost use Rattle.mc_shards.specs.declared.opening.OpenShardsError.TheVariants.{Open};
@@ -20,7 +20,7 @@ use mc_cache::{OpenError, Shape, Why};
 use mc_shards::{
     OpenShardsError, OpenedShards, Pass, Shards, Spares, open_spared, open_spared_with,
 };
-use mc_words::{MOST_READERS, NoMemory, can_shard};
+use mc_words::{MOST_READERS, NoMemory, Policy, can_shard};
 use std::alloc::Global;
 use std::sync::Arc;
 
@@ -84,22 +84,25 @@ impl<const V: usize> NewPasses<V> {
         }
     }
 
-    /// Opens `shards` shards, with the requested number of passes.
+    /// Opens `shards` shards of this policy, with the requested number of passes.
     #[tactic(auto, using(crate::proofs::NewShards::have_seen_nothing))]
     pub(crate) fn open(
         alloc: Global,
+        policy: Policy,
         shape: Shape,
         shards: u32,
         passes: u32,
     ) -> Result<NewPasses<V>, OpenShardsError>
         requires width { IsWidth V }
         ensures refused { MatchResult result (λ r. (r.shared.value.shards.shape ≡ shape) × (length r.shared.value.shards.tables ≡ shards)) (λ e. RefusesShards shape shards passes e) }
+        ensures policy { IfOk result (λ r. GoBy policy r.shared.value.shards.tables) }
         ensures passes { IfOk result (λ r. (length r.passes.items ≡ passes) × HasShards shards × IsShape shape × HasReaders passes) }
         ensures fresh { IfOk result (λ r. HaveSeenNothing V r.passes.items) }
     {
         check(shape, shards, passes)?;
         let (opened, given, spares) = open_spared::<V>(
             alloc,
+            policy,
             shape,
             shards,
             passes,
@@ -112,6 +115,7 @@ impl<const V: usize> NewPasses<V> {
     /// of each entry that was left, with the reason.
     pub(crate) fn open_with(
         alloc: Global,
+        policy: Policy,
         shape: Shape,
         shards: u32,
         passes: u32,
@@ -121,6 +125,7 @@ impl<const V: usize> NewPasses<V> {
         requires width { IsWidth V }
         requires entries { length entries.now ≡ count * (1 + V) }
         ensures refused { MatchResult result (λ r. (r.0.shared.value.shards.shape ≡ shape) × (length r.0.shared.value.shards.tables ≡ shards)) (λ e. RefusesShards shape shards passes e) }
+        ensures policy { IfOk result (λ r. GoBy policy r.0.shared.value.shards.tables) }
         ensures passes { IfOk result (λ r. (length r.0.passes.items ≡ passes) × HasShards shards × IsShape shape × HasReaders passes) }
         ensures loaded { IfOk result (λ r. HaveSeenLoads V r.0.shared.value.shards (entries_in V count entries.now) r.1.items r.0.passes.items) }
     {
@@ -131,6 +136,7 @@ impl<const V: usize> NewPasses<V> {
         let all = readers_for(passes);
         let (opened, spares) = open_spared_with::<V>(
             alloc,
+            policy,
             shape,
             shards,
             passes,

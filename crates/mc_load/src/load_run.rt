@@ -1,7 +1,8 @@
 //! The whole program `mcload`, over any streams.
-ghost use Rattle.std.specs.Prelude.{◌≡◌, ◌++◌, IfSome, MatchResult, codes, false, map, true};
+ghost use Rattle.std.specs.Prelude.{◌≡◌, ◌++◌, IfSome, MatchResult, codes, false, if◌then◌else◌, map, true};
 ghost use Rattle.std.specs.Bool.{Decides};
 ghost use Rattle.mc_options.specs.Streams.{Tells, stream};
+ghost use Rattle.mc_words.specs.declared.policy.Policy.TheVariants.{Clock, ScanResistant};
 ghost use Rattle.mc_load.specs.Loads.{MayAskAtOnce};
 ghost use Rattle.mc_load.specs.LoadPrograms.{IsAlone, Loads, RunsLoad, WritesLines, load_of, load_status, load_text};
 ghost use Rattle.mc_load.specs.ShardLoads.{RefusesTurns, RunsTurns};
@@ -20,7 +21,7 @@ use crate::work::load_many;
 use mc_cache::OpenError;
 use mc_options::{FAILED, LoadOptions, REFUSED, load_options_of, tell, tell_fault};
 use mc_script::send;
-use mc_words::MOST_READERS;
+use mc_words::{MOST_READERS, Policy};
 use std::alloc::Global;
 use std::convert::AsStr;
 use std::fmt::{InlineText, Write as _};
@@ -120,6 +121,17 @@ fn load_for(options: LoadOptions) -> Load
     }
 }
 
+/// The policy that the options ask for.
+fn policy_for(options: LoadOptions) -> Policy
+    ensures { result ≡ (if options.scan_resistant then ScanResistant else Clock) }
+{
+    if options.scan_resistant {
+        Policy::ScanResistant
+    } else {
+        Policy::Clock
+    }
+}
+
 /// Prints why there is no report.
 fn refuse<E: Write>(errors: &mut E, why: LoadError) -> u8
     ensures told { Tells (stream (E.contents errors.old) (E.contents errors.new)) (codes "refused: " ++ load_text why) }
@@ -169,6 +181,7 @@ fn run_alone<R: Threads + Sync + Clock, W: Write, E: Write>(
     match load_many::<4, R, Option<Meter<'_, R>>>(
         rt,
         alloc,
+        policy_for(options),
         load_for(options),
         meter,
         options.many,
@@ -193,10 +206,12 @@ fn turns_for<R: Threads + Sync, G: Gate>(
         writers,
         ..
     } = options;
+    let policy = policy_for(options);
+    let load = load_for(options);
     if shards == 1 {
-        run_desk::<4, R, G>(rt, alloc, load_for(options), writers, gate)
+        run_desk::<4, R, G>(rt, alloc, policy, load, writers, gate)
     } else {
-        run_shards::<4, R, G>(rt, alloc, load_for(options), shards, writers, gate)
+        run_shards::<4, R, G>(rt, alloc, policy, load, shards, writers, gate)
     }
 }
 

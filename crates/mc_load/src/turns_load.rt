@@ -16,8 +16,9 @@ use crate::run::run_all;
 use crate::turns::{DeskReport, MOST_WRITERS, TurnsRun};
 use crate::turns_ready::{Seated, seat_workers, seats_of};
 use crate::turns_summing::run_of;
-use mc_cache::{Desk, open};
-use mc_shards::{OpenShardsError, open_shards};
+use mc_cache::{Desk, open_by};
+use mc_shards::{OpenShardsError, open_spared};
+use mc_words::Policy;
 use std::alloc::Global;
 use std::thread::Threads;
 
@@ -79,6 +80,7 @@ fn run_workers<const V: usize, R: Threads + Sync, G: Gate>(
 pub fn run_desk<const V: usize, R: Threads + Sync, G: Gate>(
     rt: &R,
     alloc: Global,
+    policy: Policy,
     load: Load,
     writers: u32,
     gate: &G,
@@ -90,7 +92,7 @@ pub fn run_desk<const V: usize, R: Threads + Sync, G: Gate>(
         return Err(why);
     }
     let seats = seats_of(load.readers, writers);
-    let (cache, writer, readers) = match open::<V>(alloc, load.shape, seats) {
+    let (cache, writer, readers) = match open_by::<V>(alloc, policy, load.shape, seats) {
         Ok(opened) => opened,
         Err(why) => return Err(LoadError::Open(why)),
     };
@@ -106,6 +108,7 @@ pub fn run_desk<const V: usize, R: Threads + Sync, G: Gate>(
 pub fn run_shards<const V: usize, R: Threads + Sync, G: Gate>(
     rt: &R,
     alloc: Global,
+    policy: Policy,
     load: Load,
     shards: u32,
     writers: u32,
@@ -118,7 +121,9 @@ pub fn run_shards<const V: usize, R: Threads + Sync, G: Gate>(
         return Err(why);
     }
     let seats = seats_of(load.readers, writers);
-    let (opened, passes) = match open_shards::<V>(alloc, load.shape, shards, seats) {
+    let (opened, passes, _) = match open_spared::<V>(
+        alloc, policy, load.shape, shards, seats, seats,
+    ) {
         Ok(opened) => opened,
         Err(OpenShardsError::Shards) => return Err(LoadError::Shards),
         Err(OpenShardsError::Open(why)) => return Err(LoadError::Open(why)),
@@ -147,7 +152,7 @@ pub fn load_desk<const V: usize, R: Threads + Sync, G: Gate>(
     requires width { IsWidth V }
     ensures { MatchResult result (ReportsTurns V load 1 writers) (RefusesTurns (G.may_refuse gate.now) load 1 writers) }
 {
-    match run_desk::<V, R, G>(rt, alloc, load, writers, gate) {
+    match run_desk::<V, R, G>(rt, alloc, Policy::Clock, load, writers, gate) {
         Ok(run) => Ok(run.report),
         Err(why) => Err(why),
     }
@@ -167,7 +172,7 @@ pub fn load_shards<const V: usize, R: Threads + Sync, G: Gate>(
     requires width { IsWidth V }
     ensures { MatchResult result (ReportsTurns V load shards writers) (RefusesTurns (G.may_refuse gate.now) load shards writers) }
 {
-    match run_shards::<V, R, G>(rt, alloc, load, shards, writers, gate) {
+    match run_shards::<V, R, G>(rt, alloc, Policy::Clock, load, shards, writers, gate) {
         Ok(run) => Ok(run.report),
         Err(why) => Err(why),
     }

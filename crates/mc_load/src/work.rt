@@ -16,7 +16,8 @@ use crate::refusing::refused_lookup;
 use crate::report::Report;
 use crate::run::run_all;
 use crate::summing::report_of;
-use mc_cache::{Cache, Writer, open};
+use mc_cache::{Cache, Writer, open_by};
+use mc_words::Policy;
 use std::alloc::Global;
 use std::thread::Threads;
 
@@ -71,7 +72,7 @@ pub fn load<const V: usize, R: Threads + Sync, G: Gate>(
     requires width { IsWidth V }
     ensures { MatchResult result (Reports V load) (RefusesLoad (G.may_refuse gate.now) load) }
 {
-    load_many::<V, R, G>(rt, alloc, load, gate, 1)
+    load_many::<V, R, G>(rt, alloc, Policy::Clock, load, gate, 1)
 }
 
 /// Like `load`, but a reader looks `many` keys up by one call of `Reader::get_many`, in the order in which it draws them. The gate is asked
@@ -80,6 +81,7 @@ pub fn load<const V: usize, R: Threads + Sync, G: Gate>(
 pub fn load_many<const V: usize, R: Threads + Sync, G: Gate>(
     rt: &R,
     alloc: Global,
+    policy: Policy,
     load: Load,
     gate: &G,
     many: u32,
@@ -91,7 +93,7 @@ pub fn load_many<const V: usize, R: Threads + Sync, G: Gate>(
     if load.keys == 0 || load.keys > 1 << 32 {
         return Err(LoadError::Keys);
     }
-    let (cache, writer, readers) = match open::<V>(alloc, load.shape, load.readers) {
+    let (cache, writer, readers) = match open_by::<V>(alloc, policy, load.shape, load.readers) {
         Ok(opened) => opened,
         Err(why) => return Err(LoadError::Open(why)),
     };

@@ -44,8 +44,11 @@ load_draws =
     ∷ []
 
 -- an option without a value
-abbrev pub histogram_rule : Rule
-histogram_rule = record (new_rule (codes "histogram")) { long = Some (codes "histogram"); action = Some action.SetTrue }
+abbrev pub flag_rule : Text → Rule
+flag_rule name = record (new_rule name) { long = Some name; action = Some action.SetTrue }
+
+abbrev pub flags : List Rule
+flags = flag_rule (codes "scan-resistant") ∷ flag_rule (codes "histogram") ∷ []
 
 -- the command `mcload`, which has a version, with its first argument and without its options
 abbrev pub mcload_command : MixNames → App
@@ -53,7 +56,7 @@ mcload_command commands = with_rules (on_top (λ s. record s { has_version = tru
 
 abbrev pub load_program : MixNames → MixNames → App
 load_program commands mixes =
-    with_rules (with_rules (with_rules (with_rules (with_rules (mcload_command commands) load_sizes) load_bounds) (load_others mixes)) load_draws) (histogram_rule ∷ [])
+    with_rules (with_rules (with_rules (with_rules (with_rules (mcload_command commands) load_sizes) load_bounds) (load_others mixes)) load_draws) flags
 
 -- ---- what their texts say
 
@@ -72,6 +75,7 @@ pub record SaysLoad (rows : List Row) (o : LoadOptions) : Type 0 where
   pub writes : option_and_then (number_in 0 1048576) (first_of (codes "writes") rows) ≡ Some o.writes
   pub keys : option_and_then (number_in 0 18446744073709551615) (first_of (codes "keys") rows) ≡ Some o.keys
   pub seed : option_and_then (number_in 0 18446744073709551615) (first_of (codes "seed") rows) ≡ Some o.seed
+  pub scan_resistant : o.scan_resistant ≡ is_given (first_of (codes "scan-resistant") rows)
   pub histogram : o.histogram ≡ is_given (first_of (codes "histogram") rows)
 
 -- ---- what the words ask for

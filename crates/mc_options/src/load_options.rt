@@ -2,8 +2,8 @@
 ghost use Rattle.std.specs.Prelude.{◌≡◌, false, IfOk, MatchResult, map};
 ghost use Rattle.clap.specs.Words.{app_of, first_of, found_of, rows_of, rule_of};
 ghost use Rattle.mc_options.specs.Inside.OptionRows.{row_rule, shared_load_rules};
-ghost use Rattle.mc_options.specs.Options.{AreMixes, MixNames};
-ghost use Rattle.mc_options.specs.LoadOptions.{AreCommands, ReadsLoad, SaysLoad, command_rule, histogram_rule, is_given, load_draws, load_program, mcload_command};
+ghost use Rattle.mc_options.specs.Options.{AreMixes, MixNames, with_rules};
+ghost use Rattle.mc_options.specs.LoadOptions.{AreCommands, ReadsLoad, SaysLoad, command_rule, flag_rule, flags, is_given, load_draws, load_program, mcload_command};
 
 use crate::options::{
     Defaults, MOST_SIZE, OptionRow, VERSION, number, refusal, shape_in, shared_rows, with_options,
@@ -24,6 +24,8 @@ pub struct LoadOptions {
     /// Keys of each call of a reader, from 1 to 64.
     pub many: u32,
     pub shards: u32,
+    /// Whether a new key gives way before one that was used again.
+    pub scan_resistant: bool,
     pub writers: u32,
     /// Calls of each writer, at most 2^20.
     pub writes: u32,
@@ -122,17 +124,25 @@ fn load_rows<'a>() -> [OptionRow<'a>; 7]
     ]
 }
 
-/// The option without a value.
-fn histogram_arg<'a>(alloc: Global) -> Arg<'a>
-    ensures rule { rule_of result ≡ histogram_rule }
+/// An option without a value.
+fn flag<'a>(alloc: Global, name: &'a str, help: &'a str) -> Arg<'a>
+    ensures rule { rule_of result ≡ flag_rule name.now }
     ensures local { result.global ≡ false }
 {
-    Arg::new(alloc, "histogram")
-        .long("histogram")
+    Arg::new(alloc, name)
+        .long(name)
         .action(ArgAction::SetTrue)
-        .help(
-            "Also prints calls a second, and with one shard how far answers were behind the newest change",
-        )
+        .help(help)
+}
+
+/// The command with the options without a value after its own.
+fn with_flags<'a>(alloc: Global, command: Command<'a>) -> Result<Command<'a>, AllocError>
+    ensures { IfOk result (λ c. app_of c ≡ with_rules (app_of command.entry) flags) }
+{
+    let policy = "A new key gives way before one that was used again, in place of CLOCK";
+    let command = command.arg(flag(alloc, "scan-resistant", policy))?;
+    let rates = "Also prints calls a second, and with one shard how far answers were behind the newest change";
+    command.arg(flag(alloc, "histogram", rates))
 }
 
 /// The first argument.
@@ -164,7 +174,7 @@ fn load_command<'a>(alloc: Global) -> Result<Command<'a>, AllocError>
     let command = with_options(alloc, load_named(alloc)?, rows.as_slice())?;
     let rows = load_rows();
     let command = with_options(alloc, command, rows.as_slice())?;
-    command.arg(histogram_arg(alloc))
+    with_flags(alloc, command)
 }
 
 /// Whether an option without a value is given.
@@ -199,6 +209,7 @@ fn load_options_in(matches: &ArgMatches) -> Result<LoadOptions, &'static str>
         lookups: lookups as u32,
         many: many as u32,
         shards: shards as u32,
+        scan_resistant: is_given(matches, "scan-resistant"),
         writers: writers as u32,
         writes: writes as u32,
         keys,

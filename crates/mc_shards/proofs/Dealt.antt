@@ -7,7 +7,7 @@ use Rattle.std.proofs.lemmas.List.Elements.{All-cons, All-head, All-nil, All-pus
 use Rattle.std.proofs.lemmas.Option.{get_or_from_slice_get, none-some, same_Some, slice_get-map, slice_get_read}
 use Rattle.std.proofs.Math.Seq.{map-set_same}
 use lib.Seq.{set-get_or}
-use Rattle.mc_words.specs.declared.policy.Policy.TheVariants.{Clock}
+use Rattle.mc_words.specs.declared.policy.Policy.{Policy}
 use Rattle.mc_words.specs.Keys.{shard_of}
 use Rattle.mc_words.specs.declared.history.Change.{Change}
 use Rattle.mc_words.specs.declared.mix.Mix.{Mix}
@@ -57,10 +57,10 @@ pub unchanged : {A : Type 0} (n : ℕ) (xs ys : List A) → ChangesAt n xs ys (�
 unchanged {A} n xs ys c = c.is ∙ (ap (λ (x : A). slice_set xs n x) (c.goes ∙ sym (get_or_from_slice_get xs n c.before c.before c.was)) ∙ set-get_or xs n c.before)
 
 -- the shape of a table
-pub at_shape : (V : ℕ) (sh : Shape) (tables : List Opening) (n : ℕ) (o : Opening) → All (λ t. t.layout ≡ layout_with V Clock sh) tables → slice_get tables n ≡ Some o → o.layout.shape ≡ sh
-at_shape V sh [] n o a e = absurd (none-some o e)
-at_shape V sh (t ∷ ts) zero o a e = ap (λ (x : Opening). x.layout.shape) (sym (same_Some t o e)) ∙ ap (λ (l : Layout). l.shape) (All-head (λ (x : Opening). x.layout ≡ layout_with V Clock sh) t ts a)
-at_shape V sh (t ∷ ts) (suc n) o a e = at_shape V sh ts n o (All-tail (λ (x : Opening). x.layout ≡ layout_with V Clock sh) t ts a) e
+pub at_shape : (V : ℕ) (policy : Policy) (sh : Shape) (tables : List Opening) (n : ℕ) (o : Opening) → All (λ t. t.layout ≡ layout_with V policy sh) tables → slice_get tables n ≡ Some o → o.layout.shape ≡ sh
+at_shape V policy sh [] n o a e = absurd (none-some o e)
+at_shape V policy sh (t ∷ ts) zero o a e = ap (λ (x : Opening). x.layout.shape) (sym (same_Some t o e)) ∙ ap (λ (l : Layout). l.shape) (All-head (λ (x : Opening). x.layout ≡ layout_with V policy sh) t ts a)
+at_shape V policy sh (t ∷ ts) (suc n) o a e = at_shape V policy sh ts n o (All-tail (λ (x : Opening). x.layout ≡ layout_with V policy sh) t ts a) e
 
 -- ---- while shards are opened
 pub dealt_none : AreDealt [] []

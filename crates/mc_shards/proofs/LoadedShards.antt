@@ -10,7 +10,7 @@ use Rattle.std.proofs.lemmas.Bool.{cases_eq}
 use Rattle.std.proofs.lemmas.List.{get_or-map, get_or-set_other, get_or-set_same, length-map, length-set, map-append, map-set, reverse-append, reverse-reverse}
 use Rattle.std.proofs.lemmas.List.Elements.{All-append, All-cons, All-filter, All-get_or, All-head, All-map, All-nil, All-set, All-tail, All-weaker, filter-append}
 use Rattle.std.proofs.lemmas.Option.{get_or_from_slice_get, none-some, same_Some, slice_get-map, slice_get_read, slice_get_within}
-use Rattle.mc_words.specs.declared.policy.Policy.TheVariants.{Clock}
+use Rattle.mc_words.specs.declared.policy.Policy.{Policy}
 use Rattle.mc_words.specs.History.{IsLegal, value_held, value_of}
 use Rattle.mc_words.specs.Keys.{shard_of}
 use Rattle.mc_words.specs.declared.history.Change.{Change}
@@ -33,6 +33,7 @@ use Rattle.mc_cache.proofs.LoadedEntries.{kept_history}
 use Rattle.mc_cache.proofs.PlainCalls.{seen_new}
 use Rattle.mc_shards.specs.Own.{own_of}
 use Rattle.mc_shards.specs.Loadings.{HaveMet, HoldEntries, ShardsLoad, new_writers, puts_of}
+use Rattle.mc_shards.specs.Openings.{GoBy}
 use Rattle.mc_shards.specs.Plain.{seens}
 use Rattle.mc_shards.specs.Sharded.{ChangesAt}
 use Rattle.mc_shards.proofs.Dealt.{changes}
@@ -303,10 +304,10 @@ seen_all V (r ∷ rs) (w ∷ ws) of met =
 -- ---- steps of the code
 -- a put at the writer of the key's shard
 pub put_here : (V : ℕ) (sh : Shape) (caches : List Opening) (ws : List WriterRecord) (n m : ℕ) (w w' : WriterRecord) (cache : Opening) (k : ℕ) (v : List ℕ) (told : Result Put Why) → map (λ x. x.of) ws ≡ caches → n < length caches → n ≡ m → w ≡ get_or ws n w
-    → cache ≡ get_or caches n cache → All (λ o. o.layout ≡ layout_with V Clock sh) caches → HasCalled V cache.layout.shape (KeptCall k v) w w' (answer.Kept told) → ChangesAt m ws (slice_set ws n w') (λ x x'. HasCalled V sh (KeptCall k v) x x' (answer.Kept told))
+    → cache ≡ get_or caches n cache → All (λ o. o.layout.shape ≡ sh) caches → HasCalled V cache.layout.shape (KeptCall k v) w w' (answer.Kept told) → ChangesAt m ws (slice_set ws n w') (λ x x'. HasCalled V sh (KeptCall k v) x x' (answer.Kept told))
 put_here V sh caches ws n m w w' cache k v told of within here at is shapes called =
     let Called : Shape → WriterRecord → WriterRecord → Type 0 = λ z x x'. HasCalled V z (KeptCall k v) x x' (answer.Kept told) in
-    let shaped : cache.layout.shape ≡ sh = ap (λ (l : Layout). l.shape) (ap (λ (o : Opening). o.layout) is ∙ All-get_or (λ (o : Opening). o.layout ≡ layout_with V Clock sh) caches n cache within shapes) in
+    let shaped : cache.layout.shape ≡ sh = ap (λ (o : Opening). o.layout.shape) is ∙ All-get_or (λ (o : Opening). o.layout.shape ≡ sh) caches n cache within shapes in
     let there : slice_get ws n ≡ Some w = slice_get_read ws (length ws) n w refl (omega (arith, within, sym (length-map ws (λ (x : WriterRecord). x.of)) ∙ ap length of)) at in
     subst (λ (j : ℕ). ChangesAt j ws (slice_set ws n w') (Called sh)) here (changes n ws w w' (Called sh) there (subst (λ (z : Shape). Called z w w') shaped called))
 
@@ -367,15 +368,18 @@ all_seen V caches ws (p ∷ ps) of are met =
     (all_seen V caches ws ps of (All-tail Are p ps are) (All-tail (HaveMet ws) p ps met))
 
 -- the writers of tables of the shape
-pub shaped_writers : (V : ℕ) (sh : Shape) (ws : List WriterRecord) → All (λ o. o.layout ≡ layout_with V Clock sh) (map (λ w. w.of) ws) → All (HasShape sh) ws
-shaped_writers V sh [] a = All-nil (HasShape sh)
-shaped_writers V sh (w ∷ ws) a =
-    let Shaped : Opening → Type 0 = λ o. o.layout ≡ layout_with V Clock sh in
+pub shaped_writers : (sh : Shape) (ws : List WriterRecord) → All (λ o. o.layout.shape ≡ sh) (map (λ w. w.of) ws) → All (HasShape sh) ws
+shaped_writers sh [] a = All-nil (HasShape sh)
+shaped_writers sh (w ∷ ws) a =
+    let Shaped : Opening → Type 0 = λ o. o.layout.shape ≡ sh in
     let of_writer : WriterRecord → Opening = λ x. x.of in
-    All-cons (HasShape sh) w ws (ap (λ (l : Layout). l.shape) (All-head Shaped w.of (map of_writer ws) a)) (shaped_writers V sh ws (All-tail Shaped w.of (map of_writer ws) a))
+    All-cons (HasShape sh) w ws (All-head Shaped w.of (map of_writer ws) a) (shaped_writers sh ws (All-tail Shaped w.of (map of_writer ws) a))
 
-pub shaped_tables : (V : ℕ) (sh : Shape) (tables : List Opening) → All (λ o. o.layout ≡ layout_with V Clock sh) tables → All (λ o. o.layout.shape ≡ sh) tables
-shaped_tables V sh tables a = All-weaker (λ (o : Opening). o.layout ≡ layout_with V Clock sh) (λ (o : Opening). o.layout.shape ≡ sh) (λ o is. ap (λ (l : Layout). l.shape) is) tables a
+pub shaped_tables : (V : ℕ) (policy : Policy) (sh : Shape) (tables : List Opening) → All (λ o. o.layout ≡ layout_with V policy sh) tables → All (λ o. o.layout.shape ≡ sh) tables
+shaped_tables V policy sh tables a = All-weaker (λ (o : Opening). o.layout ≡ layout_with V policy sh) (λ (o : Opening). o.layout.shape ≡ sh) (λ o is. ap (λ (l : Layout). l.shape) is) tables a
+
+pub tables_go_by : (V : ℕ) (policy : Policy) (sh : Shape) (tables : List Opening) → All (λ o. o.layout ≡ layout_with V policy sh) tables → GoBy policy tables
+tables_go_by V policy sh tables a = All-weaker (λ (o : Opening). o.layout ≡ layout_with V policy sh) (λ (o : Opening). o.layout.policy ≡ policy) (λ o is. ap (λ (l : Layout). l.policy) is) tables a
 
 pub tables_of_new : (tables : List Opening) → map (λ w. w.of) (new_writers tables) ≡ tables
 tables_of_new [] = refl

@@ -8,11 +8,10 @@ ghost use Rattle.mc_words.specs.Readers.{HasReaders};
 ghost use Rattle.mc_words.specs.Shapes.{HasShards, IsShape};
 ghost use Rattle.mc_plan.specs.WholeCalls.{KeptCall};
 ghost use Rattle.mc_plan.specs.declared.answer.Answer.TheVariants as answer;
-ghost use Rattle.mc_shared.specs.Views.{layout_with};
 ghost use Rattle.mc_writer.specs.WriterCalls.{HasCalled};
 ghost use Rattle.mc_cache.specs.declared.opening.OpenError.TheVariants.{NoMemory};
 ghost use Rattle.mc_shards.specs.Loadings.{HaveLoaded, HaveMet, HoldEntries, ShardsLoad};
-ghost use Rattle.mc_shards.specs.Openings.{RefusesShards};
+ghost use Rattle.mc_shards.specs.Openings.{GoBy, RefusesShards};
 ghost use Rattle.mc_shards.specs.Plain.{seens};
 ghost use Rattle.mc_shards.specs.Sharded.{ArePassOf, ChangesAt};
 ghost use Rattle.mc_shards.specs.Spares.{AreSparesOf, count_of};
@@ -22,6 +21,7 @@ use crate::pass::Pass;
 use crate::shards::Shards;
 use crate::spares::Spares;
 use mc_cache::{Cache, OpenError, Put, Shape, Why, Writer};
+use mc_words::Policy;
 use std::alloc::Global;
 
 /// Shards that were opened with entries, with their passes.
@@ -43,7 +43,7 @@ fn put_one<const V: usize>(
     value: [u64; V],
 ) -> Result<Put, Why>
     requires many { HasShards (length caches.now.items) }
-    requires shapes { All (λ o. o.layout ≡ layout_with V Clock shape) caches.now.items }
+    requires shapes { All (λ o. o.layout.shape ≡ shape) caches.now.items }
     requires of { map (λ w. w.of) writers.old.items ≡ caches.now.items }
     ensures wide { length value.entry ≡ V }
     ensures of { map (λ w. w.of) writers.new.items ≡ caches.now.items }
@@ -64,7 +64,7 @@ fn load<const V: usize>(
     left: &mut Vec<(usize, Why)>,
 ) -> Result<(), OpenError>
     requires many { HasShards (length caches.now.items) }
-    requires shapes { All (λ o. o.layout ≡ layout_with V Clock shape) caches.now.items }
+    requires shapes { All (λ o. o.layout.shape ≡ shape) caches.now.items }
     requires of { map (λ w. w.of) writers.old.items ≡ caches.now.items }
     requires none { left.old.items ≡ [] }
     ensures of { map (λ w. w.of) writers.new.items ≡ caches.now.items }
@@ -122,6 +122,7 @@ fn meet_all<const V: usize>(
 #[tactic(auto, using(crate::proofs::Spared::refused_as_asked))]
 pub fn open_spared_with<const V: usize>(
     alloc: Global,
+    policy: Policy,
     shape: Shape,
     shards: u32,
     passes: u32,
@@ -131,6 +132,7 @@ pub fn open_spared_with<const V: usize>(
     requires width { IsWidth V }
     requires all { HasReaders passes → (passes ≤ all) × HasReaders all }
     ensures shards { MatchResult result (λ o. (o.0.shards.shape ≡ shape) × (length o.0.shards.tables ≡ shards)) (λ e. RefusesShards shape shards passes e) }
+    ensures policy { IfOk result (λ o. GoBy policy o.0.shards.tables) }
     ensures asked { IfOk result (λ o. HasShards shards × IsShape shape × HasReaders passes) }
     ensures many { IfOk result (λ o. length o.0.passes.items ≡ passes) }
     ensures of { IfOk result (λ o. All (ArePassOf o.0.shards) o.0.passes.items) }
@@ -140,7 +142,7 @@ pub fn open_spared_with<const V: usize>(
 {
     check_opening(shape, shards, passes)?;
     let (caches, mut writers, mut passes, spares) = open_all::<V>(
-        alloc, shape, shards, passes, all,
+        alloc, policy, shape, shards, passes, all,
     )?;
     let mut left = Vec::new(alloc);
     load(shape, &caches, &mut writers, entries, &mut left)?;
@@ -159,7 +161,7 @@ pub fn open_spared_with<const V: usize>(
     Ok((opened, spares))
 }
 
-/// Opens shards with these entries, as `open_spared_with` does, without spares.
+/// Opens shards with CLOCK and these entries, as `open_spared_with` does, without spares.
 /// Condition: a value has from 1 to 8 words.
 pub fn open_shards_with<const V: usize>(
     alloc: Global,
@@ -170,12 +172,21 @@ pub fn open_shards_with<const V: usize>(
 ) -> Result<OpenedShards<V>, OpenShardsError>
     requires width { IsWidth V }
     ensures shards { MatchResult result (λ o. (o.shards.shape ≡ shape) × (length o.shards.tables ≡ shards)) (λ e. RefusesShards shape shards passes e) }
+    ensures policy { IfOk result (λ o. GoBy Clock o.shards.tables) }
     ensures asked { IfOk result (λ o. HasShards shards × IsShape shape × HasReaders passes) }
     ensures many { IfOk result (λ o. length o.passes.items ≡ passes) }
     ensures of { IfOk result (λ o. All (ArePassOf o.shards) o.passes.items) }
     ensures loaded { IfOk result (λ o. HaveLoaded V shape entries.now o.shards.tables o.passes.items o.left.items) }
     ensures plain { IfOk result (λ o. (hs : List (List (Change V))) × HoldEntries V shape entries.now hs o.left.items × All (λ pass. seens V pass ≡ hs) o.passes.items) }
 {
-    let (opened, _) = open_spared_with::<V>(alloc, shape, shards, passes, passes, entries)?;
+    let (opened, _) = open_spared_with::<V>(
+        alloc,
+        Policy::Clock,
+        shape,
+        shards,
+        passes,
+        passes,
+        entries,
+    )?;
     Ok(opened)
 }

@@ -10,7 +10,7 @@ ghost use Rattle.mc_cache.specs.Openings.{RefusesOpening};
 ghost use Rattle.mc_cache.specs.Plain.{IsLegal, history};
 ghost use Rattle.mc_cache.specs.declared.opening.OpenError.TheVariants.{NoMemory};
 ghost use Rattle.mc_shards.specs.declared.opening.OpenShardsError.TheVariants.{Open};
-ghost use Rattle.mc_shards.specs.Openings.{HasSeenNothing, RefusesShards};
+ghost use Rattle.mc_shards.specs.Openings.{GoBy, HasSeenNothing, RefusesShards};
 ghost use Rattle.mc_shards.specs.Lending.{table_of};
 ghost use Rattle.mc_shards.specs.Loadings.{new_writers};
 ghost use Rattle.mc_shards.specs.Inside.Dealt.{AreDealt};
@@ -21,8 +21,8 @@ use crate::lender::Lender;
 use crate::pass::Pass;
 use crate::shards::Shards;
 use crate::spares::Spares;
-use mc_cache::{Cache, OpenError, Reader, Shape, Writer, open};
-use mc_words::{MOST_READERS, can_shard};
+use mc_cache::{Cache, OpenError, Reader, Shape, Writer, open_by};
+use mc_words::{MOST_READERS, Policy, can_shard};
 use std::alloc::{AllocError, Global};
 use thiserror::Error;
 
@@ -113,6 +113,7 @@ fn deal<const V: usize>(
 // One cache more with this many readers, its writer, the passes with a reader of it, and the readers that are left.
 fn open_one<const V: usize>(
     alloc: Global,
+    policy: Policy,
     shape: Shape,
     all: u32,
     caches: &Vec<Cache<V>>,
@@ -122,14 +123,14 @@ fn open_one<const V: usize>(
     requires asked { IsShape shape × HasReaders all }
     requires many { length given.items ≤ all }
     requires given { All (AreDealt caches.now.items) given.items }
-    ensures refused { MatchResult result (λ r. r.0.layout ≡ layout_with V Clock shape) (λ e. RefusesOpening shape all e) }
+    ensures refused { MatchResult result (λ r. r.0.layout ≡ layout_with V policy shape) (λ e. RefusesOpening shape all e) }
     ensures writer { IfOk result (λ r. r.1 ≡ writer_record r.0 [] []) }
     ensures many { IfOk result (λ r. length r.2.items ≡ length given.entry.items) }
     ensures dealt { IfOk result (λ r. All (AreDealt (caches.now.items ++ r.0 ∷ [])) r.2.items) }
     ensures left { IfOk result (λ r. All (λ x. (x.of ≡ r.0) × (x.front ≡ [])) r.3.items) }
     ensures rest { IfOk result (λ r. length r.3.items + length given.entry.items ≡ all) }
 {
-    let (cache, writer, readers) = open::<V>(alloc, shape, all)?;
+    let (cache, writer, readers) = open_by::<V>(alloc, policy, shape, all)?;
     match deal::<V>(alloc, caches, &cache, given, readers) {
         Ok((dealt, left)) => Ok((cache, writer, dealt, left)),
         Err(_) => Err(OpenError::NoMemory),
@@ -150,6 +151,7 @@ pub(crate) fn push_to<T: Drop>(list: &mut Vec<T>, value: T) -> Result<(), OpenEr
 // All caches with this many readers each, their writers, and the requested number of passes.
 pub(crate) fn open_all<const V: usize>(
     alloc: Global,
+    policy: Policy,
     shape: Shape,
     shards: u32,
     passes: u32,
@@ -159,7 +161,7 @@ pub(crate) fn open_all<const V: usize>(
     requires asked { IsShape shape × HasReaders all }
     requires many { passes ≤ all }
     ensures refused { MatchResult result (λ r. length r.0.items ≡ shards) (λ e. RefusesOpening shape all e) }
-    ensures shapes { IfOk result (λ r. All (λ o. o.layout ≡ layout_with V Clock shape) r.0.items) }
+    ensures shapes { IfOk result (λ r. All (λ o. o.layout ≡ layout_with V policy shape) r.0.items) }
     ensures writers { IfOk result (λ r. r.1.items ≡ new_writers r.0.items) }
     ensures many { IfOk result (λ r. length r.2.items ≡ passes) }
     ensures dealt { IfOk result (λ r. All (AreDealt r.0.items) r.2.items) }
@@ -174,7 +176,9 @@ pub(crate) fn open_all<const V: usize>(
     };
     for shard in 0..shards {
         let _shard = shard;
-        let (cache, writer, dealt, left) = open_one::<V>(alloc, shape, all, &caches, given)?;
+        let (cache, writer, dealt, left) = open_one::<V>(
+            alloc, policy, shape, all, &caches, given,
+        )?;
         given = dealt;
         push_to(&mut caches, cache)?;
         push_to(&mut writers, writer)?;
@@ -203,12 +207,13 @@ pub(crate) fn lenders_of<const V: usize>(
     Ok(lenders)
 }
 
-/// Opens `shards` shards, each an empty cache of this shape with `all` readers, and `passes` passes. The other readers are spares. Returns the
-/// first error that applies: `Shards` if their number is no power of two from 1 to 256, then those of `mc_cache::open`. After an error nothing
+/// Opens `shards` shards, each an empty cache of this policy and shape with `all` readers, and `passes` passes. The other readers are spares. Returns
+/// the first error that applies: `Shards` if their number is no power of two from 1 to 256, then those of `mc_cache::open`. After an error nothing
 /// leaks. Conditions: a value has from 1 to 8 words, and there may be as many readers as `all` if there may be as many passes.
 #[tactic(auto, using(crate::proofs::Spared::refused_as_asked))]
 pub fn open_spared<const V: usize>(
     alloc: Global,
+    policy: Policy,
     shape: Shape,
     shards: u32,
     passes: u32,
@@ -217,6 +222,7 @@ pub fn open_spared<const V: usize>(
     requires width { IsWidth V }
     requires all { HasReaders passes → (passes ≤ all) × HasReaders all }
     ensures shards { MatchResult result (λ r. (r.0.shape ≡ shape) × (length r.0.tables ≡ shards)) (λ e. RefusesShards shape shards passes e) }
+    ensures policy { IfOk result (λ r. GoBy policy r.0.tables) }
     ensures asked { IfOk result (λ r. HasShards shards × IsShape shape × HasReaders passes) }
     ensures many { IfOk result (λ r. length r.1.items ≡ passes) }
     ensures of { IfOk result (λ r. All (ArePassOf r.0) r.1.items) }
@@ -224,7 +230,9 @@ pub fn open_spared<const V: usize>(
     ensures spares { IfOk result (λ r. AreSparesOf r.0 r.2 × (count_of r.2 + passes ≡ all)) }
 {
     check_opening(shape, shards, passes)?;
-    let (caches, writers, passes, spares) = open_all::<V>(alloc, shape, shards, passes, all)?;
+    let (caches, writers, passes, spares) = open_all::<V>(
+        alloc, policy, shape, shards, passes, all,
+    )?;
     let lenders = lenders_of::<V>(alloc, writers)?;
     let shards = Shards {
         shape,
@@ -234,7 +242,7 @@ pub fn open_spared<const V: usize>(
     Ok((shards, passes, spares))
 }
 
-/// Opens `shards` shards, each an empty cache of this shape, and `passes` passes: `open_spared` without spares.
+/// Opens `shards` shards, each an empty cache of this shape with CLOCK, and `passes` passes: `open_spared` without spares.
 /// Condition: a value has from 1 to 8 words.
 pub fn open_shards<const V: usize>(
     alloc: Global,
@@ -244,11 +252,19 @@ pub fn open_shards<const V: usize>(
 ) -> Result<(Shards<V>, Vec<Pass<V>>), OpenShardsError>
     requires width { IsWidth V }
     ensures shards { MatchResult result (λ r. (r.0.shape ≡ shape) × (length r.0.tables ≡ shards)) (λ e. RefusesShards shape shards passes e) }
+    ensures policy { IfOk result (λ r. GoBy Clock r.0.tables) }
     ensures asked { IfOk result (λ r. HasShards shards × IsShape shape × HasReaders passes) }
     ensures many { IfOk result (λ r. length r.1.items ≡ passes) }
     ensures of { IfOk result (λ r. All (ArePassOf r.0) r.1.items) }
     ensures plain { IfOk result (λ r. All (HasSeenNothing V) r.1.items) }
 {
-    let (shards, passes, _) = open_spared::<V>(alloc, shape, shards, passes, passes)?;
+    let (shards, passes, _) = open_spared::<V>(
+        alloc,
+        Policy::Clock,
+        shape,
+        shards,
+        passes,
+        passes,
+    )?;
     Ok((shards, passes))
 }

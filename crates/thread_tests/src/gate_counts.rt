@@ -1,6 +1,6 @@
 //! What the gate of a load is asked and told: how many keys before one answer, and the moment of each change.
 use mc_load::{Gate, Load, load_many};
-use mc_words::{Mix, Shape};
+use mc_words::{Mix, Policy, Shape};
 use std::sync::atomic::{AtomicU64, Ordering};
 use std::test::Fail;
 
@@ -86,7 +86,7 @@ fn crowded() -> Load {
 fn keys_are_looked_up_together(rt: HostRuntime) -> Result<(), Fail> {
     for many in [1, 2, 8, 64] {
         let gate = Counts::new();
-        let report = load_many::<1, _, _>(&rt, rt.alloc(), crowded(), &gate, many)?;
+        let report = load_many::<1, _, _>(&rt, rt.alloc(), Policy::Clock, crowded(), &gate, many)?;
         assert_eq!(rt; report.lookups, 100);
         assert_eq!(rt; gate.most.load(Ordering::SeqCst), u64::from(many));
     }
@@ -95,13 +95,15 @@ fn keys_are_looked_up_together(rt: HostRuntime) -> Result<(), Fail> {
 
 #[test]
 fn put_that_evicts_has_a_moment(rt: HostRuntime) -> Result<(), Fail> {
-    let gate = Counts::new();
-    let report = load_many::<1, _, _>(&rt, rt.alloc(), crowded(), &gate, 1)?;
-    assert!(rt; gate.twice.load(Ordering::SeqCst) > 0);
-    let told = [
-        gate.without.load(Ordering::SeqCst),
-        gate.moment.load(Ordering::SeqCst),
-    ];
-    assert_eq!(rt; told, [0, report.changes]);
+    for policy in [Policy::Clock, Policy::ScanResistant] {
+        let gate = Counts::new();
+        let report = load_many::<1, _, _>(&rt, rt.alloc(), policy, crowded(), &gate, 1)?;
+        assert!(rt; gate.twice.load(Ordering::SeqCst) > 0);
+        let told = [
+            gate.without.load(Ordering::SeqCst),
+            gate.moment.load(Ordering::SeqCst),
+        ];
+        assert_eq!(rt; [report.wrong, told[0], told[1]], [0, 0, report.changes]);
+    }
     Ok(())
 }

@@ -3,7 +3,7 @@
 //! The expected numbers are computed separately: the generator's words, and a plain map.
 use crate::late_gate::Late;
 use mc_load::{Gate, Load, LoadError, load, load_many};
-use mc_words::{Mix, Shape};
+use mc_words::{Mix, Policy, Shape};
 use std::alloc::Global;
 use std::sync::atomic::{AtomicU64, Ordering};
 use std::test::Fail;
@@ -72,7 +72,7 @@ fn many_keys_of_a_call_are_those_that_are_drawn(rt: HostRuntime) -> Result<(), F
         (asked(1, 3, 2000, 2000, 1000), 7, [1864, 4533, 1467]),
     ] {
         let gate = Late::new(late.writes, 4, 0);
-        let report = load_many::<4, _, _>(&rt, rt.alloc(), late, &gate, many)?;
+        let report = load_many::<4, _, _>(&rt, rt.alloc(), Policy::Clock, late, &gate, many)?;
         let told = [report.changes, report.found, report.absent];
         assert!(rt; told == due, "calls for {many} keys");
         let lookups = u64::from(late.readers) * u64::from(late.lookups);
@@ -96,7 +96,8 @@ fn the_least_worker_is_told_that_the_gate_refused(rt: HostRuntime) -> Result<(),
         (32, 2, 50, [40, 99]),
     ] {
         let gate = Late::new(40, first, call);
-        let told = load_many::<4, _, _>(&rt, rt.alloc(), asked(1, 2, 50, 40, 64), &gate, many);
+        let load = asked(1, 2, 50, 40, 64);
+        let told = load_many::<4, _, _>(&rt, rt.alloc(), Policy::Clock, load, &gate, many);
         let due = LoadError::Gate { who: first, call };
         assert!(rt; told == Err(due), "worker {first}, calls for {many} keys");
         let [writes, _, lookups] = gate.calls();

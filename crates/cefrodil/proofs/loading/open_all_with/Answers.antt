@@ -19,13 +19,13 @@ returns-then-not-fill-clause-refused c =
     let asked = c.in-Ok.ensures in let rest = c.in-Ok-opened.ensures.rest in
     λ _. inr (
       (λ _. asked.1),
-      refused_memory c.args.shape.now c.args.shards c.args.words (length c.args.handles.now) c.count_of.result c.in-Ok.shape asked.0 asked.2 asked.3
+      refused_memory c.args.shape.now c.args.shards c.args.words (length c.args.handles.now) c.count_of.result c.in-Ok.asked.1 asked.0 asked.2 asked.3 asked.5
           rest.2 rest.3 rest.4 c.count_of.ensures.right,
     )
 
 pub returns-clause-opened : goal.returns-clause-opened
 returns-clause-opened c =
     let made = c.in-Ok-opened.ensures in let rest = c.in-Ok-opened.opened.0 in let left = c.in-Ok-opened.opened.1 in let statuses : List ℕ = c.tell_left.new.statuses in
-    λ _. are_loaded c.args.shape.now c.args.shards c.args.words (length c.args.statuses.now) c.args.entries.now statuses c.fill.new.handles c.in-Ok.shape rest left.items
-    c.in-Ok.ensures.3 made.refused.0 made.refused.1 made.rest.0 (c.tell_left.auto.statuses ∙ c.tell_done.auto.statuses) c.in-Ok.ensures.1 made.loaded (c.if-not-fill.ensures.filled refl)
+    λ _. are_loaded c.args.shape.now c.args.shards c.args.words (length c.args.statuses.now) c.args.entries.now statuses c.fill.new.handles c.in-Ok.asked.1 rest left.items
+    c.in-Ok.ensures.5 made.refused.0 made.refused.1 (c.in-Ok.asked.0, c.in-Ok.ensures.4, made.policy) made.rest.0 (c.tell_left.auto.statuses ∙ c.tell_done.auto.statuses) c.in-Ok.ensures.1 made.loaded (c.if-not-fill.ensures.filled refl)
     (subst (λ (ls : List (ℕ × Why)). EachIndex statuses (λ i. slice_index statuses i ≡ entry_status ls i)) c.as_slice.ensures.value c.tell_left.ensures)

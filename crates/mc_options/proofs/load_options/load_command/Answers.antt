@@ -1,6 +1,6 @@
 use Rattle.std.proofs.Common.{◌∙◌, ap, ap₂, map}
 use Rattle.std.proofs.lemmas.Result.{IfOk-weaker}
-use Rattle.clap.specs.Words.{with_rule}
+use Rattle.mc_options.specs.LoadOptions.{flags}
 use Rattle.mc_options.specs.Options.{with_rules}
 use Rattle.mc_options.specs.Inside.OptionRows.{row_rule}
 use Rattle.mc_options.proofs.load_options.load_command.Goals as goal
@@ -13,4 +13,4 @@ returns c =
     let shared = c.in_ok-command.ensures ∙ ap₂ with_rules named.2 rows in
     let own = ap (map row_rule) c.as_slice-2.ensures ∙ c.load_rows-rows.ensures in
     let filled = c.in_ok-command-2.ensures ∙ ap₂ with_rules shared own in
-    IfOk-weaker c.arg.result _ _ (λ r added. (named.0, mixes.0, named.1, mixes.1, added.shape c.histogram_arg.ensures.local ∙ ap₂ with_rule filled c.histogram_arg.ensures.rule)) c.arg.ensures
+    IfOk-weaker c.with_flags.result _ _ (λ r added. (named.0, mixes.0, named.1, mixes.1, added ∙ ap (λ app. with_rules app flags) filled)) c.with_flags.ensures

@@ -2,7 +2,6 @@ use Rattle.std.proofs.Common.{◌≡◌, ◌-◌, [], ◌∷◌, ◌++◌, List,
 use Rattle.std.specs.List.{All, AllZip}
 use Rattle.std.proofs.lemmas.List.{length_push, map-append}
 use Rattle.std.proofs.lemmas.List.Elements.{All-push, All-same, All-weaker}
-use Rattle.mc_words.specs.declared.policy.Policy.TheVariants.{Clock}
 use Rattle.mc_shared.specs.Records.{Opening, ReaderRecord, WriterRecord, writer_record}
 use Rattle.mc_shared.specs.Views.{layout_with}
 use Rattle.mc_shards.specs.Inside.Dealt.{AreDealt}
@@ -15,7 +14,7 @@ loop-shard-preserved g c =
     let was = c.loop-shard.invariant in
     let cache : Opening = c.in_ok-cache.cache in
     let tables : List Opening = c.loop-shard.caches.items in
-    let Shaped : Opening → Type 0 = λ o. o.layout ≡ layout_with g.row.V Clock c.args.shape in
+    let Shaped : Opening → Type 0 = λ o. o.layout ≡ layout_with g.row.V c.args.policy c.args.shape in
     let grown : c.push_to.new.list.items ≡ tables ++ cache ∷ [] = c.in_ok-push_to.ensures.ok in
     let Left : Opening → Readers → Type 0 = λ o list. (length list.items ≡ c.args.all - c.args.passes) × OfTable o list in
     let lists = c.in_ok-push_to-3.ensures.ok in

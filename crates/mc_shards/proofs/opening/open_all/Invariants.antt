@@ -1,6 +1,5 @@
 use Rattle.std.proofs.Common.{◌≡◌, ◌-◌, length}
 use Rattle.std.specs.List.{All, AllZip}
-use Rattle.mc_words.specs.declared.policy.Policy.TheVariants.{Clock}
 use Rattle.mc_shared.specs.Views.{layout_with}
 use Rattle.mc_shards.specs.Inside.Dealt.{AreDealt}
 use Rattle.mc_shards.specs.Loadings.{new_writers}
@@ -9,7 +8,7 @@ use Rattle.mc_shards.proofs.opening.open_all.Given as goal
 abbrev pub invariant-loop-shard : goal.invariant-loop-shard
 invariant-loop-shard g l = record {
   count : length l.caches.items ≡ l.shard;
-  shapes : All (λ o. o.layout ≡ layout_with g.row.V Clock l.shape) l.caches.items;
+  shapes : All (λ o. o.layout ≡ layout_with g.row.V l.policy l.shape) l.caches.items;
   writers : l.writers.items ≡ new_writers l.caches.items;
   many : length l.given.items ≡ l.passes;
   dealt : All (AreDealt l.caches.items) l.given.items;
