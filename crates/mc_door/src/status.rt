@@ -80,3 +80,6 @@ pub const PRESENT: u32 = 25;
 
 /// The handle holds no turns.
 pub const HOLDS_NOT: u32 = 26;
+
+/// The shape's `policy` is out of its range.
+pub const POLICY: u32 = 28;
