@@ -50,7 +50,8 @@ USED = (51, 60, 70, 80, 85, 90, 93, 95, 97)
 # Programs that have several contestants, or options of their own.
 PROGRAMS = {'cefrodil': ('mcbench',), 'many': ('mcbench', '--many', str(MANY)), 'shards16': ('mcbench', '--shards', '16'),
             'shards64': ('mcbench', '--shards', '64'), 'door_many': ('door', '--many', str(MANY)), 'twin': ('contest', 'twin'),
-            'scan_resistant': ('door_shards',), 'clock': ('door_shards', '--clock', '1'), 'dashmap': ('contest', 'dashmap'), 'locked': ('contest', 'locked'), 'lru': ('contest', 'lru'),
+            'scan_resistant': ('door_shards',), 'clock': ('door_shards', '--clock', '1'),
+            'dashmap': ('contest', 'dashmap'), 'locked': ('contest', 'locked'), 'lru': ('contest', 'lru'),
             **{name: ('maps_' + name.split('_')[0], name.split('_', 1)[1]) for name in (*MAPS, *dict(ONE_TABLE).values())}}
 # The figures: their units, and how they are shown.
 UNITS = {'ns_lookup': ', ns', 'lookups_s': ', M/s', 'writes_s': ', M/s', 'load_factor': '', 'bytes_key': '', 'ns_call': ', ns',

@@ -1,6 +1,6 @@
 #!/usr/bin/env bash
-# Lookups in a full cache by each policy, from C. The keys are drawn by Zipf's law with skew 0.99, and each key that is missed is put. There are 16
-# shards, each of which has just its share of the items. Keys are drawn beforehand, so that a call's time is that of the cache alone.
+# Lookups in a full cache by each policy, from C. The keys are drawn by Zipf's law with skew 0.99, and each key that is missed is put. There are
+# 16 shards, each of which has just its share of the items. Keys are drawn beforehand, so a call's time is that of the cache alone.
 # bench/contests.py says how the contestants run and what a cell is.
 #
 # usage: [ROUNDS=N] [SECONDS_EACH=T] [CEFRODIL_LIB=LIB] bench/full_cache.sh FOLDER

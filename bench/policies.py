@@ -4,8 +4,8 @@
 The lookups are those of bench/traces.py. A key that is absent is put. It prints a table with a row for one table, and one for 16 shards, of which each
 has a sixteenth of the items.
 
-With LIB it builds bench/peers/ratio/ratio.c, which makes these lookups by calls of the library. The table has its hits by each policy beside those of
-the model that this policy is to follow. If they are more than half a point apart, the status is 1.
+With LIB it builds bench/peers/ratio/ratio.c, which makes these lookups by calls of the library. The table has its hits by each policy beside
+those of the model that this policy is to follow. If they are more than half a point apart, the status is 1.
 
 usage: [LOOKUPS=N] bench/policies.py [LIB]     LOOKUPS: none: 200,000; LIB: the folder of libcefrodil.a, as c/build makes it; none: models alone
 

@@ -21,8 +21,8 @@ struct Zipf {
     }
 };
 
-// The lookups of a thread, and its puts of what it misses: until it is over, and so many lookups at least. The keys are drawn before, some at a time,
-// and only the calls are timed.
+// The lookups of a thread, and its puts of what it misses: until it is over, and so many lookups at least. The keys are drawn before, some at a
+// time, and only the calls are timed.
 template <class C> Tally look_or_put(C &map, const Options &options, uint64_t seed, uint64_t least, const std::atomic<bool> &over) {
     const Zipf zipf(options.skew / 100.0, options.keys);
     Draw draw(options.seed * 1000 + seed);

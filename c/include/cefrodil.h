@@ -109,9 +109,10 @@ typedef struct cefrodil_shape {
 /* Whether the library hashes keys, or takes them as they are. */
 enum { CEFRODIL_MIX_FULL = 0, CEFRODIL_MIX_NONE = 1 };
 
-/* Which key a full shard evicts for a new one. A key is used when a lookup finds it, other than cefrodil_peek, and when a put overwrites its value.
- * SCAN_RESISTANT: a key that was not used since its put. So a scan evicts few keys that are in use. If more than nine in ten keys were used, one of
- * these is evicted. A key that is put again soon after its eviction counts as used.
+/* Which key a full shard evicts for a new one. A key is used when a lookup finds it, other than cefrodil_peek, and when a put overwrites its
+ * value.
+ * SCAN_RESISTANT: a key that was not used since its put. So a scan evicts few keys that are in use. If more than nine in ten keys were used, one
+ * of these is evicted. A key that is put again soon after its eviction counts as used.
  * CLOCK: a hand goes round the keys, and evicts the first that was neither put nor used since it last passed. So a scan may evict every key. */
 enum { CEFRODIL_POLICY_SCAN_RESISTANT = 0, CEFRODIL_POLICY_CLOCK = 1 };
 

@@ -13,12 +13,12 @@ pub enum Mix {
     None,
 }
 
-/// Which key a full shard evicts for a new one. A key is used when a lookup finds it, other than by `peek` and `try_peek`, and when a put overwrites
-/// its value.
+/// Which key a full shard evicts for a new one. A key is used when a lookup finds it, other than by `peek` and `try_peek`, and when a put
+/// overwrites its value.
 #[derive(Clone, Copy, Debug, Default, PartialEq, Eq, Hash)]
 pub enum Policy {
-    /// Evicts a key that was not used since its put. So a scan evicts few keys that are in use. If more than nine in ten keys were used, it evicts one
-    /// of these. A key that is put again soon after its eviction counts as used.
+    /// Evicts a key that was not used since its put. So a scan evicts few keys that are in use. If more than nine in ten keys were used, it
+    /// evicts one of these. A key that is put again soon after its eviction counts as used.
     #[default]
     ScanResistant,
     /// A hand goes round the keys, and evicts the first that was neither put nor used since it last passed. So a scan may evict every key.

@@ -4,7 +4,8 @@ use std::error::Error;
 
 type Tested = Result<(), Box<dyn Error>>;
 
-// Key 2 is used once, before key 6 is put. Here are the keys that give way to keys 5 to 11, one to each. With CLOCK the hand comes round to key 2.
+// Key 2 is used once, before key 6 is put. Here are the keys that give way to keys 5 to 11, one to each. With CLOCK the hand comes round to
+// key 2.
 const GIVE_WAY: [(Policy, [u64; 7]); 2] =
     [(Policy::ScanResistant, [1, 3, 4, 5, 6, 7, 8]), (Policy::Clock, [1, 3, 4, 2, 5, 6, 7])];
 

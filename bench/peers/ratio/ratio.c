@@ -1,8 +1,8 @@
 /* How many lookups find their key in a cache of the library, for `bench/policies.py`. Standard input has the keys, as words of 64 bits. Each that is
  * missed is put.
  *
- * usage: ratio ITEMS SHARDS POLICY     ITEMS: of all shards together; POLICY: scan-resistant or clock. It prints a line of 0 and 1: which lookups
- * hit. */
+ * usage: ratio ITEMS SHARDS POLICY     ITEMS: of all shards together; POLICY: scan-resistant or clock. It prints a line of 0 and 1: which
+ * lookups hit. */
 #include "cefrodil.h"
 #include <stdio.h>
 #include <stdlib.h>
