@@ -115,12 +115,15 @@ int main() {
     cefrodil_shape shape = *shape_for_items(100);
     shape.items = 2;
     std::vector<Handle<1>> handles, others;
-    Writing<1> writing;
-    MUST(open(shape, 1, 1, handles) == Status::ok && open(shape, 1, 1, others) == Status::ok && writing.own(std::move(others[0])) == Status::ok);
-    writes(ByWriting{writing}, writing.meter());
-    writes(ByHandle{handles[0]}, handles[0].meter());
-    uint64_t len = 9;
-    MUST(handles[0].try_remove(6).status == Status::ok && handles[0].try_len(len) == Status::ok && len == 1);
+    for (shape.policy = 0; shape.policy < 2; shape.policy++) {
+        Writing<1> writing;
+        MUST(open(shape, 1, 1, handles) == Status::ok && open(shape, 1, 1, others) == Status::ok && writing.own(std::move(others[0])) == Status::ok);
+        writes(ByWriting{writing}, writing.meter());
+        writes(ByHandle{handles[0]}, handles[0].meter());
+        uint64_t len = 9;
+        MUST(handles[0].try_remove(6).status == Status::ok && handles[0].try_len(len) == Status::ok && len == 1);
+    }
+    shape.policy = CEFRODIL_POLICY_SCAN_RESISTANT;
     moves(shape, handles[0]);
     MUST(open(shape, 1, 1024, handles) == Status::ok && handles.size() == 1024);
     return outcome("writes");
