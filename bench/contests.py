@@ -24,7 +24,9 @@ ALL = tuple(SHOWN)
 # Those of the bench of maps: the language of the program, and the contestant's name there.
 MAPS = {'rust_cefrodil': '`cefrodil-map`', 'rust_dashmap': 'dashmap', 'rust_locked': SHOWN['locked'], 'rust_lru': SHOWN['lru'],
         'cpp_cefrodil': '`cefrodil::map`', 'cpp_libcuckoo': 'libcuckoo', 'cpp_tbb': 'TBB'}
-SHOWN.update(MAPS)
+# Those of the bench of full caches: the policies.
+POLICIES = {'scan_resistant': 'scan-resistant', 'clock': 'CLOCK'}
+SHOWN.update(MAPS | POLICIES)
 WRITERS = ('door', 'cefrodil', 'libcuckoo', 'tbb', 'dashmap', 'locked', 'lru')
 # From C all threads write to 64 shards, each until it has the turn.
 IN_SHARDS = (('door', 'door_shards'),)
@@ -48,6 +50,7 @@ USED = (51, 60, 70, 80, 85, 90, 93, 95, 97)
 # Programs that have several contestants, or options of their own.
 PROGRAMS = {'cefrodil': ('mcbench',), 'many': ('mcbench', '--many', str(MANY)), 'shards16': ('mcbench', '--shards', '16'),
             'shards64': ('mcbench', '--shards', '64'), 'door_many': ('door', '--many', str(MANY)), 'twin': ('contest', 'twin'),
+            'scan_resistant': ('door_shards',), 'clock': ('door_shards', '--clock', '1'),
             'dashmap': ('contest', 'dashmap'), 'locked': ('contest', 'locked'), 'lru': ('contest', 'lru'),
             **{name: ('maps_' + name.split('_')[0], name.split('_', 1)[1]) for name in (*MAPS, *dict(ONE_TABLE).values())}}
 # The figures: their units, and how they are shown.
@@ -174,6 +177,17 @@ def calls(label, run, threads, role='--readers'):
     return Row(f'{label}, {by}', figure, f'{run} {role} {threads}', tuple(MAPS))
 
 
+def full():
+    """Full caches whose keys are drawn by Zipf's law. Each key that is missed is put."""
+    rows = []
+    for keys, capacity in (100_000, 1000), (100_000_000, 1_000_000):
+        run = f'--workload cache --keys {keys} --capacity {capacity} --skew 99 --shards 16'
+        for threads in 1, 4:
+            row = calls(f'{capacity:,} items of {keys:,} keys', run, threads)._replace(names=tuple(POLICIES))
+            rows += [row, row._replace(label=f'{row.label}: hit ratio', figure='hit_ratio')]
+    return rows
+
+
 def latencies():
     """How long the lookups of three readers take beside a writer, by percentiles. The last row is a measurement of nothing."""
     run = options('mixed', 100_000, ' --readers 3 --writers 1 --latencies 1')
@@ -211,7 +225,7 @@ def sizes():
 
 
 BENCHES = {'peers': peers(), 'large': large(False), 'huge': large(True), 'turns': turns(), 'threads': threads(), 'sizes': sizes(),
-           'maps': maps(), 'latencies': latencies(), 'puts': puts(), 'used': used(), 'shares': shares()}
+           'maps': maps(), 'full': full(), 'latencies': latencies(), 'puts': puts(), 'used': used(), 'shares': shares()}
 
 
 def alone(run):
@@ -295,7 +309,7 @@ def cell(told, row, name):
 
 
 def table(bench, told):
-    names = {'turns': WRITERS, 'maps': tuple(MAPS), 'latencies': TIMED, 'shares': ('cefrodil',)}.get(bench, ALL)
+    names = {'turns': WRITERS, 'maps': tuple(MAPS), 'full': tuple(POLICIES), 'latencies': TIMED, 'shares': ('cefrodil',)}.get(bench, ALL)
     lines = ['| | ' + ' | '.join(SHOWN[name] for name in names) + ' |', '|---' * (len(names) + 1) + '|']
     for row in filter(lambda row: is_measured(told, row), BENCHES[bench]):
         lines.append(f'| {row.title()} | ' + ' | '.join(cell(told, row, name) for name in names) + ' |')

@@ -4,8 +4,8 @@
 The lookups are those of bench/traces.py. A key that is absent is put. It prints a table with a row for one table, and one for 16 shards, of which each
 has a sixteenth of the items.
 
-With LIB it builds bench/peers/ratio/ratio.c, which makes these lookups by calls of the library. The table has its hits beside those of the model that
-it is to follow. If they are more than half a point apart, the status is 1.
+With LIB it builds bench/peers/ratio/ratio.c, which makes these lookups by calls of the library. The table has its hits by each policy beside
+those of the model that this policy is to follow. If they are more than half a point apart, the status is 1.
 
 usage: [LOOKUPS=N] bench/policies.py [LIB]     LOOKUPS: none: 200,000; LIB: the folder of libcefrodil.a, as c/build makes it; none: models alone
 
@@ -21,8 +21,8 @@ from servers import TOP
 from traces import cases, of_model, of_program
 
 SHARDS = 16
-# The model that the library follows, and how many points it may be away from it.
-FOLLOWED, NEAR = 'CLOCK', 0.5
+# The policies of the library, as ratio.c names them, with the models that they follow, and how many points each may be away from its model.
+FOLLOWED, NEAR = {'scan-resistant': 'new and proven', 'clock': 'CLOCK'}, 0.5
 
 
 class Lru:
@@ -305,18 +305,22 @@ def modelled(name):
     return lambda items, shards, keys: of_model(Shards(MODELS[name], items, shards), keys)
 
 
-def called(program):
+def called(program, policy):
     """The column of the library."""
-    return lambda items, shards, keys: of_program([program, str(items), str(shards)], keys)
+    return lambda items, shards, keys: of_program([program, str(items), str(shards), policy], keys)
 
 
 def show_library(library, lookups):
-    """The library beside the model that it is to follow."""
+    """The library beside the models that it is to follow."""
     with tempfile.TemporaryDirectory() as folder:
-        rows = show({FOLLOWED: modelled(FOLLOWED), 'library': called(built_of_c(library, folder))}, lookups)
-    far = sum(abs(model - found) > NEAR for model, found in rows)
+        program = built_of_c(library, folder)
+        columns = {}
+        for policy, model in FOLLOWED.items():
+            columns.update({model: modelled(model), f'library, {policy}': called(program, policy)})
+        rows = show(columns, lookups)
+    far = sum(abs(model - found) > NEAR for row in rows for model, found in zip(row[::2], row[1::2]))
     if far > 0:
-        sys.exit(f'policies.py: {far} rows of the library are more than {NEAR} away from {FOLLOWED}')
+        sys.exit(f'policies.py: {far} cells of the library are more than {NEAR} away from their models')
 
 
 def main(arguments):

@@ -38,6 +38,10 @@ struct Draw {
         state += 0x9e3779b97f4a7c15ull;
         return ((scatter(state) >> 32) * most) >> 32;
     }
+    double below_one() {
+        below(1);
+        return double(scatter(state) >> 11) / double(1ull << 53);
+    }
 };
 
 struct Options {
@@ -45,6 +49,8 @@ struct Options {
     uint64_t readers = 1, writers = 0, keys = 1000, capacity = 1000, write_every = 1, seed = 1, many = 1, latencies = 0;
     // Only the bench of maps has a choice here: how many letters a key has, or 0 for a number; how many words a value has; and 1 for a quick hash.
     uint64_t letters = 0, words = 4, quick = 0;
+    // Only full_cache.hpp has a choice here: the skew in hundredths, how many shards there are, and 1 for CLOCK.
+    uint64_t skew = 99, shards = 16, clock = 0;
     double seconds = 0.3;
 
     Options(int count, char **given) {
@@ -68,6 +74,9 @@ struct Options {
         if (name == "--letters") return letters;
         if (name == "--words") return words;
         if (name == "--quick") return quick;
+        if (name == "--skew") return skew;
+        if (name == "--shards") return shards;
+        if (name == "--clock") return clock;
         fprintf(stderr, "no option %s\n", name.c_str());
         exit(2);
     }

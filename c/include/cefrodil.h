@@ -103,10 +103,18 @@ typedef struct cefrodil_shape {
     uint32_t depth;   /* most keys that one put may move, 0 to 8 */
     uint32_t tries;   /* most tries of one lookup, 1 to 64 */
     uint32_t mix;     /* CEFRODIL_MIX_FULL or CEFRODIL_MIX_NONE */
+    uint32_t policy;  /* CEFRODIL_POLICY_SCAN_RESISTANT or CEFRODIL_POLICY_CLOCK */
 } cefrodil_shape;
 
 /* Whether the library hashes keys, or takes them as they are. */
 enum { CEFRODIL_MIX_FULL = 0, CEFRODIL_MIX_NONE = 1 };
+
+/* Which key a full shard evicts for a new one. A key is used when a lookup finds it, other than cefrodil_peek, and when a put overwrites its
+ * value.
+ * SCAN_RESISTANT: a key that was not used since its put. So a scan evicts few keys that are in use. If more than nine in ten keys were used, one
+ * of these is evicted. A key that is put again soon after its eviction counts as used.
+ * CLOCK: a hand goes round the keys, and evicts the first that was neither put nor used since it last passed. So a scan may evict every key. */
+enum { CEFRODIL_POLICY_SCAN_RESISTANT = 0, CEFRODIL_POLICY_CLOCK = 1 };
 
 /* The numbers of an answer. Every call sets every field, with HELD and CLOSED too; a field that does not apply to the status is 0. So keep a
  * `since` that you need later in a variable of your own. */
@@ -143,7 +151,7 @@ enum {
 };
 
 CEFRODIL_SAME_SIZE(sizeof(cefrodil_handle) == 16, "as the library lays it out");
-CEFRODIL_SAME_SIZE(sizeof(cefrodil_shape) == 32, "as the library lays it out");
+CEFRODIL_SAME_SIZE(sizeof(cefrodil_shape) == 40, "as the library lays it out");
 CEFRODIL_SAME_SIZE(sizeof(cefrodil_reply) == 32, "as the library lays it out");
 CEFRODIL_SAME_SIZE(sizeof(cefrodil_answer) == 24, "as the library lays it out");
 CEFRODIL_SAME_SIZE(sizeof(cefrodil_put_answer) == 40, "as the library lays it out");
@@ -158,8 +166,9 @@ typedef enum cefrodil_status {
     CEFRODIL_BUSY = 2,         /* changes spoiled every try of the lookup; says nothing about the table */
     CEFRODIL_NO_PATH = 3,      /* both buckets of the key are full, and no moves of up to `depth` keys free a slot; if frequent, take more buckets
                                 * */
-    CEFRODIL_ALL_RECENT = 4,   /* the table is full, and a key to evict was not found: the put looked at each item twice, and lookups had used it
-                                * again. Put again, or leave the key uncached. Frequent only if the items are few; only recency bits changed */
+    CEFRODIL_ALL_RECENT = 4,   /* the table is full, and a key to evict was not found: the put looked at items, twice as often as there are items,
+                                * and lookups had used each again. Put again, or leave the key uncached. Frequent only if the items are few; only
+                                * recency bits changed */
     CEFRODIL_SPENT = 5,        /* the write could exceed the `limit` of the shape: open a new cache. 2^62 takes centuries */
     CEFRODIL_CHANGED = 6,      /* the key's last put was another one, at `since` */
     CEFRODIL_HELD = 7,         /* a try for a turn did not win, or another call takes spare handles; nothing was done */
@@ -169,7 +178,7 @@ typedef enum cefrodil_status {
     CEFRODIL_IN_USE = 11,      /* a handle that was to be opened is open already */
     CEFRODIL_NO_MEMORY = 12,   /* out of memory */
     CEFRODIL_BAD_WORDS = 13,   /* a value must have 1 to 8 words */
-    CEFRODIL_BAD_MIX = 14,     /* BAD_MIX to BAD_LIMIT: the first field of the shape, in this order, out of range */
+    CEFRODIL_BAD_MIX = 14,     /* the first field of the shape that is out of range, in the order BAD_MIX, BAD_POLICY, BAD_BUCKETS to BAD_LIMIT */
     CEFRODIL_BAD_BUCKETS = 15,
     CEFRODIL_BAD_ITEMS = 16,
     CEFRODIL_BAD_STRIPES = 17,
@@ -182,7 +191,8 @@ typedef enum cefrodil_status {
     CEFRODIL_BAD_SHARDS = 24,  /* the number of shards must be a power of two, 1 to 256 */
     CEFRODIL_PRESENT = 25,     /* the key is there; its last put was at `since` */
     CEFRODIL_HOLDS_NOT = 26,   /* the handle holds no turns */
-    CEFRODIL_PROCESSOR = 27    /* the processor is older than x86-64-v2: it can run no cache */
+    CEFRODIL_PROCESSOR = 27,   /* the processor is older than x86-64-v2: it can run no cache */
+    CEFRODIL_BAD_POLICY = 28   /* as BAD_MIX */
     /* .ci/calls: end */
 } cefrodil_status;
 
@@ -194,7 +204,7 @@ CEFRODIL_SAME_SIZE(sizeof(cefrodil_status) == 4, "as the library returns it: com
 uint32_t cefrodil_version(void);
 
 /* Fills in the shape of each of `shards` shards that hold `items` items together. One shard has room for just these. Each of several gets its
- * mean share and five standard deviations more, because the hash gives some shards more keys than others.
+ * mean share and five standard deviations more, because the hash gives some shards more keys than others. `mix` and `policy` are 0.
  * OK, BAD_SHARDS, or BAD_ITEMS: no items, or more than 3,774,873 in a shard. Unless OK, the shape is unchanged. */
 CEFRODIL_CALL cefrodil_status cefrodil_shape_for_items(uint32_t items, uint32_t shards, cefrodil_shape *shape)
     CEFRODIL_OF_SERIES(cefrodil_shape_for_items);
@@ -202,8 +212,8 @@ CEFRODIL_CALL cefrodil_status cefrodil_shape_for_items(uint32_t items, uint32_t 
 /* Opens a cache of `shards` shards, each a table of this shape, for values of `words` words. Each of `count` handles becomes a handle of
  * the cache. Threads that write different keys rarely want the same turn if there are several shards. Each shard evicts for itself.
  * OK: all these handles are open. IN_USE: one of them was open before; nothing was done. Otherwise returns the first error
- * that applies, in this order: BAD_WORDS, BAD_MIX, BAD_SHARDS, BAD_BUCKETS to BAD_LIMIT, BAD_HANDLES, NO_MEMORY. No handle is open, and
- * nothing leaks. */
+ * that applies, in this order: BAD_WORDS, BAD_MIX, BAD_POLICY, BAD_SHARDS, BAD_BUCKETS to BAD_LIMIT, BAD_HANDLES, NO_MEMORY. No handle is
+ * open, and nothing leaks. */
 CEFRODIL_CALL cefrodil_status cefrodil_open(const cefrodil_shape *shape, uint32_t shards, size_t words, cefrodil_handle *handles,
                                             size_t count) CEFRODIL_OF_SERIES(cefrodil_open);
 
@@ -558,6 +568,7 @@ CEFRODIL_INLINE const char *cefrodil_text(uint32_t status) {
     case CEFRODIL_PRESENT: return "present";
     case CEFRODIL_HOLDS_NOT: return "the handle holds no turns";
     case CEFRODIL_PROCESSOR: return "the processor is older than x86-64-v2";
+    case CEFRODIL_BAD_POLICY: return "policy must be 0 or 1";
     /* .ci/calls: end */
     default: return "no status";
     }

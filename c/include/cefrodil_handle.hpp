@@ -48,6 +48,7 @@ enum class Status : uint32_t {
     present = CEFRODIL_PRESENT,
     holds_not = CEFRODIL_HOLDS_NOT,
     processor = CEFRODIL_PROCESSOR,
+    bad_policy = CEFRODIL_BAD_POLICY,
     // .ci/calls: end
     // The program is linked with an archive of another version, whose structs and calls may differ. Nothing was done.
     other_version = 1000,

@@ -190,6 +190,8 @@ template <size_t Words> class Turns {
         const auto status = static_cast<Status>(cefrodil_shape_for_items(entries, shards, &shape));
         if (status == Status::ok) {
             shape.mix = mix;
+            // A map chooses by a small table or by queues which entry gives way. Without them it goes by CLOCK.
+            shape.policy = CEFRODIL_POLICY_CLOCK;
             shape.stripes = std::min(shape.stripes, std::max(stripes_of_a_shard, all_stripes / shards));
             capacity_ += uint64_t(shape.items) * shards;
         }

@@ -110,8 +110,8 @@ static void use_all_shards(cefrodil_handle *handle) {
     MUST(cefrodil_stamped_entries(handle, entries, KEYS * (2 + WORDS), &count) == CEFRODIL_OK && cefrodil_close(&more) == CEFRODIL_OK);
 }
 
-static void by_shards(uint32_t shards, uint32_t items) {
-    const cefrodil_shape shape = {1 << 20, 16, items, 8, 4, 4, CEFRODIL_MIX_FULL};
+static void by_shards(uint32_t shards, uint32_t items, uint32_t policy) {
+    const cefrodil_shape shape = {1 << 20, 16, items, 8, 4, 4, CEFRODIL_MIX_FULL, policy};
     MUST(cefrodil_open(&shape, shards, WORDS, handles, 2) == CEFRODIL_OK);
     use(&handles[0]);
     use_all_shards(&handles[0]);
@@ -121,15 +121,18 @@ static void by_shards(uint32_t shards, uint32_t items) {
     MUST(cefrodil_close(&handles[0]) == CEFRODIL_OK && cefrodil_close(&handles[1]) == CEFRODIL_OK);
 }
 
-static void by_one_shard(void) { by_shards(1, KEYS - 10); }
+static void by_one_shard(void) { by_shards(1, KEYS - 10, CEFRODIL_POLICY_SCAN_RESISTANT); }
 
-static void by_two_shards(void) { by_shards(2, KEYS / 2); }
+static void by_clock(void) { by_shards(1, KEYS - 10, CEFRODIL_POLICY_CLOCK); }
+
+static void by_two_shards(void) { by_shards(2, KEYS / 2, CEFRODIL_POLICY_SCAN_RESISTANT); }
 
 int main(void) {
     struct sigaction action = {.sa_sigaction = step, .sa_flags = SA_SIGINFO};
     MUST(sigaction(SIGTRAP, &action, NULL) == 0);
     by_one_shard(); /* so that nothing is bound for the first time in steps */
     call_in_steps(by_one_shard);
+    call_in_steps(by_clock);
     call_in_steps(by_two_shards);
     MUST(steps > 10000 && lost == 0);
     return outcome("callers");

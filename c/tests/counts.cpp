@@ -13,8 +13,8 @@ static bool are(const Counts &counts, std::array<uint64_t, 6> expected) {
            counts.evictions == expected[4] && counts.refusals == expected[5];
 }
 
-static cefrodil_shape shape_of(uint32_t items, uint64_t limit) {
-    return {limit, 64, items, 1, 5, 1, CEFRODIL_MIX_FULL};
+static cefrodil_shape shape_of(uint32_t items, uint64_t limit, uint32_t policy = CEFRODIL_POLICY_SCAN_RESISTANT) {
+    return {limit, 64, items, 1, 5, 1, CEFRODIL_MIX_FULL, policy};
 }
 
 static const uint64_t most = uint64_t(1) << 62;
@@ -80,7 +80,7 @@ static void writes() {
 
 // Both buckets of nine keys are the same two, and no key may move.
 static void no_path() {
-    Writing<1> writing = writing_of({most, 1024, 16, 1, 0, 2, CEFRODIL_MIX_NONE});
+    Writing<1> writing = writing_of({most, 1024, 16, 1, 0, 2, CEFRODIL_MIX_NONE, CEFRODIL_POLICY_SCAN_RESISTANT});
     for (uint64_t key = 0; key < 9; key++) {
         MUST(writing.put(1024 * key, {0}).status == (key < 8 ? Status::ok : Status::no_path));
     }
@@ -88,10 +88,10 @@ static void no_path() {
 }
 
 // One thread looks the two keys up, so that the one item stays recent, while another puts them by turns.
-static void all_recent() {
+static void all_recent(uint32_t policy) {
     std::vector<Handle<1>> handles;
     Writing<1> writing;
-    MUST(open(shape_of(1, most), 1, 2, handles) == Status::ok && handles[1].hold(writing) == Status::ok);
+    MUST(open(shape_of(1, most, policy), 1, 2, handles) == Status::ok && handles[1].hold(writing) == Status::ok);
     std::atomic<bool> done{false};
     std::thread looking([&] {
         for (uint64_t n = 0; !done; n++) {
@@ -290,7 +290,8 @@ int main() {
     lookups();
     writes();
     no_path();
-    all_recent();
+    all_recent(CEFRODIL_POLICY_SCAN_RESISTANT);
+    all_recent(CEFRODIL_POLICY_CLOCK);
     holders();
     closed_at_once();
     refused_batches();

@@ -10,7 +10,7 @@ enum { SHARDS = 8, KEYS = 500 };
 
 /* `buckets` buckets, `items` items, one stripe, and chains of at most two. */
 static cefrodil_shape shape_of(uint32_t buckets, uint32_t items, uint64_t limit) {
-    cefrodil_shape shape = {limit, buckets, items, 1, 2, 2, CEFRODIL_MIX_NONE};
+    cefrodil_shape shape = {limit, buckets, items, 1, 2, 2, CEFRODIL_MIX_NONE, CEFRODIL_POLICY_SCAN_RESISTANT};
     return shape;
 }
 
@@ -112,7 +112,7 @@ static void refused(void) {
     cefrodil_shape shape = shape_of(3, 3, most);
     uint64_t value;
     cefrodil_status statuses[9] = {99, 99, 99, 99, 99, 99, 99, 99, 99};
-    shape.mix = 2;
+    shape.mix = 2, shape.policy = 2;
     MUST(cefrodil_open_with(&shape, 3, 0, nine, 17, statuses, 9, handles, 0) == CEFRODIL_BAD_WORDS);
     MUST(cefrodil_open_with(&shape, 3, 9, nine, 17, statuses, 9, handles, 0) == CEFRODIL_BAD_WORDS);
     MUST(cefrodil_open_with(&shape, 3, 1, nine, 17, statuses, 9, handles, 0) == CEFRODIL_BAD_COUNT);
@@ -120,6 +120,8 @@ static void refused(void) {
     MUST(cefrodil_open_with(&shape, 3, 2, nine, 18, statuses, 9, handles, 0) == CEFRODIL_BAD_COUNT);
     MUST(cefrodil_open_with(&shape, 3, 1, nine, 18, statuses, 9, handles, 0) == CEFRODIL_BAD_MIX);
     shape.mix = CEFRODIL_MIX_NONE;
+    MUST(cefrodil_open_with(&shape, 3, 1, nine, 18, statuses, 9, handles, 0) == CEFRODIL_BAD_POLICY);
+    shape.policy = CEFRODIL_POLICY_CLOCK;
     MUST(cefrodil_open_with(&shape, 3, 1, nine, 18, statuses, 9, handles, 0) == CEFRODIL_BAD_SHARDS);
     MUST(cefrodil_open_with(&shape, 0, 1, nine, 18, statuses, 9, handles, 0) == CEFRODIL_BAD_SHARDS);
     MUST(cefrodil_open_with(&shape, 512, 1, nine, 18, statuses, 9, handles, 0) == CEFRODIL_BAD_SHARDS);

@@ -53,7 +53,7 @@ static void lost_put() {
 
 // A new value that finds no place is a change of the store all the same. Both buckets of the nine keys are the same two, and no key may move.
 static void refused_put() {
-    const cefrodil_shape shape{uint64_t(1) << 62, 1024, 16, 1, 0, 2, CEFRODIL_MIX_NONE};
+    const cefrodil_shape shape{uint64_t(1) << 62, 1024, 16, 1, 0, 2, CEFRODIL_MIX_NONE, CEFRODIL_POLICY_SCAN_RESISTANT};
     std::vector<Handle<1>> handles;
     Writing<1> writing;
     MUST(open(shape, 1, 2, handles) == Status::ok && writing.own(std::move(handles[1])) == Status::ok);

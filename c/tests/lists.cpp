@@ -64,7 +64,7 @@ static void with_stamps(const cefrodil_shape &shape, uint32_t shards) {
 }
 
 int main() {
-    const cefrodil_shape shape{uint64_t(1) << 62, 64, 100, 64, 5, 8, CEFRODIL_MIX_FULL};
+    const cefrodil_shape shape{uint64_t(1) << 62, 64, 100, 64, 5, 8, CEFRODIL_MIX_FULL, CEFRODIL_POLICY_SCAN_RESISTANT};
     of_one_shard(shape);
     of_four_shards(shape);
     with_stamps(shape, 1);

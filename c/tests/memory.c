@@ -300,6 +300,7 @@ int main(void) {
         return 1;
     }
     for (size_t words = 1; words <= 8; words++) {
+        shape.policy = words % 2 == 0 ? CEFRODIL_POLICY_SCAN_RESISTANT : CEFRODIL_POLICY_CLOCK;
         const char *const failed = failure(&shape, words);
         if (failed != NULL) {
             printf("memory: %s of %zu words\n", failed, words);

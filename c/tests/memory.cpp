@@ -25,7 +25,7 @@ template <class Call, class AsBefore> static bool at_last(long own, Call call, A
     return false;
 }
 
-static const cefrodil_shape shape{uint64_t(1) << 62, 64, 100, 64, 5, 8, CEFRODIL_MIX_FULL};
+static const cefrodil_shape shape{uint64_t(1) << 62, 64, 100, 64, 5, 8, CEFRODIL_MIX_FULL, CEFRODIL_POLICY_SCAN_RESISTANT};
 
 // A list has one vector. If nothing is listed, it is empty.
 template <class List> static void lists(size_t words, List list) {

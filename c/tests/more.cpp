@@ -8,7 +8,7 @@
 
 using namespace cefrodil;
 
-static const cefrodil_shape shape{uint64_t(1) << 62, 64, 100, 64, 5, 8, CEFRODIL_MIX_FULL};
+static const cefrodil_shape shape{uint64_t(1) << 62, 64, 100, 64, 5, 8, CEFRODIL_MIX_FULL, CEFRODIL_POLICY_SCAN_RESISTANT};
 
 // More handles look up and write as the first ones do, and replace those that were in the vector. Each meter counts the calls of all.
 static void are_like_the_first(uint32_t shards) {

@@ -64,8 +64,11 @@ static void in_each_way(void) {
 
 int main(void) {
     shape = (cefrodil_shape){.buckets = 4, .items = ITEMS, .stripes = 4, .depth = 5, .tries = 8, .limit = UINT64_C(1) << 62};
-    is_no_use(false);
-    is_no_use(true);
+    for (shape.policy = 0; shape.policy < 2; shape.policy++) {
+        is_no_use(false);
+        is_no_use(true);
+    }
+    shape.policy = CEFRODIL_POLICY_SCAN_RESISTANT;
     in_each_way();
     return outcome("peeks");
 }

@@ -7,7 +7,7 @@ using namespace cefrodil;
 
 static Status expected = Status::ok;
 static bool runs = true;
-static const cefrodil_shape shape{uint64_t(1) << 62, 64, 100, 64, 5, 8, CEFRODIL_MIX_FULL};
+static const cefrodil_shape shape{uint64_t(1) << 62, 64, 100, 64, 5, 8, CEFRODIL_MIX_FULL, CEFRODIL_POLICY_SCAN_RESISTANT};
 
 static bool is(cefrodil_status status) { return static_cast<Status>(status) == expected; }
 

@@ -15,9 +15,11 @@ static void shapes(void) {
     MUST(cefrodil_shape_for_items(KEYS, 12, &shape) == CEFRODIL_BAD_SHARDS);
     MUST(cefrodil_shape_for_items(KEYS, 512, &shape) == CEFRODIL_BAD_SHARDS);
     MUST(cefrodil_shape_for_items(0, 1, &shape) == CEFRODIL_BAD_ITEMS && cefrodil_shape_for_items(0, SHARDS, &shape) == CEFRODIL_BAD_ITEMS);
-    MUST(cefrodil_shape_for_items(UINT32_MAX, 1, &shape) == CEFRODIL_BAD_ITEMS && shape.buckets == 0);
+    shape.mix = 9, shape.policy = 9;
+    MUST(cefrodil_shape_for_items(UINT32_MAX, 1, &shape) == CEFRODIL_BAD_ITEMS && shape.buckets == 0 && shape.policy == 9);
     /* One shard has just these. Of several, each has its share and five deviations more: 63 and five times 8, 2 and five times 2. */
     MUST(cefrodil_shape_for_items(20, 1, &shape) == CEFRODIL_OK && shape.items == 20 && shape.buckets == 16);
+    MUST(shape.mix == CEFRODIL_MIX_FULL && shape.policy == CEFRODIL_POLICY_SCAN_RESISTANT);
     MUST(cefrodil_shape_for_items(KEYS, SHARDS, &shape) == CEFRODIL_OK && shape.items == 103 && shape.buckets == 64);
     /* Fewer than 256 items have room for twice as many. */
     MUST(cefrodil_shape_for_items(255, 1, &shape) == CEFRODIL_OK && shape.items == 255 && shape.buckets == 256);

@@ -37,6 +37,8 @@ int main(void) {
         MUST(cefrodil_shape_for_items(items[n], 1, &shape) == CEFRODIL_OK);
         MUST(shape.items == items[n]);
         MUST(refused_by(&shape) == 0);
+        shape.policy = CEFRODIL_POLICY_CLOCK;
+        MUST(refused_by(&shape) == 0);
         if (items[n] > 7 && items[n] < 256) {
             shape.buckets /= 2;
             crowded += refused_by(&shape);

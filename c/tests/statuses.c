@@ -19,11 +19,15 @@ static void close_both(void) {
 /* Each refusal of an opening, with the faults after it still there. */
 static void refused_openings(void) {
     const cefrodil_shape good = shape;
-    shape.mix = 2, shape.buckets = 3;
+    shape.mix = 2, shape.policy = 2, shape.buckets = 3;
     MUST(cefrodil_open(&shape, 3, 0, handles, 0) == CEFRODIL_BAD_WORDS);
     MUST(cefrodil_open(&shape, 3, 9, handles, 0) == CEFRODIL_BAD_WORDS);
     MUST(cefrodil_open(&shape, 3, 2, handles, 0) == CEFRODIL_BAD_MIX);
-    shape.mix = 1, shape.items = 0;
+    shape.mix = 1;
+    MUST(cefrodil_open(&shape, 3, 2, handles, 0) == CEFRODIL_BAD_POLICY);
+    shape.policy = UINT32_MAX;
+    MUST(opened(3) == CEFRODIL_BAD_POLICY);
+    shape.policy = CEFRODIL_POLICY_CLOCK, shape.items = 0;
     MUST(opened(3) == CEFRODIL_BAD_SHARDS && opened(0) == CEFRODIL_BAD_SHARDS && opened(512) == CEFRODIL_BAD_SHARDS);
     MUST(opened(256) == CEFRODIL_BAD_BUCKETS);
     shape.buckets = 8, shape.stripes = 3;
@@ -40,6 +44,9 @@ static void refused_openings(void) {
     MUST(cefrodil_open(&shape, 1, 2, handles, 0) == CEFRODIL_BAD_LIMIT);
     shape = good;
     MUST(cefrodil_open(&shape, 1, 2, handles, 0) == CEFRODIL_BAD_HANDLES);
+    shape.policy = 2;
+    MUST(opened(1) == CEFRODIL_BAD_POLICY && opened(256) == CEFRODIL_BAD_POLICY);
+    shape = good;
     MUST(!one->live_ && !other->live_);
 }
 

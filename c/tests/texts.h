@@ -31,7 +31,8 @@
     row(BAD_SHARDS, bad_shards, "shards must be a power of two from 1 to 256") \
     row(PRESENT, present, "present") \
     row(HOLDS_NOT, holds_not, "the handle holds no turns") \
-    row(PROCESSOR, processor, "the processor is older than x86-64-v2")
+    row(PROCESSOR, processor, "the processor is older than x86-64-v2") \
+    row(BAD_POLICY, bad_policy, "policy must be 0 or 1")
 /* .ci/calls: end */
 
 #endif

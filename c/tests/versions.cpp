@@ -12,7 +12,7 @@ static std::string dotted(uint32_t version) {
 int main() {
     const bool same = cefrodil_version() / 100 == CEFRODIL_VERSION / 100;
     const Status expected = same ? Status::ok : Status::other_version;
-    const cefrodil_shape shape{uint64_t(1) << 62, 64, 100, 64, 5, 8, CEFRODIL_MIX_FULL};
+    const cefrodil_shape shape{uint64_t(1) << 62, 64, 100, 64, 5, 8, CEFRODIL_MIX_FULL, CEFRODIL_POLICY_SCAN_RESISTANT};
     std::vector<Handle<1>> handles, of_shards, loaded;
     std::vector<Status> statuses;
     MUST(shape_for_items(100).has_value() == same && shape_for_items(100, 4).has_value() == same);

@@ -80,7 +80,7 @@ template <class Calls> static void keys_of_one_call(Calls calls, const Meter &me
     const Answer<1> found = calls.peek(5), absent = calls.peek(4);
     MUST(found.status == Status::ok && found.value && (*found.value)[0] == 50 && found.at == 12 && found.since == 12);
     MUST(absent.status == Status::absent && !absent.value && absent.at == 12 && absent.since == 0);
-    const uint64_t other = calls.peek(3).value ? 3 : 2, keys[3] = {5, other, 6}, evictions = meter.counts().evictions;
+    const uint64_t other = calls.peek(1).value ? 1 : calls.peek(2).value ? 2 : 3, keys[3] = {5, other, 6}, evictions = meter.counts().evictions;
     const std::array<uint64_t, 1> values[3] = {{{51}}, {{31}}, {{60}}};
     cefrodil_put_answer answers[3];
     MUST(calls.put_many(keys, values, answers) == Status::ok);
@@ -115,12 +115,15 @@ int main() {
     cefrodil_shape shape = *shape_for_items(100);
     shape.items = 2;
     std::vector<Handle<1>> handles, others;
-    Writing<1> writing;
-    MUST(open(shape, 1, 1, handles) == Status::ok && open(shape, 1, 1, others) == Status::ok && writing.own(std::move(others[0])) == Status::ok);
-    writes(ByWriting{writing}, writing.meter());
-    writes(ByHandle{handles[0]}, handles[0].meter());
-    uint64_t len = 9;
-    MUST(handles[0].try_remove(6).status == Status::ok && handles[0].try_len(len) == Status::ok && len == 1);
+    for (shape.policy = 0; shape.policy < 2; shape.policy++) {
+        Writing<1> writing;
+        MUST(open(shape, 1, 1, handles) == Status::ok && open(shape, 1, 1, others) == Status::ok && writing.own(std::move(others[0])) == Status::ok);
+        writes(ByWriting{writing}, writing.meter());
+        writes(ByHandle{handles[0]}, handles[0].meter());
+        uint64_t len = 9;
+        MUST(handles[0].try_remove(6).status == Status::ok && handles[0].try_len(len) == Status::ok && len == 1);
+    }
+    shape.policy = CEFRODIL_POLICY_SCAN_RESISTANT;
     moves(shape, handles[0]);
     MUST(open(shape, 1, 1024, handles) == Status::ok && handles.size() == 1024);
     return outcome("writes");

@@ -1,6 +1,6 @@
 //! What the builders of all maps choose.
 use crate::error::OpenError;
-use cefrodil::{Mix, Shape};
+use cefrodil::{Mix, Policy, Shape};
 use std::collections::hash_map::RandomState;
 use std::fmt::{self, Formatter};
 use std::time::Duration;
@@ -79,6 +79,8 @@ impl<S> Settings<S> {
         shape.stripes = shape.stripes.min((STRIPES / shards).max(STRIPES_OF_A_SHARD));
         // The index hashes what a hasher of the user's may have spread badly.
         shape.mix = if self.once { Mix::None } else { Mix::Full };
+        // A map chooses by a small table or by queues which entry gives way. Without them it goes by CLOCK.
+        shape.policy = Policy::Clock;
         Ok((shape, shards))
     }
 

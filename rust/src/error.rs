@@ -58,8 +58,8 @@ pub enum MoreError {
 pub enum PutError {
     /// Both buckets of the key are full, and no moves of up to `depth` keys free a slot. If it is frequent, take more buckets.
     NoPath,
-    /// The cache is full, and a key to evict was not found: the put looked at each item twice, and lookups had used it again. Put again, or
-    /// leave the key uncached. It is frequent only if the items are few.
+    /// The cache is full, and a key to evict was not found: the put looked at items, twice as often as there are items, and lookups had used
+    /// each again. Put again, or leave the key uncached. It is frequent only if the items are few.
     AllRecent,
     /// The put could exceed the `limit` of the shape. An earlier value stays. Open a new cache: a limit of 2^62 takes centuries.
     Spent,
@@ -171,7 +171,7 @@ macro_rules! statuses {
             pub(crate) fn of(status: u32) -> $error {
                 match status {
                     $(raw::$status => $error::$variant,)*
-                    // By the types, values have 1 to 8 words, mixes are known, and handles are open or empty as they should be.
+                    // By the types, values have 1 to 8 words, mixes and policies are known, and handles are open or empty as they should be.
                     other => not_told(other),
                 }
             }

@@ -41,6 +41,6 @@ pub use handle::Handle;
 pub use open_handle::version;
 pub use pool::{Lent, Pool};
 pub use reply::{Entry, Put, Removal, Replaced, Reply, Swapped, Take};
-pub use shape::{Mix, Shape};
+pub use shape::{Mix, Policy, Shape};
 pub use width::Value;
 pub use writing::Writing;

@@ -18,6 +18,7 @@ pub struct RawShape {
     pub depth: u32,
     pub tries: u32,
     pub mix: u32,
+    pub policy: u32,
 }
 
 #[repr(C)]
@@ -76,6 +77,7 @@ pub const BAD_SHARDS: u32 = 24;
 pub const PRESENT: u32 = 25;
 pub const HOLDS_NOT: u32 = 26;
 pub const PROCESSOR: u32 = 27;
+pub const BAD_POLICY: u32 = 28;
 // .ci/calls: end
 
 pub const PUT_EVICTED: u32 = 2;

@@ -13,6 +13,18 @@ pub enum Mix {
     None,
 }
 
+/// Which key a full shard evicts for a new one. A key is used when a lookup finds it, other than by `peek` and `try_peek`, and when a put
+/// overwrites its value.
+#[derive(Clone, Copy, Debug, Default, PartialEq, Eq, Hash)]
+pub enum Policy {
+    /// Evicts a key that was not used since its put. So a scan evicts few keys that are in use. If more than nine in ten keys were used, it
+    /// evicts one of these. A key that is put again soon after its eviction counts as used.
+    #[default]
+    ScanResistant,
+    /// A hand goes round the keys, and evicts the first that was neither put nor used since it last passed. So a scan may evict every key.
+    Clock,
+}
+
 /// The sizes of a shard's table and the limits of its calls. [`Shape::for_items`] chooses one.
 /// A minor version may add a field: change one by `Shape { items: 2, ..Shape::for_items(100, 1)? }`.
 #[derive(Clone, Copy, Debug, PartialEq, Eq, Hash)]
@@ -31,6 +43,8 @@ pub struct Shape {
     pub tries: u32,
     /// Whether keys are hashed.
     pub mix: Mix,
+    /// Which key gives way to a new one.
+    pub policy: Policy,
 }
 
 impl Shape {
@@ -54,7 +68,7 @@ impl Shape {
     /// ```
     pub fn for_items(items: u32, shards: u32) -> Result<Shape, OpenError> {
         same_version()?;
-        let mut shape = RawShape { limit: 0, buckets: 0, items: 0, stripes: 0, depth: 0, tries: 0, mix: 0 };
+        let mut shape = RawShape { limit: 0, buckets: 0, items: 0, stripes: 0, depth: 0, tries: 0, mix: 0, policy: 0 };
         // SAFETY: `shape` is a borrow that lasts for the call.
         let status = unsafe { raw::cefrodil_shape_for_items(items, shards, &mut shape) };
         if status != raw::OK {
@@ -72,6 +86,7 @@ impl Shape {
             depth: shape.depth,
             tries: shape.tries,
             mix: if shape.mix == 0 { Mix::Full } else { Mix::None },
+            policy: if shape.policy == 0 { Policy::ScanResistant } else { Policy::Clock },
         }
     }
 
@@ -86,6 +101,10 @@ impl Shape {
             mix: match self.mix {
                 Mix::Full => 0,
                 Mix::None => 1,
+            },
+            policy: match self.policy {
+                Policy::ScanResistant => 0,
+                Policy::Clock => 1,
             },
         }
     }

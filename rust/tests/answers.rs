@@ -1,11 +1,21 @@
 //! The errors of openings and writes, and the parts of answers that `calls.rs` leaves open.
 use cefrodil::{
-    Cache, Handle, Mix, OpenError, Put, PutError, PutIfAbsentError, PutIfError, Reply, Shape, Spent, TurnError, Value, Why,
+    Cache, Handle, Mix, OpenError, Policy, Put, PutError, PutIfAbsentError, PutIfError, Reply, Shape, Spent, TurnError, Value,
+    Why,
 };
 use std::collections::HashSet;
 use std::error::Error;
 
-const SMALL: Shape = Shape { limit: 1 << 62, buckets: 4, items: 16, stripes: 1, depth: 2, tries: 2, mix: Mix::None };
+const SMALL: Shape = Shape {
+    limit: 1 << 62,
+    buckets: 4,
+    items: 16,
+    stripes: 1,
+    depth: 2,
+    tries: 2,
+    mix: Mix::None,
+    policy: Policy::ScanResistant,
+};
 
 // The error of each opening of this shape with so many handles. All give the same one.
 fn opening_error<const WORDS: usize>(shape: &Shape, handles: usize) -> OpenError
@@ -51,7 +61,16 @@ fn every_other_count_of_handles_is_an_error() {
 #[test]
 fn a_shape_for_items_has_every_field() -> Result<(), OpenError> {
     // Each of the shards has 1,000 items on average, and five times the root of that more.
-    let expected = Shape { limit: 1 << 62, buckets: 512, items: 1160, stripes: 512, depth: 5, tries: 8, mix: Mix::Full };
+    let expected = Shape {
+        limit: 1 << 62,
+        buckets: 512,
+        items: 1160,
+        stripes: 512,
+        depth: 5,
+        tries: 8,
+        mix: Mix::Full,
+        policy: Policy::ScanResistant,
+    };
     assert_eq!(Shape::for_items(16_000, 16)?, expected);
     // One shard has all of them, and each slot but a tenth may be filled.
     assert_eq!(Shape::for_items(1000, 1)?, Shape { items: 1000, ..expected });
@@ -123,7 +142,7 @@ fn keys_are_mixed_as_the_shape_says() -> Result<(), Box<dyn Error>> {
         let mut writing = handles[0].hold()?;
         assert_eq!((0..9).filter(|key| writing.put(1024 * key, &[0]).is_ok()).count(), stored);
     }
-    assert_eq!(Mix::default(), Mix::Full);
+    assert_eq!((Mix::default(), Policy::default()), (Mix::Full, Policy::ScanResistant));
     Ok(())
 }
 

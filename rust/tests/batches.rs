@@ -1,5 +1,5 @@
 //! Puts of many entries in one call, and lookups that are no use of a key.
-use cefrodil::{Cache, Put, PutError, Reply, Shape, TurnError, Writing};
+use cefrodil::{Cache, Policy, Put, PutError, Reply, Shape, TurnError, Writing};
 use std::error::Error;
 use std::sync::atomic::{AtomicBool, Ordering::SeqCst};
 use std::thread;
@@ -113,8 +113,8 @@ fn a_held_put_of_many_stops_no_other() -> Result<(), Box<dyn Error>> {
 #[test]
 fn a_peek_is_no_use() -> Result<(), Box<dyn Error>> {
     // Fills a cache of three items, looks its next victim up by this call, and returns the key that another put evicts.
-    let evicted_after = |look: fn(&mut Writing<1>, u64) -> Reply<1>| -> Result<(u64, u64), Box<dyn Error>> {
-        let mut handles = Cache::<1>::open(&Shape::for_items(3, 1)?, 1, 1)?;
+    let evicted_after = |policy, look: fn(&mut Writing<1>, u64) -> Reply<1>| -> Result<(u64, u64), Box<dyn Error>> {
+        let mut handles = Cache::<1>::open(&Shape { policy, ..Shape::for_items(3, 1)? }, 1, 1)?;
         let mut writing = handles[0].hold()?;
         for key in 0..3 {
             writing.put(key, &[key])?;
@@ -128,9 +128,11 @@ fn a_peek_is_no_use() -> Result<(), Box<dyn Error>> {
             other => Err(format!("{other:?}").into()),
         }
     };
-    let (next, evicted) = evicted_after(|writing, key| writing.peek(key))?;
-    assert_eq!(evicted, next);
-    let (next, evicted) = evicted_after(|writing, key| writing.get(key))?;
-    assert_ne!(evicted, next);
+    for policy in [Policy::ScanResistant, Policy::Clock] {
+        let (next, evicted) = evicted_after(policy, |writing, key| writing.peek(key))?;
+        assert_eq!(evicted, next);
+        let (next, evicted) = evicted_after(policy, |writing, key| writing.get(key))?;
+        assert_ne!(evicted, next);
+    }
     Ok(())
 }

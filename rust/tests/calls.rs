@@ -1,5 +1,6 @@
 use cefrodil::{
-    Cache, Entry, Handle, Mix, OpenError, Put, PutIfAbsentError, PutIfError, Removal, Reply, Shape, Take, TurnError, Value, Why,
+    Cache, Entry, Handle, Mix, OpenError, Policy, Put, PutIfAbsentError, PutIfError, Removal, Reply, Shape, Take, TurnError,
+    Value, Why,
 };
 use std::error::Error;
 use std::thread;
@@ -154,7 +155,16 @@ fn replies_are_missing() {
 
 #[test]
 fn entries_are_loaded() -> Tested {
-    let shape = Shape { buckets: 2, items: 8, stripes: 1, depth: 2, tries: 2, limit: 1 << 62, mix: Mix::None };
+    let shape = Shape {
+        buckets: 2,
+        items: 8,
+        stripes: 1,
+        depth: 2,
+        tries: 2,
+        limit: 1 << 62,
+        mix: Mix::None,
+        policy: Policy::ScanResistant,
+    };
     let entries: Vec<(u64, [u64; 2])> = [0, 4, 8, 12, 16, 20, 24, 28, 2].iter().map(|key| (*key, [*key, key + 1])).collect();
     let mut opened = Cache::<2>::open_with(&shape, 1, 2, &entries)?;
     assert_eq!(opened.left, [(8, Why::NoPath)]);
@@ -299,7 +309,16 @@ fn entries_are_loaded_into_shards() -> Tested {
 #[test]
 fn entries_that_find_no_place_in_their_shard_are_left() -> Tested {
     const OTHER: u64 = 1 << 48;
-    let small = Shape { buckets: 4, items: 2, stripes: 1, depth: 2, tries: 2, limit: 1 << 62, mix: Mix::None };
+    let small = Shape {
+        buckets: 4,
+        items: 2,
+        stripes: 1,
+        depth: 2,
+        tries: 2,
+        limit: 1 << 62,
+        mix: Mix::None,
+        policy: Policy::ScanResistant,
+    };
     let entries = [(1, [11]), (2, [12]), (3, [13]), (OTHER, [21]), (1, [14]), (4, [15])];
     let mut opened = Cache::<1>::open_with(&small, 2, 2, &entries)?;
     assert_eq!(opened.left, [(2, Why::NoItem), (5, Why::NoItem)]);

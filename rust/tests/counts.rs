@@ -1,8 +1,8 @@
 //! What the calls of a cache's handles came to is counted: by a handle that holds, too, and also once it is dropped. In threads no count is
 //! lost. Without the feature `counts` each count is 0.
 use cefrodil::{
-    prometheus, Cache, Counts, Handle, MayBeHeld, Meter, Mix, Put, PutError, PutIfAbsentError, PutIfError, Reply, Shape, Spent,
-    TurnError,
+    prometheus, Cache, Counts, Handle, MayBeHeld, Meter, Mix, Policy, Put, PutError, PutIfAbsentError, PutIfError, Reply, Shape,
+    Spent, TurnError,
 };
 use std::error::Error;
 use std::sync::atomic::{AtomicBool, Ordering};
@@ -11,7 +11,16 @@ use std::time::{Duration, Instant};
 
 type Tested = Result<(), Box<dyn Error>>;
 
-const SMALL: Shape = Shape { limit: 1 << 62, buckets: 64, items: 2, stripes: 1, depth: 5, tries: 1, mix: Mix::Full };
+const SMALL: Shape = Shape {
+    limit: 1 << 62,
+    buckets: 64,
+    items: 2,
+    stripes: 1,
+    depth: 5,
+    tries: 1,
+    mix: Mix::Full,
+    policy: Policy::ScanResistant,
+};
 
 // When a test gives up that waits for what threads do to each other. On a machine with much else to do that may take long.
 const LONG: Duration = Duration::from_secs(60);
@@ -82,7 +91,12 @@ fn evictions_and_refusals_are_counted() -> Tested {
 // One thread looks the two keys up, so that the one item stays recent, while another puts them by turns.
 #[test]
 fn a_put_that_finds_all_recent_is_counted() -> Tested {
-    let mut readers = Cache::<1>::open(&Shape { items: 1, ..SMALL }, 1, 2)?;
+    finds_all_recent(Policy::ScanResistant)?;
+    finds_all_recent(Policy::Clock)
+}
+
+fn finds_all_recent(policy: Policy) -> Tested {
+    let mut readers = Cache::<1>::open(&Shape { items: 1, policy, ..SMALL }, 1, 2)?;
     let mut writing = readers.pop().expect("there are two").into_writing()?;
     let (done, mut refused) = (AtomicBool::new(false), 0);
     thread::scope(|threads| {

@@ -1,6 +1,6 @@
 //! A fill whose value was read before its key was changed in the store is refused, and the cache does not return to the old value.
 use cefrodil::{
-    Cache, FillError, Filler, Handle, Mix, PutError, PutIfError, Removal, Reply, Shape, Spent, Ticket, Tickets, TurnError,
+    Cache, FillError, Filler, Handle, Mix, Policy, PutError, PutIfError, Removal, Reply, Shape, Spent, Ticket, Tickets, TurnError,
 };
 use std::error::Error;
 
@@ -100,7 +100,8 @@ fn a_ticket_of_another_filler_is_stale() -> Tested {
 
 #[test]
 fn a_fill_that_is_refused_says_why() -> Tested {
-    let shape = Shape { limit: 0, buckets: 4, items: 16, stripes: 1, depth: 2, tries: 2, mix: Mix::None };
+    let shape =
+        Shape { limit: 0, buckets: 4, items: 16, stripes: 1, depth: 2, tries: 2, mix: Mix::None, policy: Policy::ScanResistant };
     let mut filler = Filler::new(Cache::<1>::open(&shape, 1, 1)?.remove(0).into_writing()?, 1);
     let ticket = filler.tickets().take();
     assert_eq!(filler.fill(1, ticket, &[1]), Err(FillError::Put(PutError::Spent)));

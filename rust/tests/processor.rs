@@ -1,8 +1,17 @@
 //! On a processor that is too old each opening is an error. `.ci/door` links this with an archive that finds each processor too old, and then
 //! sets `TOO_OLD`. Over any other archive each opening opens.
-use cefrodil::{Cache, Mix, OpenError, Shape};
+use cefrodil::{Cache, Mix, OpenError, Policy, Shape};
 
-const SHAPE: Shape = Shape { limit: 1 << 62, buckets: 64, items: 100, stripes: 64, depth: 5, tries: 8, mix: Mix::Full };
+const SHAPE: Shape = Shape {
+    limit: 1 << 62,
+    buckets: 64,
+    items: 100,
+    stripes: 64,
+    depth: 5,
+    tries: 8,
+    mix: Mix::Full,
+    policy: Policy::ScanResistant,
+};
 
 #[test]
 fn a_processor_that_is_too_old_opens_nothing() {

@@ -1,7 +1,16 @@
 //! Each opening refuses an archive of another minor version, and one whose patch alone is another opens. So this test passes over any archive.
-use cefrodil::{Cache, Mix, OpenError, Shape};
+use cefrodil::{Cache, Mix, OpenError, Policy, Shape};
 
-const SHAPE: Shape = Shape { limit: 1 << 62, buckets: 64, items: 100, stripes: 64, depth: 5, tries: 8, mix: Mix::Full };
+const SHAPE: Shape = Shape {
+    limit: 1 << 62,
+    buckets: 64,
+    items: 100,
+    stripes: 64,
+    depth: 5,
+    tries: 8,
+    mix: Mix::Full,
+    policy: Policy::ScanResistant,
+};
 
 #[test]
 fn an_archive_of_another_version_opens_nothing() {

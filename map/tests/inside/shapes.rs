@@ -1,6 +1,6 @@
 //! What a shard is opened with.
 use crate::settings::Settings;
-use cefrodil::{Mix, Shape};
+use cefrodil::{Mix, Policy, Shape};
 use std::collections::hash_map::RandomState;
 
 #[test]
@@ -41,6 +41,13 @@ fn small_shards_have_more_buckets() {
         let (shape, shards) = settings.shape().unwrap();
         assert_eq!((shards, shape.items, shape.buckets), (1, items, buckets));
     }
+}
+
+#[test]
+fn both_tables_go_by_clock() {
+    let settings = Settings::new(5_000);
+    let policies = [settings.shape(), settings.small_shape()].map(|made| made.unwrap().0.policy);
+    assert_eq!(policies, [Policy::Clock; 2]);
 }
 
 // The index mixes the bits of a hasher of the user's alone.
