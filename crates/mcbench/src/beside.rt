@@ -10,7 +10,7 @@ use crate::report::{Quotient, Report, bytes_a_key};
 use crate::tally::Tally;
 use crate::tasks::{Task, task_of};
 use crate::writes::{get_all, put_all};
-use mc_cache::{Cache, Desk, Reader, Writer, open};
+use mc_cache::{Cache, Desk, Reader, Writer, open_by};
 use std::alloc::{AllocError, Global};
 use std::rt::Files;
 use std::thread::{Threads, join};
@@ -191,7 +191,13 @@ pub(crate) fn measure<R: Threads + Sync + Files + AllocGlobal + Clock + CpuClock
     options: &Options,
 ) -> io::Result<Report> {
     let before = resident(rt)?;
-    let Ok((cache, writer, readers)) = open::<4>(alloc, options.shape()?, options.seats()) else {
+    let opened = open_by::<4>(
+        alloc,
+        options.policy,
+        options.shape()?,
+        options.seats(),
+    );
+    let Ok((cache, writer, readers)) = opened else {
         return Err(io::Error::other("the cache can't be opened"));
     };
     measure_open(rt, alloc, &cache, writer, readers, options, before)

@@ -7,7 +7,7 @@ use crate::report::{Quotient, Report, bytes_a_key};
 use crate::stopwatch::Stopwatch;
 use crate::tally::Tally;
 use crate::writes::{put_all, put_until_refused};
-use mc_cache::{Cache, Writer, open};
+use mc_cache::{Cache, Writer, open_by};
 use std::alloc::Global;
 use std::io;
 use std::rt::Files;
@@ -17,7 +17,8 @@ use std::time::{Clock, CpuClock, Duration};
 pub(crate) fn open_for(alloc: Global, options: &Options) -> io::Result<(Cache<4>, Writer<4>)>
     ensures { IfOk result (λ r. r.1.of ≡ r.0) }
 {
-    let Ok((cache, writer, _readers)) = open::<4>(alloc, options.shape()?, 1) else {
+    let Ok((cache, writer, _readers)) = open_by::<4>(alloc, options.policy, options.shape()?, 1)
+    else {
         return Err(io::Error::other("the cache can't be opened"));
     };
     Ok((cache, writer))

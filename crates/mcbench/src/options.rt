@@ -1,7 +1,7 @@
 //! What the command line asks for.
 use clap::builder::ValueParser;
 use clap::{Arg, ArgMatches, Command, Error};
-use mc_cache::{Mix, Shape};
+use mc_cache::{Mix, Policy, Shape};
 use std::alloc::{AllocError, Global};
 use std::convert::AsStr;
 use std::io;
@@ -43,6 +43,7 @@ pub(crate) struct Options {
     pub shards: u32,
     /// The greatest share of slots in use, in percent; 0: the table is that of `Shape::for_items`.
     pub most_used: u32,
+    pub policy: Policy,
 }
 
 /// The names of the workloads.
@@ -71,7 +72,7 @@ struct Row {
 }
 
 /// The options, in the order of the help.
-const ROWS: [Row; 11] = [
+const ROWS: [Row; 12] = [
     Row {
         name: "workload",
         takes: ValueParser::Names(&WORKLOADS),
@@ -138,7 +139,16 @@ const ROWS: [Row; 11] = [
         default: "0",
         help: "The greatest share of slots in use, in percent (0: as Shape::for_items chooses)",
     },
+    Row {
+        name: "policy",
+        takes: ValueParser::Names(&POLICIES),
+        default: "clock",
+        help: "Which key gives way in a full table: as CLOCK chooses, or a new one before one that was used again",
+    },
 ];
+
+/// The names of the policies.
+const POLICIES: [&str; 2] = ["clock", "scan-resistant"];
 
 /// The option of a row.
 fn option<'a>(alloc: Global, row: &Row) -> Arg<'a> {
@@ -170,6 +180,14 @@ fn workload_in(matches: &ArgMatches<'_>) -> Workload {
     Workload::Mixed
 }
 
+/// The policy with this name.
+fn policy_in(matches: &ArgMatches<'_>) -> Policy {
+    if matches.get_str("policy") == Some("scan-resistant") {
+        return Policy::ScanResistant;
+    }
+    Policy::Clock
+}
+
 fn number_in(matches: &ArgMatches<'_>, name: &str) -> u32 {
     matches.get_one::<u32>(name).unwrap_or(1)
 }
@@ -190,6 +208,7 @@ pub(crate) fn options_of<S: AsStr>(alloc: Global, words: &[S]) -> Result<Options
         many: number_in(&matches, "many"),
         shards: number_in(&matches, "shards"),
         most_used: number_in(&matches, "most-used"),
+        policy: policy_in(&matches),
     })
 }
 

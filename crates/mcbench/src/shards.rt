@@ -9,7 +9,7 @@ use crate::memory::resident;
 use crate::options::Options;
 use crate::report::{Report, bytes_a_key};
 use crate::tally::Tally;
-use mc_shards::{Pass, Shards, open_shards, shard_shape};
+use mc_shards::{Pass, Shards, open_spared, shard_shape};
 use std::alloc::{AllocError, Global};
 use std::io;
 use std::rt::Files;
@@ -80,7 +80,15 @@ pub(crate) fn measure<R: Threads + Sync + Files + AllocGlobal + Clock + CpuClock
         return Err(io::Error::other("there is no such shape"));
     };
     let seats = options.writers.saturating_add(1);
-    let Ok((shards, passes)) = open_shards::<4>(alloc, shape, options.shards, seats) else {
+    let opened = open_spared::<4>(
+        alloc,
+        options.policy,
+        shape,
+        options.shards,
+        seats,
+        seats,
+    );
+    let Ok((shards, passes, _)) = opened else {
         return Err(io::Error::other("the shards can't be opened"));
     };
     measure_open(rt, alloc, &shards, passes, options, before)
