@@ -1,6 +1,6 @@
 //! Calls that make something. After a refusal nothing was made, and the memory that they had taken is given back.
 use crate::seen::Seen;
-use mc_cache::{OpenError, Put, open};
+use mc_cache::{OpenError, Policy, Put, open_by};
 use mc_core::{World, WorldError};
 use mc_plan::{Clerk, Finder};
 use mc_words::{Checked, Mix, NoMemory, Shape};
@@ -28,9 +28,9 @@ pub(crate) enum Making {
     Clerk,
 }
 
-// Opens a cache, and puts a key into it.
+// Opens a cache of the policy that takes the most memory, and puts a key into it.
 fn make_cache(alloc: Global) -> Option<bool> {
-    match open::<2>(alloc, SHAPE, 3) {
+    match open_by::<2>(alloc, Policy::ScanResistant, SHAPE, 3) {
         Ok((cache, mut writer, readers)) => {
             let stored = matches!(
                 writer.put(&cache, 7, [70, 71]),
