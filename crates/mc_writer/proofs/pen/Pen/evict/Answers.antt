@@ -1,0 +1,22 @@
+use Rattle.std.proofs.Common.{ap, arith, refl, sym}
+use Rattle.mc_words.specs.Checks.{shape_of}
+use Rattle.mc_words.specs.declared.checked.Checked.{Checked}
+use Rattle.mc_writer.specs.declared.pen.Pen.{Pen}
+use Rattle.mc_writer.specs.Inside.Pens.{state_at}
+use Rattle.mc_writer.proofs.Evicted.{searched_steps}
+use Rattle.mc_writer.proofs.WholeCalls.{known_there}
+use Rattle.mc_writer.proofs.pen.Pen.evict.Goals as goal
+
+pub evict_found-old-requires : goal.evict_found-old-requires
+evict_found-old-requires g c =
+    let V = g.row.V in
+    let p = c.args.self.now in
+    let q = c.decide_eviction.new.peek in
+    let b = c.args.books.now in
+    let known = known_there V p b c.requires.rested in
+    let decided = c.in-Search.ensures.decided (state_at V p) known refl in
+    let ended = c.in-Some.ensures.ended in
+    let steps = searched_steps V c.search.new.books q c.search.new.self ended.readings ended.searched in
+    let still = ap (λ (x : Pen V). (state_at V x).version_steps) c.decide_eviction.ensures.kept in
+    let limit = ap (λ (x : Checked). (shape_of x).limit) c.search.ensures.shape in
+    (omega arith, (omega (arith, known.width.most), ((q, ended.readings, ended.searched, sym ended.found), omega (arith, steps, still, limit, decided.0))))
