@@ -1,11 +1,13 @@
 -- What a search and then an eviction make of the seat.
-use Rattle.std.proofs.Common.{ℕ, ◌≡◌, ◌+◌, ◌≤◌, ◌∙◌, List, [], ◌∷◌, ◌++◌, None, Some, ap, arith, append_assoc, length, length-append, refl, sym, subst}
-use Rattle.mc_words.specs.Checks.{shape_of}
+use Rattle.std.proofs.Common.{ℕ, ◌≡◌, ◌+◌, ◌<◌, ◌≤◌, ◌∙◌, List, [], ◌∷◌, ◌++◌, None, Some, ap, arith, append_assoc, append-nil, length, length-append, refl, sym, subst}
+use Rattle.mc_words.specs.Checks.{policy_of, shape_of}
+use Rattle.mc_words.specs.History.{key_count}
 use Rattle.mc_words.specs.KeyParts.{HasParts}
 use Rattle.mc_words.specs.Places.{slot_number}
 use Rattle.mc_words.specs.Standing.{Agrees, NamesItem, Stands}
 use Rattle.mc_words.specs.declared.history.Change.{Change}
 use Rattle.mc_words.specs.declared.history.Change.TheVariants.{Evict}
+use Rattle.mc_words.specs.declared.policy.Policy.{Policy}
 use Rattle.mc_words.specs.declared.shape.Shape.{Shape}
 use Rattle.mc_theory.specs.Lists.{Made, AreAllowed, after_all, state_of}
 use Rattle.mc_theory.specs.States.{State}
@@ -15,7 +17,7 @@ use Rattle.mc_search.specs.Items.{IsUsedIn}
 use Rattle.mc_search.specs.Sweeps.{Swept, hand_acts, victim_of}
 use Rattle.mc_plan.specs.Books.{AreBooksOf}
 use Rattle.mc_plan.specs.Due.{AreDue}
-use Rattle.mc_plan.specs.Evicting.{IsEvicted, IsSearchIn}
+use Rattle.mc_plan.specs.Evicting.{IsEvicted, IsSearchIn, IsWholeSearch}
 use Rattle.mc_plan.specs.Making.{IsQuiet, Makes, as_made, state_after_acts}
 use Rattle.mc_plan.specs.Plans.{evict_acts}
 use Rattle.mc_plan.specs.declared.books.Books.{Books}
@@ -25,8 +27,9 @@ use Rattle.mc_plan.proofs.Calls.SweptStates.{swept_cleared, swept_still, victim_
 use Rattle.mc_plan.proofs.Deeds.QuietStates.{agrees_quiet}
 use Rattle.mc_shared.specs.Records.{Opening}
 use Rattle.mc_shared.specs.Views.{layout_of}
+use Rattle.mc_shared.specs.declared.layout.Layout.{Layout}
 use Rattle.mc_shared.proofs.GrownNotes.{grow_trans}
-use Rattle.mc_writer.specs.Evictions.{HasEvicted, HasSearchedAnd}
+use Rattle.mc_writer.specs.Evictions.{HasEvicted, HasFoundRecent, HasSearchedAnd}
 use Rattle.mc_writer.specs.GivenWay.{Holds}
 use Rattle.mc_writer.specs.WriterCalls.{IsRested}
 use Rattle.mc_writer.specs.Inside.Pens.{HasMade, IsDue, state_at}
@@ -82,6 +85,30 @@ module _ (V : ℕ) (b : Books) (p q : Pen V) (rs : List Swept) (h : HasSearched 
 
   pub searched_in : IsSearchIn sh (state_at V p).words rs
   searched_in = subst (λ (x : Shape). IsSearchIn x (state_at V p).words rs) shape_p h.searches
+
+  -- ---- no bit was clear
+  pub found_recent : 0 < key_count (state_at V p).history → victim_of rs ≡ None → IsWholeSearch (policy_of b.checked) (shape_of b.checked) (state_at V p).words rs → HasFoundRecent V sh p.seat.now q.seat.now
+  found_recent some none whole =
+      let policy : p.seat.now.of.layout.policy ≡ policy_of b.checked = ap (λ (l : Layout). l.policy) (ap (λ (o : Opening). o.layout) p.of ∙ h.layout) in
+      let all = append-nil (hand_acts rs) in
+      let quiet = subst (λ (x : Shape). IsQuiet V x m) shape_p (subst (λ (s : State V). IsQuiet V (shape_of b.checked) s) m_is h.known.quiet) in
+      record {
+        readings = rs;
+        some = some;
+        none = none;
+        whole = subst (λ (x : Policy). IsWholeSearch x sh (state_at V p).words rs) (sym policy) (subst (λ (x : Shape). IsWholeSearch (policy_of b.checked) x (state_at V p).words rs) shape_p whole);
+        made = record {
+          of = h.read.of;
+          notes = h.read.notes;
+          acts = h.read.acts ∙ ap (λ (xs : List Made). p.seat.now.acts ++ xs) (sym all);
+          allowed = subst (λ (xs : List Made). AreAllowed sh (state_at V p) xs) (sym all) h.read.may;
+          quiet = quiet;
+          searches = searched_in;
+        };
+        words = ap (λ (s : State V). s.words) (sym m_is) ∙ words_still V p q rs h.read;
+        history = ap (λ (s : State V). s.history) (sym m_is) ∙ searched_history;
+        version_steps = ap (λ (s : State V). s.version_steps) (sym m_is) ∙ (sym h.known.version_steps ∙ searched_steps);
+      }
 
   -- ---- and then what was decided
   module _ (b1 : Books) (item : ℕ) (victim : Victim) (kept : b1.checked ≡ b.checked) (ev : IsEvicted V b1 (state_at V q) item victim) where

@@ -41,13 +41,16 @@ pub record HasEvicted (V : ℕ) (sh : Shape) (before after : WriterRecord) (at :
   pub version_steps : (state_of V sh after.acts).version_steps ≡ (state_of V sh before.acts).version_steps + 2
   pub moment : at ≡ length (state_of V sh after.acts).history
 
--- the map holds keys, and a whole search found no clear bit
+-- the map holds keys, and a whole search found no clear bit: nothing has changed but recency bits
 pub record HasFoundRecent (V : ℕ) (sh : Shape) (before after : WriterRecord) : Type 0 where
   pub readings : List Swept
   pub some : 0 < key_count (state_of V sh before.acts).history
   pub none : victim_of readings ≡ None
   pub whole : IsWholeSearch before.of.layout.policy sh (state_of V sh before.acts).words readings
   pub made : HasSearchedAnd V sh before after readings []
+  pub words : (state_of V sh after.acts).words ≡ (state_of V sh before.acts).words
+  pub history : (state_of V sh after.acts).history ≡ (state_of V sh before.acts).history
+  pub version_steps : (state_of V sh after.acts).version_steps ≡ (state_of V sh before.acts).version_steps
 
 -- an eviction without a put: it takes one entry out, or none
 abbrev pub HasTriedToEvict : (V : ℕ) → Shape → WriterRecord → WriterRecord → Result (Evictions V) EvictError → Type 0
