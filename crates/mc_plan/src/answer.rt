@@ -86,6 +86,17 @@ impl Why {
     }
 }
 
+/// Why an `evict` took no entry out. The first reason that applies is returned.
+#[derive(Clone, Copy, Debug, PartialEq, Eq, Error)]
+pub enum EvictError {
+    /// The limit of version changes could be passed.
+    #[error("spent")]
+    Spent,
+    /// No entry gives way: the search found each recency bit set.
+    #[error("all recent")]
+    AllRecent,
+}
+
 /// What a `remove` did. `at` is the moment after it.
 #[derive(Clone, Copy, Debug, PartialEq, Eq)]
 pub enum Remove {

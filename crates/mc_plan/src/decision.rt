@@ -74,6 +74,17 @@ pub struct Replacement {
     pub storing: Storing,
 }
 
+/// What an eviction without a put finds before it reads a recency bit.
+#[derive(Clone, Copy)]
+pub enum Eviction {
+    /// It could pass the limit.
+    Spent,
+    /// The table holds no key.
+    Empty { at: u64 },
+    /// An entry is to be searched. Its eviction is to have the moment `at`.
+    Search { at: u64 },
+}
+
 /// What a removal does.
 #[derive(Clone, Copy)]
 pub enum Removal {

@@ -31,12 +31,12 @@ mod take_out;
 mod value;
 mod waiting;
 
-pub use answer::{AbsentError, Answer, IfError, Put, PutError, Remove, Spent, Why};
+pub use answer::{AbsentError, Answer, EvictError, IfError, Put, PutError, Remove, Spent, Why};
 use arrayvec::ArrayVec;
 pub use books::Books;
 pub use clerk::Clerk;
 pub use decision::{
-    Decision, Move, Moves, Removal, Renewal, Replacement, Storing, Vacancy, Victim,
+    Decision, Eviction, Move, Moves, Removal, Renewal, Replacement, Storing, Vacancy, Victim,
 };
 pub use fill::{add_fill, plan_fill};
 pub use mc_search::{

@@ -6,4 +6,7 @@ pub mod Rests
 pub mod AbsentCalls
 pub mod Chosen
 pub mod Picked
+pub mod Searched
+pub mod Evicted
+pub mod Rounds
 pub mod GivenWay

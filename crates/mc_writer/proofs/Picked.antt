@@ -8,11 +8,11 @@ use Rattle.mc_theory.specs.Phases.{Phase, Quiet}
 use Rattle.mc_theory.specs.States.{State}
 use Rattle.mc_theory.specs.declared.act.Act.TheVariants.{Hand}
 use Rattle.mc_theory.proofs.Lists.Fronts.{state_append}
+use Rattle.mc_search.specs.Items.{IsPicking}
 use Rattle.mc_search.specs.Sweeps.{Swept, IsSearch, hand_acts}
 use Rattle.mc_search.specs.declared.pick.Pick.{Pick}
-use Rattle.mc_search.specs.declared.room.Room.{Room}
 use Rattle.mc_search.proofs.TiedItems.{picking_victim}
-use Rattle.mc_plan.specs.Books.{IsPickingFor}
+use Rattle.mc_plan.specs.Books.{AreBooksOf}
 use Rattle.mc_plan.specs.declared.books.Books.{Books}
 use Rattle.mc_plan.proofs.Calls.SweptStates.{sweep_allowed, swept_still}
 use Rattle.mc_shared.proofs.GrownNotes.{grow_self}
@@ -29,20 +29,23 @@ read_may V sh acts rs i quiet inside =
     subst (λ (x : State V). IsAllowed sh x (Hand i)) (sym (state_append V sh acts (hand_acts rs))) may
 
 -- nothing was read yet
-pub picks_none : (V : ℕ) (b : Books) (pick : Pick) (k : ℕ) (v : List ℕ) (room : Room) (p : Pen V) → shape_of b.checked ≡ p.cells.now.layout.shape → IsPickingFor V b pick k v room (state_at V p) [] → HasPicked V b pick k v room p p []
-picks_none V b pick k v room p shape on = record {
+pub picks_none : (V : ℕ) (b : Books) (pick : Pick) (p : Pen V) → shape_of b.checked ≡ p.cells.now.layout.shape → AreBooksOf V b (state_at V p) → IsPicking b.free pick [] → HasPicked V b pick p p []
+picks_none V b pick p shape known on = record {
   same = record { cells = refl; seat = refl };
   of = refl;
   acts = sym (append-nil p.seat.now.acts);
   notes = grow_self p.seat.now.notes;
   shape = shape;
+  known = known;
   picking = on;
 }
 
--- the readings were allowed one after the other
-pub picked_read : (V : ℕ) (b : Books) (pick : Pick) (k : ℕ) (v : List ℕ) (room : Room) (p q : Pen V) (rs : List Swept) → HasPicked V b pick k v room p q rs → HasRead V p q rs
-picked_read V b pick k v room p q rs h =
-    let known = h.picking.waits.known in
-    let searches = (picking_victim b.free pick rs _ known.kept h.picking.picking refl).0 in
-    let may = sweep_allowed V (shape_of b.checked) (state_at V p) rs known.quiet (subst (λ (n : ℕ). IsSearch n rs) known.items searches) in
+-- the readings are a search
+pub picked_search : (V : ℕ) (b : Books) (pick : Pick) (p q : Pen V) (rs : List Swept) → HasPicked V b pick p q rs → IsSearch (shape_of b.checked).items rs
+picked_search V b pick p q rs h = subst (λ (n : ℕ). IsSearch n rs) h.known.items (picking_victim b.free pick rs _ h.known.kept h.picking refl).0
+
+-- and were allowed one after the other
+pub picked_read : (V : ℕ) (b : Books) (pick : Pick) (p q : Pen V) (rs : List Swept) → HasPicked V b pick p q rs → HasRead V p q rs
+picked_read V b pick p q rs h =
+    let may = sweep_allowed V (shape_of b.checked) (state_at V p) rs h.known.quiet (picked_search V b pick p q rs h) in
     record { same = h.same; of = h.of; acts = h.acts; notes = h.notes; may = subst (λ (x : Shape). AreAllowed x (state_at V p) (hand_acts rs)) h.shape may }

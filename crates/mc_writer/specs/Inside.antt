@@ -1,2 +1,3 @@
 pub mod Pens
 pub mod Turns
+pub mod Rounds

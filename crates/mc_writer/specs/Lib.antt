@@ -1,3 +1,4 @@
 pub mod WriterCalls
 pub mod GivenWay
+pub mod Evictions
 pub mod Inside

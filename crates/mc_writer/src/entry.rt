@@ -40,6 +40,15 @@ pub enum Take<const V: usize> {
     NotThere { at: u64 },
 }
 
+/// What an eviction without a put did. `at` is the moment after it.
+#[derive(Clone, Copy, Debug, PartialEq, Eq)]
+pub enum Evict<const V: usize> {
+    /// This entry gave way.
+    Evicted { at: u64, old: Entry<V> },
+    /// The table holds no key.
+    Empty { at: u64 },
+}
+
 impl<'a, const V: usize> Pen<'a, V> {
     ghost use Rattle.mc_writer.specs.Inside.Pens.{state_at};
 

@@ -14,6 +14,7 @@
 mod absent_call;
 mod deeds;
 mod entry;
+mod evict_call;
 mod get_call;
 mod if_call;
 mod inserting;
@@ -22,12 +23,14 @@ mod pen;
 mod picking;
 mod put_call;
 mod remove_call;
+mod searching;
 mod swap_call;
 mod swap_if_call;
 mod take_call;
 
 pub use absent_call::put_if_absent;
-pub use entry::{Entry, Replaced, Swapped, Take};
+pub use entry::{Entry, Evict, Replaced, Swapped, Take};
+pub use evict_call::evict;
 pub use get_call::{get, look};
 pub use if_call::put_if;
 pub use kept_call::put_kept;

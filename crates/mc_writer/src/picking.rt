@@ -1,10 +1,11 @@
-//! The writer's readings for a put that chooses among new keys and those that were used again.
-ghost use Rattle.std.specs.Prelude.{ℕ, ◌≡◌, ◌+◌, ◌*◌, ◌^◌, ◌<◌, ◌++◌, [], ◌∷◌, List, None, length};
+//! The writer's readings for a search among new keys, and those that were used again.
+ghost use Rattle.std.specs.Prelude.{ℕ, ◌≡◌, ◌+◌, ◌*◌, ◌^◌, ◌<◌, ◌⊎◌, ◌++◌, [], ◌∷◌, List, None, length};
 ghost use Rattle.mc_words.specs.Checks.{shape_of};
 ghost use Rattle.mc_words.specs.Places.{word_count};
-ghost use Rattle.mc_search.specs.Items.{IsUsedIn};
+ghost use Rattle.mc_search.specs.Items.{IsPicking, IsUsedIn};
 ghost use Rattle.mc_search.specs.Sweeps.{Swept, IsOver, victim_of};
-ghost use Rattle.mc_plan.specs.Books.{IsPickingFor};
+ghost use Rattle.mc_plan.specs.Books.{AreBooksOf, Waits};
+ghost use Rattle.mc_theory.specs.States.{State};
 
 use crate::pen::Pen;
 use mc_plan::{Books, Room};
@@ -21,27 +22,29 @@ impl<'a, const V: usize> Pen<'a, V> {
     fn read_used(&mut self, start: usize, books: &mut Books, pick: &mut Pick, i: u32)
         requires start { (start ≡ word_count V self.old.cells.now.layout.shape) × (start < 2 ^ 40) }
         requires in_use { IsUsedIn books.old.free i }
-        requires picked { (k : ℕ) × (v : List ℕ) × (room : Room) × (before : Pen V) × (rs : List Swept) ×
-            HasPicked V books.old pick.old k v room before self.old rs × (victim_of rs ≡ None) × (length rs < 2 * books.old.free.list.items) }
+        requires picked { (before : Pen V) × (rs : List Swept) × HasPicked V books.old pick.old before self.old rs × (victim_of rs ≡ None) ×
+            (length rs < 2 * books.old.free.list.items) }
         ensures same { IsSamePen V self.old self.new }
         ensures shape { books.new.checked ≡ books.old.checked }
-        ensures picked { (k : ℕ) (v : List ℕ) (room : Room) (before : Pen V) (rs : List Swept) →
-            HasPicked V books.old pick.old k v room before self.old rs → victim_of rs ≡ None →
-            (bit : ℕ) × HasPicked V books.new pick.new k v room before self.new (rs ++ record { item = i; bit = bit } ∷ []) }
+        ensures waits { (k : ℕ) (v : List ℕ) (s : State V) (room : Room) → Waits V books.old k v s room → Waits V books.new k v s room }
+        ensures picked { (before : Pen V) (rs : List Swept) → HasPicked V books.old pick.old before self.old rs → victim_of rs ≡ None →
+            (bit : ℕ) × HasPicked V books.new pick.new before self.new (rs ++ record { item = i; bit = bit } ∷ []) }
         ensures left { pick.new.left < pick.old.left }
     {
         let bit = turn_hand_unless_clear(self.cells, self.seat, start, i);
         books.after_read(pick, i, bit);
     }
 
-    /// Reads bits until the search of a put that waits is over.
+    /// Reads bits until the search is over, or no item is in use. A put that waits still does.
     #[inline(always)]
     pub(crate) fn read_round(&mut self, books: &mut Books, pick: &mut Pick)
-        requires picking { (k : ℕ) × (v : List ℕ) × (room : Room) × IsPickingFor V books.old pick.old k v room (state_at V self.old) [] }
+        requires known { AreBooksOf V books.old (state_at V self.old) }
+        requires picking { IsPicking books.old.free pick.old [] }
         requires shape { shape_of books.old.checked ≡ self.old.cells.now.layout.shape }
         ensures shape { books.new.checked ≡ books.old.checked }
-        ensures picked { (k : ℕ) (v : List ℕ) (room : Room) → IsPickingFor V books.old pick.old k v room (state_at V self.old) [] →
-            (rs : List Swept) × HasPicked V books.new pick.new k v room self.old self.new rs × IsOver (shape_of books.new.checked).items rs }
+        ensures waits { (k : ℕ) (v : List ℕ) (s : State V) (room : Room) → Waits V books.old k v s room → Waits V books.new k v s room }
+        ensures picked { (rs : List Swept) × HasPicked V books.new pick.new self.old self.new rs ×
+            (IsOver (shape_of books.new.checked).items rs ⊎ ((j : ℕ) → IsUsedIn books.new.free j → ⊥)) }
     {
         let start = self.cells.recency_start();
         while let Some(i) = books.next_read(pick) {

@@ -92,7 +92,7 @@ replacing_swept V b waiting call s rs i hand on found at =
     }
 
 -- ---- the books after a search that found none
-books_swept : (V : ℕ) (b : Books) (hand : ℕ) (s m : State V) → AreBooksOf V b s → IsQuiet V (shape_of b.checked) m → m.words ≡ s.words → m.version_steps ≡ s.version_steps → (policy_of b.checked ≡ Clock → hand ≡ m.hand) → hand < (shape_of b.checked).items
+pub books_swept : (V : ℕ) (b : Books) (hand : ℕ) (s m : State V) → AreBooksOf V b s → IsQuiet V (shape_of b.checked) m → m.words ≡ s.words → m.version_steps ≡ s.version_steps → (policy_of b.checked ≡ Clock → hand ≡ m.hand) → hand < (shape_of b.checked).items
     → m.hand < (shape_of b.checked).items → AreBooksOf V (record b { hand = hand }) m
 books_swept V b hand s m old quiet words changes is inside stands = record {
   width = old.width;

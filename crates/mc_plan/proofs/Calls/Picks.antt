@@ -1,10 +1,11 @@
 -- A put for which a choice looks for an item.
-use Rattle.std.proofs.Common.{ℕ, ◌≡◌, ◌∙◌, List, [], Option, Some, None, ap, refl, sym, subst}
+use Rattle.std.proofs.Common.{ℕ, ◌≡◌, ◌<◌, ◌∙◌, List, [], Option, Some, None, ap, arith, get_or, length, refl, sym, subst}
 use Rattle.mc_words.specs.Checks.{policy_of, shape_of}
 use Rattle.mc_words.specs.declared.policy.Policy.{Policy}
 use Rattle.mc_words.specs.declared.policy.Policy.TheVariants.{ScanResistant}
 use Rattle.mc_theory.specs.States.{State}
-use Rattle.mc_search.specs.Items.{IsConsistent, IsPicking, IsTied, policy_by, policy_in}
+use Rattle.mc_words.specs.Standing.{NamesItem}
+use Rattle.mc_search.specs.Items.{Follows, IsConsistent, IsPicking, IsTied, policy_by, policy_in}
 use Rattle.mc_search.specs.Picks.{HasPicked}
 use Rattle.mc_search.specs.Sweeps.{Swept, IsSearch, IsSearchBy, victim_of}
 use Rattle.mc_search.specs.declared.choice.Choice.{Choice}
@@ -12,7 +13,7 @@ use Rattle.mc_search.specs.declared.free.FreeList.{FreeList}
 use Rattle.mc_search.specs.declared.items.FreeItems.{FreeItems}
 use Rattle.mc_search.specs.declared.pick.Pick.{Pick}
 use Rattle.mc_search.specs.declared.room.Room.{Room}
-use Rattle.mc_plan.specs.Books.{IsPickingFor}
+use Rattle.mc_plan.specs.Books.{AreBooksOf, IsPickingFor}
 use Rattle.mc_plan.specs.Inside.Clerks.{IsReplacing}
 use Rattle.mc_plan.specs.WholeCalls.{PutCall}
 use Rattle.mc_plan.specs.declared.books.Books.{Books}
@@ -29,8 +30,18 @@ picks_now f p kept is starts =
     (there.0, there.1, starts there.0 there.2)
 
 -- the books of a table with a choice are of its policy
+pub picking_policy : (V : ℕ) (b : Books) (pick : Pick) (s : State V) (rs : List Swept) → AreBooksOf V b s → IsPicking b.free pick rs → policy_of b.checked ≡ ScanResistant
+picking_policy V b pick s rs known on = sym known.policy ∙ ap policy_by on.1
+
+-- and each reading is of an item that a slot names
+pub picks_named : (V : ℕ) (b : Books) (pick : Pick) (s : State V) (rs : List Swept) (n : ℕ) (d : Swept) → AreBooksOf V b s → IsPicking b.free pick rs → n < length rs → (q : ℕ) × NamesItem (shape_of b.checked) s.words q (get_or rs n d).item
+picks_named V b pick s rs n d known on below =
+    let tied : Follows b.free.list on.0 = subst (IsTied b.free.list) on.1 known.kept.tied in
+    let used = (tied.used (get_or rs n d).item).0 (on.2.in_use n d below) in
+    known.named (get_or rs n d).item (omega (arith, used.0, known.items)) used.1
+
 pub picked_by : (V : ℕ) (b : Books) (pick : Pick) (k : ℕ) (v : List ℕ) (room : Room) (s : State V) (rs : List Swept) → IsPickingFor V b pick k v room s rs → policy_of b.checked ≡ ScanResistant
-picked_by V b pick k v room s rs on = sym on.waits.known.policy ∙ ap policy_by on.picking.1
+picked_by V b pick k v room s rs on = picking_policy V b pick s rs on.waits.known on.picking
 
 pub searched_picked : (V : ℕ) (b : Books) (pick : Pick) (k : ℕ) (v : List ℕ) (room : Room) (s : State V) (rs : List Swept) → IsPickingFor V b pick k v room s rs → IsSearch b.free.list.items rs → IsSearchBy (policy_of b.checked) (shape_of b.checked).items s.hand rs
 searched_picked V b pick k v room s rs on searches =

@@ -15,7 +15,8 @@ use Rattle.mc_search.proofs.TakenItems.{free_below}
 use Rattle.mc_plan.specs.Books.{HasRoom, IsPlanned}
 use Rattle.mc_plan.specs.Deciding.{IsInserted, IsReplaced}
 use Rattle.mc_plan.specs.Decisions.{acts_of_moves, moves_of, replacement_acts, storing_acts, storing_told}
-use Rattle.mc_plan.specs.Inside.Clerks.{IsReplacing, IsVictim}
+use Rattle.mc_plan.specs.Evicting.{IsVictim}
+use Rattle.mc_plan.specs.Inside.Clerks.{IsReplacing}
 use Rattle.mc_plan.specs.Moves.{AreKeys}
 use Rattle.mc_plan.specs.Plans.{moves_acts}
 use Rattle.mc_plan.specs.WholeCalls.{Call, IsSweepOf, PutCall, state_after_sweep}

@@ -1,5 +1,5 @@
 -- What the readings of the hand make of a state.
-use Rattle.std.proofs.Common.{ℕ, zero, suc, ◌≡◌, ◌+◌, ◌*◌, ◌%◌, ◌<◌, ◌∙◌, ◌⊎◌, inl, inr, List, [], ◌∷◌, ◌++◌, Option, Some, None, Bool, true, false, cond, eqb, ap, refl, sym, subst, arith, length, append_assoc, append-nil, length-append}
+use Rattle.std.proofs.Common.{ℕ, zero, suc, ◌≡◌, ◌+◌, ◌*◌, ◌%◌, ◌<◌, ◌∙◌, ◌⊎◌, inl, inr, List, [], ◌∷◌, ◌++◌, Option, Some, None, Bool, true, false, cond, eqb, ap, refl, sym, subst, arith, get_or, length, append_assoc, append-nil, length-append}
 use Rattle.std.proofs.Math.Nat.{mod-add-mod, mod-lt, mod-eq_of_lt, add-mul-mod_self_right}
 use Rattle.std.proofs.lemmas.Bool.{false≢true, ne_eqb}
 use Rattle.std.specs.Option.{IsSome}
@@ -70,14 +70,18 @@ first_victim r rs i found =
     let all : (b : Bool) → P b = λ b. elim b as P [ true ↦ λ e. inl (refl, cc) | false ↦ λ e. inr (refl, e) ] in
     all (eqb r.bit 0) found
 
--- the victim is an item
-pub victim_below : (items : ℕ) (rs : List Swept) (i : ℕ) → IsSearch items rs → victim_of rs ≡ Some i → i < items
-victim_below items [] i searches found = absurd (cc)
-victim_below items (r ∷ rs) i searches found =
+-- the victim is the item of a reading
+pub victim_holds : (P : ℕ → Type 0) (rs : List Swept) (i : ℕ) → ((n : ℕ) (d : Swept) → n < length rs → P (get_or rs n d).item) → victim_of rs ≡ Some i → P i
+victim_holds P [] i all found = absurd (cc)
+victim_holds P (r ∷ rs) i all found =
     elim (first_victim r rs i found) [
-      | inl h ↦ subst (λ (j : ℕ). j < items) h.1 (searches.inside 0 r (omega arith))
-      | inr h ↦ victim_below items rs i (search_tail items r rs searches) h.1
+      | inl h ↦ subst P h.1 (all 0 r (omega arith))
+      | inr h ↦ victim_holds P rs i (λ n d l. all (suc n) d (omega (arith, l))) h.1
     ]
+
+-- so it is one of the items
+pub victim_below : (items : ℕ) (rs : List Swept) (i : ℕ) → IsSearch items rs → victim_of rs ≡ Some i → i < items
+victim_below items rs i searches found = victim_holds (λ j. j < items) rs i searches.inside found
 
 -- what a sweep leaves to be read could all have its bits set
 pub record CanGoOn (items hand : ℕ) (rs : List Swept) (n : ℕ) : Type 0 where

@@ -2,10 +2,6 @@
 use Rattle.std.specs.Prelude.{ℕ, ◌≡◌, ◌+◌, ◌%◌, ◌<◌, List, [], length, Some, Result, Ok, Err}
 use Rattle.mc_words.specs.declared.policy.Policy.TheVariants.{Clock}
 use Rattle.mc_words.specs.Checks.{policy_of, shape_of}
-use Rattle.mc_words.specs.History.{IsWord}
-use Rattle.mc_words.specs.KeyParts.{HasParts}
-use Rattle.mc_words.specs.Places.{IsPlace, slot_number}
-use Rattle.mc_words.specs.Standing.{Stands}
 use Rattle.mc_theory.specs.States.{State}
 use Rattle.mc_theory.specs.declared.act.Act.{Act}
 use Rattle.mc_plan.specs.declared.answer.Answer.TheVariants as answer
@@ -17,7 +13,6 @@ use Rattle.mc_plan.specs.Calls.{why_of}
 use Rattle.mc_plan.specs.declared.clerk.Clerk.{Clerk}
 use Rattle.mc_plan.specs.declared.clerk.Stage.{Stage}
 use Rattle.mc_plan.specs.declared.clerk.Stage.TheVariants.{Sweeping}
-use Rattle.mc_plan.specs.declared.decision.Victim.{Victim}
 use Rattle.mc_plan.specs.declared.waiting.Start.{Start}
 use Rattle.mc_plan.specs.declared.waiting.Start.TheVariants as start
 use Rattle.mc_plan.specs.Making.{IsQuiet}
@@ -46,13 +41,6 @@ pub record IsReplacing (V : ℕ) (books : Books) (k : ℕ) (v : List ℕ) (room 
   pub found : victim_of rs ≡ Some item
   pub hand : policy_of books.checked ≡ Clock → books.hand ≡ (s.hand + length rs) % (shape_of books.checked).items
   pub inside : books.hand < (shape_of books.checked).items
-
--- the key stands at the item, in this slot, and has these parts
-pub record IsVictim (V : ℕ) (books : Books) (s : State V) (item : ℕ) (r : Victim) : Type 0 where
-  pub word : IsWord r.key
-  pub parts : HasParts (shape_of books.checked) r.key r.parts
-  pub place : IsPlace (shape_of books.checked) r.place
-  pub stands : Stands V (shape_of books.checked) s.words r.key (slot_number r.place) item
 
 -- the sweep of the call is over, and the rest of it is to be planned
 abbrev pub IsAtEnd : (V : ℕ) → Stage V → Books → List Act → ℕ → Call → State V → List Swept → Type 0

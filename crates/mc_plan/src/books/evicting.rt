@@ -5,14 +5,14 @@ ghost use Rattle.mc_words.specs.declared.policy.Policy.TheVariants.{ScanResistan
 ghost use Rattle.mc_theory.specs.States.{State};
 
 use crate::books::Books;
-use crate::decision::Victim;
-use mc_search::Pick;
+use crate::decision::{Eviction, Victim};
+use mc_search::{Pick, moment};
 use mc_theory::Peek;
 
 impl Books {
     ghost use Rattle.mc_plan.specs.Books.{AreBooksOf, Waits};
     ghost use Rattle.mc_search.specs.declared.room.Room.{Room};
-    ghost use Rattle.mc_plan.specs.Evicting.{IsEvicted};
+    ghost use Rattle.mc_plan.specs.Evicting.{IsEvicted, IsEvictionDecided};
     ghost use Rattle.mc_search.specs.Items.{IsPicking, IsUsedIn};
     ghost use Rattle.mc_search.specs.Sweeps.{Swept, IsOver, IsSearch, victim_of};
 
@@ -60,20 +60,53 @@ impl Books {
         self.free.victim(pick)
     }
 
+    /// The item at CLOCK's hand.
+    pub fn hand(&self) -> u32
+        requires books { (V : ℕ) × (s : State V) × AreBooksOf V self.now s }
+        ensures value { result ≡ self.now.hand }
+        ensures inside { result < (shape_of self.now.checked).items }
+    {
+        self.hand
+    }
+
+    /// CLOCK's hand has read the bit of this item, and is past it.
+    pub fn hand_past(&mut self, item: u32)
+        requires in_items { item < (shape_of self.old.checked).items }
+        ensures { self.new ≡ record self.old { hand = (item + 1) % (shape_of self.old.checked).items } }
+    {
+        self.hand = past(item, self.checked.shape().items);
+    }
+
+    /// What an eviction finds before it reads a bit.
+    /// Condition: the books are those of the table whose words are looked at, between two calls.
+    pub fn decide_eviction<const V: usize, P: Peek>(&self, peek: &mut P) -> Eviction
+        requires books { (s : State V) × AreBooksOf V self.now s × (P.words peek.old ≡ s.words) }
+        ensures decided { (s : State V) → AreBooksOf V self.now s → P.words peek.old ≡ s.words → IsEvictionDecided V self.now s result }
+        ensures kept { peek.new ≡ peek.old }
+    {
+        if self.is_spent(2) {
+            return Eviction::Spent;
+        }
+        let at = moment(&self.checked, peek);
+        if self.key_count() == 0 {
+            return Eviction::Empty { at };
+        }
+        Eviction::Search { at: at + 1 }
+    }
+
     /// Decides that the key at an item is taken out, whether or not items are free.
-    /// Condition: the books are those of the table whose words are looked at, before the bits were read; the item is in use, and two
-    /// version changes are within the limit.
+    /// Condition: the books are those of the table whose words are looked at, after the bits were read; the item is in use, its bit was
+    /// found clear, and two version changes are within the limit.
     pub fn evict_at<const V: usize, P: Peek>(&mut self, peek: &mut P, item: u32) -> Victim
-        requires books { (s : State V) × AreBooksOf V self.old s × (P.words peek.old ≡ s.words) }
+        requires books { (m : State V) × AreBooksOf V self.old m × (P.words peek.old ≡ m.words) }
         requires in_use { IsUsedIn self.old.free item }
         requires unspent { self.old.version_steps + 2 ≤ (shape_of self.old.checked).limit }
-        ensures evicted { (s : State V) (rs : List Swept) → AreBooksOf V self.old s → P.words peek.old ≡ s.words →
-            IsSearch (shape_of self.old.checked).items rs → victim_of rs ≡ Some item → IsEvicted V self.new s rs result }
+        ensures evicted { (m : State V) → AreBooksOf V self.old m → P.words peek.old ≡ m.words → m.cleared ≡ Some item →
+            IsEvicted V self.new m item result }
         ensures shape { self.new.checked ≡ self.old.checked }
         ensures kept { peek.new ≡ peek.old }
     {
         let victim = self.victim::<V, P>(peek, item);
-        self.hand = past(item, self.checked.shape().items);
         self.free.give_noted(item, self.checked.mixed(victim.key));
         self.version_steps += 2;
         victim

@@ -5,6 +5,7 @@ ghost use Rattle.mc_words.specs.Chains.{IsOccupied};
 ghost use Rattle.mc_words.specs.Checks.{shape_of};
 ghost use Rattle.mc_words.specs.KeyParts.{HasParts};
 ghost use Rattle.mc_words.specs.Places.{IsWidth, word_count};
+ghost use Rattle.mc_words.specs.Standing.{IsFree};
 ghost use Rattle.mc_theory.specs.States.{State};
 ghost use Rattle.mc_plan.specs.Decisions.{acts_of_moves};
 ghost use Rattle.mc_plan.specs.Moves.{AreKeys, AreTaken};
@@ -277,12 +278,30 @@ impl Books {
     ghost use Rattle.mc_plan.specs.WholeCalls.{Call, PutCall};
     ghost use Rattle.mc_plan.specs.Books.{AreBooksOf, IsPickingFor, IsSweeping};
     ghost use Rattle.mc_plan.specs.Deciding.{IsFinished, IsReplaced};
-    ghost use Rattle.mc_plan.specs.Inside.Clerks.{IsReplacing, IsVictim};
+    ghost use Rattle.mc_plan.specs.Evicting.{IsVictim};
+    ghost use Rattle.mc_plan.specs.Inside.Clerks.{IsReplacing};
     ghost use Rattle.mc_search.specs.Items.{IsUsedIn};
     ghost use Rattle.mc_search.specs.Sweeps.{IsOver, Swept};
 
-    /// The key at an item in use: its parts, and its slot. Condition: the books are those of the table whose words are looked at, but perhaps for
-    /// the hand.
+    /// The key at an item, if a slot names the item: its parts, and its slot.
+    /// Condition: the books are those of the table whose words are looked at, but perhaps for the hand.
+    #[inline(always)]
+    pub fn named<const V: usize, P: Peek>(&self, peek: &mut P, item: u32) -> Option<Victim>
+        requires books { (hand : ℕ) × (s : State V) × AreBooksOf V (record self.now { hand = hand }) s × (P.words peek.old ≡ s.words) }
+        requires in_items { item < (shape_of self.now.checked).items }
+        ensures named { (hand : ℕ) (s : State V) → AreBooksOf V (record self.now { hand = hand }) s → P.words peek.old ≡ s.words →
+            MatchOption result (IsFree (shape_of self.now.checked) s.words item) (IsVictim V self.now s item) }
+        ensures kept { peek.new ≡ peek.old }
+    {
+        let key = key_at::<V, P>(&self.checked, peek, item);
+        let parts = self.checked.parts(key);
+        let Some(place) = place_of::<V, P>(&self.checked, peek, key, parts, item) else {
+            return None;
+        };
+        Some(Victim { key, parts, place })
+    }
+
+    /// The key at an item in use. Condition: as for `named`.
     #[inline(always)]
     pub(crate) fn victim<const V: usize, P: Peek>(&self, peek: &mut P, item: u32) -> Victim
         requires books { (hand : ℕ) × (s : State V) × AreBooksOf V (record self.now { hand = hand }) s × (P.words peek.old ≡ s.words) }
@@ -291,12 +310,10 @@ impl Books {
             IsVictim V self.now s item result }
         ensures kept { peek.new ≡ peek.old }
     {
-        let key = key_at::<V, P>(&self.checked, peek, item);
-        let parts = self.checked.parts(key);
-        let Some(place) = place_of::<V, P>(&self.checked, peek, key, parts, item) else {
+        let Some(victim) = self.named::<V, P>(peek, item) else {
             unreachable!();
         };
-        Victim { key, parts, place }
+        victim
     }
 
     /// Decides how the key at the item is replaced by this one. The room is cut at the old key's slot.

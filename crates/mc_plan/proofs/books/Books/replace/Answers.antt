@@ -6,7 +6,8 @@ use Rattle.mc_search.specs.Paths.{path_of_room}
 use Rattle.mc_search.specs.declared.items.FreeItems.{FreeItems}
 use Rattle.mc_search.specs.Readable.{IsFilled}
 use Rattle.mc_plan.specs.Deciding.{IsReplaced}
-use Rattle.mc_plan.specs.Inside.Clerks.{IsReplacing, IsVictim}
+use Rattle.mc_plan.specs.Evicting.{IsVictim}
+use Rattle.mc_plan.specs.Inside.Clerks.{IsReplacing}
 use Rattle.mc_plan.specs.Moves.{AreKeys, AreTaken}
 use Rattle.mc_plan.specs.Plans.{moves_acts}
 use Rattle.mc_search.specs.Paths.{IsCut}

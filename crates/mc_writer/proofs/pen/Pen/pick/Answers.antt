@@ -1,6 +1,7 @@
-use Rattle.std.proofs.Common.{List, ◌∙◌}
+use Rattle.std.proofs.Common.{List, ◌∙◌, arith, inl, inr}
 use Rattle.mc_words.specs.Checks.{shape_of}
 use Rattle.mc_search.specs.Sweeps.{Swept, IsOver}
+use Rattle.mc_plan.specs.Books.{IsPickingFor}
 use Rattle.mc_plan.specs.Deciding.{IsFinished}
 use Rattle.mc_plan.specs.WholeCalls.{PutCall}
 use Rattle.mc_writer.specs.Inside.Pens.{state_at}
@@ -13,17 +14,27 @@ use Rattle.mc_writer.proofs.pen.Pen.pick.Goals.{After-finish_picked, After-read_
 use Rattle.mc_writer.proofs.pen.Pen.pick.Given.{Over}
 
 -- the choice's readings are made
-picked : (g : Over) (c : After-read_round g) → (rs : List Swept) × HasPicked g.row.V c.read_round.new.books c.read_round.new.pick c.args.key c.args.value.now c.args.room c.args.self.now c.read_round.new.self rs × IsOver (shape_of c.read_round.new.books.checked).items rs
-picked g c = c.read_round.ensures.picked c.args.key c.args.value.now c.args.room (record { waits = c.requires.waits; picking = c.pick-pick.ensures })
+picked : (g : Over) (c : After-read_round g) → (rs : List Swept) × HasPicked g.row.V c.read_round.new.books c.read_round.new.pick c.args.self.now c.read_round.new.self rs × IsOver (shape_of c.read_round.new.books.checked).items rs
+picked g c =
+    let h = c.read_round.ensures.picked in
+    let waits = c.read_round.ensures.waits c.args.key c.args.value.now (state_at g.row.V c.args.self.now) c.args.room c.requires.waits in
+    let over : IsOver (shape_of c.read_round.new.books.checked).items h.0 = elim h.2 [
+      | inl is ↦ is
+      | inr none ↦ absurd (none 0 (omega (arith, waits.known.items, waits.known.stands), waits.none 0))
+    ] in
+    (h.0, h.1, over)
+
+picking : (g : Over) (c : After-read_round g) → IsPickingFor g.row.V c.read_round.new.books c.read_round.new.pick c.args.key c.args.value.now c.args.room (state_at g.row.V c.args.self.now) (picked g c).0
+picking g c = record { waits = c.read_round.ensures.waits c.args.key c.args.value.now (state_at g.row.V c.args.self.now) c.args.room c.requires.waits; picking = (picked g c).1.picking }
 
 read : (g : Over) (c : After-read_round g) → HasRead g.row.V c.args.self.now c.read_round.new.self (picked g c).0
-read g c = picked_read g.row.V c.read_round.new.books c.read_round.new.pick c.args.key c.args.value.now c.args.room c.args.self.now c.read_round.new.self (picked g c).0 (picked g c).1
+read g c = picked_read g.row.V c.read_round.new.books c.read_round.new.pick c.args.self.now c.read_round.new.self (picked g c).0 (picked g c).1
 
 pub finish_picked-requires : goal.finish_picked-requires
 finish_picked-requires g c =
     let at = (goal.at.finish_picked-requires g c).After-read_round in
     let p = picked g at in
-    record { over = (c.args.value.now, state_at g.row.V c.args.self.now, p.0, p.1.picking, p.2, words_still g.row.V c.args.self.now c.read_round.new.self p.0 (read g at)) }
+    record { over = (c.args.value.now, state_at g.row.V c.args.self.now, p.0, picking g at, p.2, words_still g.row.V c.args.self.now c.read_round.new.self p.0 (read g at)) }
 
 -- the pen after the decision
 decided : (g : Over) (c : After-finish_picked g) → HasRead g.row.V c.args.self.now c.finish_picked.new.peek (picked g (goal.at.After-finish_picked g c).After-read_round).0
@@ -35,7 +46,7 @@ finished : (g : Over) (c : After-finish_picked g) → IsFinished g.row.V c.finis
 finished g c =
     let at = (goal.at.After-finish_picked g c).After-read_round in
     let p = picked g at in
-    c.finish_picked.ensures.finished c.args.value.now (state_at g.row.V c.args.self.now) p.0 p.1.picking p.2 (words_still g.row.V c.args.self.now c.read_round.new.self p.0 (read g at))
+    c.finish_picked.ensures.finished c.args.value.now (state_at g.row.V c.args.self.now) p.0 (picking g at) p.2 (words_still g.row.V c.args.self.now c.read_round.new.self p.0 (read g at))
 
 pub returns-clause-same : goal.returns-clause-same
 returns-clause-same g c = (decided g (goal.at.returns-clause-same g c).After-finish_picked).same

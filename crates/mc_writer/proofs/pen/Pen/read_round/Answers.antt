@@ -10,37 +10,36 @@ pub loop-i-init : goal.loop-i-init
 loop-i-init g c = record {
   same = record { cells = refl; seat = refl };
   shape = refl;
-  picked = λ k v room on. ([], picks_none g.row.V c.args.books.now c.args.pick.now k v room c.args.self.now c.requires.shape on);
+  waits = λ k v s room waits. waits;
+  picked = ([], picks_none g.row.V c.args.books.now c.args.pick.now c.args.self.now c.requires.shape c.requires.known c.requires.picking);
 }
 
 pub read_used-requires : goal.read_used-requires
 read_used-requires g c =
-    let r = c.requires.picking in
-    let on = c.loop-i.invariant.picked r.0 r.1 r.2 r.3 in
+    let on = c.loop-i.invariant.picked in
     let there = sym (shape_kept c.loop-i.invariant.same) in
-    let next = c.in-Some.ensures on.0 on.1.picking.picking in
-    (omega arith, ((subst (λ (sh : Shape). c.recency_start-start.result ≡ word_count g.row.V sh) there c.recency_start-start.ensures.value, c.recency_start-start.ensures.small), (next.0, (r.0, r.1, r.2, c.args.self.now, on.0, on.1, next.2, next.1))))
+    let next = c.in-Some.ensures on.0 on.1.picking in
+    (omega arith, ((subst (λ (sh : Shape). c.recency_start-start.result ≡ word_count g.row.V sh) there c.recency_start-start.ensures.value, c.recency_start-start.ensures.small), (next.0, (c.args.self.now, on.0, on.1, next.2, next.1))))
 
 pub loop-i-preserved : goal.loop-i-preserved
-loop-i-preserved g c = record {
-  same = same_then c.loop-i.invariant.same c.read_used.ensures.same;
-  shape = c.read_used.ensures.shape ∙ c.loop-i.invariant.shape;
-  picked = λ k v room begun.
-      let on = c.loop-i.invariant.picked k v room begun in
-      let next = c.in-Some.ensures on.0 on.1.picking.picking in
-      let more = c.read_used.ensures.picked k v room c.args.self.now on.0 on.1 next.2 in
-      (_, more.1);
-}
+loop-i-preserved g c =
+    let on = c.loop-i.invariant.picked in
+    let next = c.in-Some.ensures on.0 on.1.picking in
+    record {
+      same = same_then c.loop-i.invariant.same c.read_used.ensures.same;
+      shape = c.read_used.ensures.shape ∙ c.loop-i.invariant.shape;
+      waits = λ k v s room waits. c.read_used.ensures.waits k v s room (c.loop-i.invariant.waits k v s room waits);
+      picked = (_, (c.read_used.ensures.picked c.args.self.now on.0 on.1 next.2).1);
+    }
 
 pub returns-clause-picked : goal.returns-clause-picked
-returns-clause-picked g c k v room begun =
-    let on = c.loop-i.invariant.picked k v room begun in
-    let free = c.loop-i.books.free in
-    let waits = on.1.picking.waits in
-    let items = waits.known.items in
-    let stands = waits.known.stands in
-    let over : IsOver free.list.items on.0 = elim (c.in_default.ensures on.0 on.1.picking.picking) [
-      | inl over ↦ over
-      | inr none ↦ absurd (none 0 (omega (arith, items, stands), waits.none 0))
-    ] in
-    (on.0, on.1, subst (λ (n : ℕ). IsOver n on.0) items over)
+returns-clause-picked g c =
+    let on = c.loop-i.invariant.picked in
+    let items = on.1.known.items in (
+      on.0,
+      on.1,
+      elim (c.in_default.ensures on.0 on.1.picking) [
+        | inl over ↦ inl (subst (λ (n : ℕ). IsOver n on.0) items over)
+        | inr none ↦ inr none
+      ],
+    )

@@ -1,8 +1,9 @@
-use Rattle.std.proofs.Common.{ℕ, ◌≡◌, [], List}
+use Rattle.std.proofs.Common.{ℕ, ◌≡◌, List}
+use Rattle.mc_theory.specs.States.{State}
 use Rattle.mc_search.specs.Sweeps.{Swept}
 use Rattle.mc_search.specs.declared.room.Room.{Room}
-use Rattle.mc_plan.specs.Books.{IsPickingFor}
-use Rattle.mc_writer.specs.Inside.Pens.{IsSamePen, state_at}
+use Rattle.mc_plan.specs.Books.{Waits}
+use Rattle.mc_writer.specs.Inside.Pens.{IsSamePen}
 use Rattle.mc_writer.specs.Inside.Turns.{HasPicked}
 use Rattle.mc_writer.proofs.pen.Pen.read_round.Given as goal
 
@@ -10,7 +11,8 @@ abbrev pub invariant-loop-i : goal.invariant-loop-i
 invariant-loop-i g l = record {
   same : IsSamePen g.row.V l.fn.self l.self;
   shape : l.books.checked ≡ l.fn.books.checked;
-  picked : (k : ℕ) (v : List ℕ) (room : Room) → IsPickingFor g.row.V l.fn.books l.fn.pick k v room (state_at g.row.V l.fn.self) [] → (rs : List Swept) × HasPicked g.row.V l.books l.pick k v room l.fn.self l.self rs;
+  waits : (k : ℕ) (v : List ℕ) (s : State g.row.V) (room : Room) → Waits g.row.V l.fn.books k v s room → Waits g.row.V l.books k v s room;
+  picked : (rs : List Swept) × HasPicked g.row.V l.books l.pick l.fn.self l.self rs;
 }
 
 abbrev pub decreases-loop-i : goal.decreases-loop-i

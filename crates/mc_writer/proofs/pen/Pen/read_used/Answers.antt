@@ -16,22 +16,22 @@ turn_hand_unless_clear-bit-requires g c =
     let pen = c.args.self.now in
     let sh = pen.cells.now.layout.shape in
     let r = c.requires.picked in
-    let before = r.3 in
-    let h = r.5 in
-    let known = h.picking.waits.known in
+    let before = r.0 in
+    let h = r.2 in
+    let known = h.known in
     let was : before.cells.now.layout.shape ≡ sh = sym (shape_kept h.same) in
     let inside : c.args.i < before.cells.now.layout.shape.items = subst (λ (x : Shape). c.args.i < x.items) h.shape (subst (λ (n : ℕ). c.args.i < n) known.items c.requires.in_use.0) in
-    let may = read_may g.row.V before.cells.now.layout.shape before.seat.now.acts r.4 c.args.i known.quiet.quiet inside in
-    let now = subst (λ (x : Shape). IsAllowed x (state_of g.row.V x (before.seat.now.acts ++ hand_acts r.4)) (Hand c.args.i)) was may in
+    let may = read_may g.row.V before.cells.now.layout.shape before.seat.now.acts r.1 c.args.i known.quiet.quiet inside in
+    let now = subst (λ (x : Shape). IsAllowed x (state_of g.row.V x (before.seat.now.acts ++ hand_acts r.1)) (Hand c.args.i)) was may in
     (omega arith, (pen.of, (c.requires.start, subst (λ (xs : List Made). IsAllowed sh (state_of g.row.V sh xs) (Hand c.args.i)) (sym h.acts) now)))
 
 pub after_read-requires : goal.after_read-requires
 after_read-requires g c =
     let r = c.requires.picked in
-    record { books = (g.row.V, _, r.5.picking.waits.known); in_use = c.requires.in_use; picking = (r.4, r.5.picking.picking, r.7, r.6) }
+    record { books = (g.row.V, _, r.2.known); in_use = c.requires.in_use; picking = (r.1, r.2.picking, r.4, r.3) }
 
 pub returns-clause-picked : goal.returns-clause-picked
-returns-clause-picked g c k v room before rs h none =
+returns-clause-picked g c before rs h none =
     let bit = c.turn_hand_unless_clear-bit.result in
     let read : Swept = record { item = c.args.i; bit = bit } in
     let acts : c.turn_hand_unless_clear-bit.new.writer.acts ≡ before.seat.now.acts ++ hand_acts (rs ++ read ∷ []) =
@@ -46,6 +46,10 @@ returns-clause-picked g c k v room before rs h none =
         acts = acts;
         notes = grow_trans h.notes (grow_acted c.turn_hand_unless_clear-bit.ensures.acted);
         shape = ap shape_of c.after_read.ensures.shape ∙ h.shape;
-        picking = record { waits = c.after_read.ensures.waits g.row.V k v _ room h.picking.waits; picking = c.after_read.ensures.picking rs h.picking.picking none };
+        known = c.after_read.ensures.books g.row.V _ h.known;
+        picking = c.after_read.ensures.picking rs h.picking none;
       },
     )
+
+pub returns-clause-waits : goal.returns-clause-waits
+returns-clause-waits g c k v s room waits = c.after_read.ensures.waits g.row.V k v s room waits
