@@ -1,5 +1,5 @@
 -- When a call may fail, from what its answer means.
-use Rattle.std.proofs.Common.{ℕ, ◌≡◌, ◌+◌, ◌*◌, ◌<◌, ◌∙◌, List, Result, Ok, Err, ap, arith, subst, sym}
+use Rattle.std.proofs.Common.{ℕ, ◌≡◌, ◌+◌, ◌*◌, ◌<◌, ◌∙◌, List, Result, Ok, Err, ap, arith, refl, subst, sym}
 use Rattle.mc_words.specs.Answers.{Quiet}
 use Rattle.mc_words.specs.History.{key_count, map_value}
 use Rattle.mc_words.specs.declared.history.Change.{Change}
@@ -15,6 +15,8 @@ use Rattle.mc_plan.specs.declared.answer.Answer.{Answer}
 use Rattle.mc_plan.specs.declared.answer.Answer.TheVariants as answer
 use Rattle.mc_plan.specs.declared.answer.AbsentError.{AbsentError}
 use Rattle.mc_plan.specs.declared.answer.AbsentError.TheVariants as absent
+use Rattle.mc_plan.specs.declared.answer.EvictError.{EvictError}
+use Rattle.mc_plan.specs.declared.answer.EvictError.TheVariants as evict
 use Rattle.mc_plan.specs.declared.answer.IfError.{IfError}
 use Rattle.mc_plan.specs.declared.answer.IfError.TheVariants as why
 use Rattle.mc_plan.specs.declared.answer.Put.{Put}
@@ -23,11 +25,16 @@ use Rattle.mc_plan.specs.declared.answer.PutError.TheVariants.{NoPath, AllRecent
 use Rattle.mc_plan.specs.declared.answer.Remove.{Remove}
 use Rattle.mc_plan.specs.declared.answer.Spent.{Spent as RemoveSpent}
 use Rattle.mc_shared.specs.Records.{Opening, ReaderRecord, WriterRecord}
-use Rattle.mc_writer.specs.WriterCalls.{HasCalled, HasPutIfAbsent}
-use Rattle.mc_cache.specs.Failing.{IsSpent, PutFails, PutIfAbsentFails, PutIfFails, RemovalFails, TurnFails, version_changes, versions_seen}
+use Rattle.mc_plan.specs.declared.books.Books.{Books}
+use Rattle.mc_writer.specs.Evictions.{HasTriedToEvict}
+use Rattle.mc_writer.specs.WriterCalls.{HasCalled, HasPutIfAbsent, IsRested}
+use Rattle.mc_writer.specs.declared.entry.Evict.{Evict}
+use Rattle.mc_writer.proofs.Rests.{shape_is}
+use Rattle.mc_cache.specs.Failing.{EvictFails, IsSpent, PutFails, PutIfAbsentFails, PutIfFails, RemovalFails, TurnFails, version_changes, versions_seen}
 use Rattle.mc_cache.specs.Inside.Turned.{HasEnded, turned}
 use Rattle.mc_cache.specs.Plain.{history, seen}
 use Rattle.mc_cache.specs.declared.desk.DeskError.{DeskError}
+use Rattle.mc_cache.proofs.PlainCalls.{evict_same}
 
 -- ---- answers, at the state after the call
 -- in a quiet state each change of the history has taken two version changes
@@ -55,6 +62,14 @@ if_answer_fails V sh s t k since v (Err (why.Changed stands)) q a = tt
 removal_answer_fails : (V : ℕ) (sh : Shape) (s t : State V) (k : ℕ) (told : Result Remove RemoveSpent) → IsQuiet V sh t → RemoveAnswers sh (quiet_of s) k told (quiet_of t) → RemovalFails sh t.history t.version_steps told
 removal_answer_fails V sh s t k (Ok done) q a = tt
 removal_answer_fails V sh s t k (Err spent) q a = spent_now V sh s t 2 q a.1 a.0
+
+evict_answer_fails : (V : ℕ) (sh : Shape) (before after : WriterRecord) (told : Result (Evict V) EvictError) → IsQuiet V sh (state_of V sh before.acts) → HasTriedToEvict V sh before after told
+    → EvictFails sh (state_of V sh after.acts).history (state_of V sh after.acts).version_steps told
+evict_answer_fails V sh before after (Ok done) q h = tt
+evict_answer_fails V sh before after (Err evict.AllRecent) q h = subst (λ (x : List (Change V)). 0 < key_count x) (sym h.history) h.some
+evict_answer_fails V sh before after (Err evict.Spent) q h =
+    let s = state_of V sh before.acts in
+    subst (λ (w : WriterRecord). IsSpent sh (state_of V sh w.acts).history (state_of V sh w.acts).version_steps 2) (sym h.1) (spent_now V sh s s 2 q refl h.0)
 
 -- ---- the calls of the writer. Each is made on a seat, which is what callers see of the writer
 module _ (V : ℕ) (o cells : Opening) (self seat after : WriterRecord) (table : cells ≡ o) (same : seat ≡ self) (of : self.of ≡ o) where
@@ -87,6 +102,15 @@ module _ (V : ℕ) (o cells : Opening) (self seat after : WriterRecord) (table :
   unfolding history version_changes
   removal_fails k told h =
       of_record (λ (sh : Shape) (s : State V). RemovalFails sh s.history s.version_steps told) (RemoveCall k) (answer.Remove told) h (removal_answer_fails V cells.layout.shape (state_of V cells.layout.shape seat.acts) (after_all cells.layout.shape (state_of V cells.layout.shape seat.acts) h.made) k told h.answered.quiet h.answered.means)
+
+  pub evict_fails : (books : Books) (told : Result (Evict V) EvictError) → IsRested V books seat → HasTriedToEvict V cells.layout.shape seat after told → EvictFails o.layout.shape (history V after) (version_changes V after) told
+  unfolding history version_changes
+  evict_fails books told rested h =
+      let seated : seat.of ≡ cells = ap (λ (w : WriterRecord). w.of) same ∙ (of ∙ sym table) in
+      let here : after.of ≡ o = evict_same V cells.layout.shape seat after told h ∙ (seated ∙ table) in
+      let quiet = subst (λ (sh : Shape). IsQuiet V sh (state_of V sh seat.acts)) (shape_is V cells books seat seated rested) rested.known.quiet in
+      let P : Shape → Shape → Type 0 = λ sh x. EvictFails sh (state_of V x after.acts).history (state_of V x after.acts).version_steps told in
+      subst (λ (p : Opening). P o.layout.shape p.layout.shape) (sym here) (subst (λ (p : Opening). P p.layout.shape p.layout.shape) table (evict_answer_fails V cells.layout.shape seat after told quiet h))
 
 -- ---- turns: the pass has seen all that the writer has done
 met_all : (V : ℕ) (o : Opening) (mid new : ReaderRecord) (w : WriterRecord) → mid.of ≡ o → w.of ≡ o → HasEnded V o.layout.shape mid new w → (seen V new ≡ history V w) × (versions_seen V new ≡ version_changes V w)

@@ -2,7 +2,7 @@
 use Rattle.std.proofs.Common.{ℕ, ◌≡◌, ◌∙◌, List, [], ◌∷◌, ◌++◌, length, Option, Some, None, Result, Ok, Err, All, IfOk, ap, arith, append-nil, append_assoc, refl, sym, subst}
 use Rattle.std.proofs.lemmas.List.{length_push, same_from_push}
 use Rattle.std.proofs.lemmas.List.Elements.{All-weaker}
-use Rattle.mc_words.proofs.Maps.{held-put, held-remove}
+use Rattle.mc_words.proofs.Maps.{held-evict, held-put, held-remove}
 use Rattle.mc_words.specs.History.{key_count, map_value, IsLegal, IsTrueAnswer}
 use Rattle.mc_words.specs.declared.history.Change.{Change}
 use Rattle.mc_words.specs.declared.history.Change.TheVariants as change
@@ -20,6 +20,8 @@ use Rattle.mc_plan.specs.WholeCalls.{KeptCall, PutCall, PutIfCall, RemoveCall, q
 use Rattle.mc_plan.specs.declared.answer.Answer.TheVariants as answer
 use Rattle.mc_plan.specs.declared.answer.AbsentError.{AbsentError}
 use Rattle.mc_plan.specs.declared.answer.AbsentError.TheVariants as absent
+use Rattle.mc_plan.specs.declared.answer.EvictError.{EvictError}
+use Rattle.mc_plan.specs.declared.answer.EvictError.TheVariants as evict
 use Rattle.mc_plan.specs.declared.answer.IfError.{IfError}
 use Rattle.mc_plan.specs.declared.answer.IfError.TheVariants as why
 use Rattle.mc_plan.specs.declared.answer.Put.{Put}
@@ -36,6 +38,7 @@ use Rattle.mc_shared.specs.Records.{IsNewReader, Opening, ReaderRecord, WriterRe
 use Rattle.mc_shared.specs.Views.{IsFrontOf, with_bit}
 use Rattle.mc_reader.specs.Records.{AreTrueAnswers, HaveLooked}
 use Rattle.mc_reader.proofs.ManyLookups.{grown}
+use Rattle.mc_writer.specs.Evictions.{HasTriedToEvict}
 use Rattle.mc_writer.specs.WriterCalls.{HasCalled, HasGot, HasPutIfAbsent, IsRested}
 use Rattle.mc_writer.proofs.Rests.{agrees_now, shape_is}
 use Rattle.mc_words.specs.Checks.{shape_of}
@@ -51,9 +54,11 @@ use Rattle.mc_words.specs.Places.{moment}
 use Rattle.mc_theory.specs.declared.act.Act.TheVariants.{Mark}
 use Rattle.mc_shared.specs.declared.layout.Layout.{Layout}
 use Rattle.mc_writer.specs.declared.entry.Entry.{Entry}
+use Rattle.mc_writer.specs.declared.entry.Evict.{Evict}
+use Rattle.mc_writer.specs.declared.entry.Evict.TheVariants.{Evicted, Empty}
 use Rattle.mc_writer.specs.declared.entry.Swapped.{Swapped}
 use Rattle.mc_cache.specs.Stamped.{AreStampedEntriesOf}
-use Rattle.mc_cache.specs.Taking.{Holds, SwapMeans, giving_way, put_of, swap_answer}
+use Rattle.mc_cache.specs.Taking.{EvictMeans, Holds, SwapMeans, giving_way, put_of, swap_answer}
 use Rattle.mc_cache.specs.Plain.{Begins, HasAnswered, HasMet, PutIfAbsentMeans, PutIfMeans, PutMeans, RemovalMeans, TellsNow, history, moment_of, seen}
 
 -- ---- the states before a call and after it
@@ -101,6 +106,19 @@ removal_answer_means V sh s t k (Ok (Removed at)) a = (a.present, a.grows.histor
 removal_answer_means V sh s t k (Ok (NotThere at)) a = (a.absent, ap (λ (q : Quiet V). q.history) a.unchanged, a.moment)
 removal_answer_means V sh s t k (Err spent) a = ap (λ (q : Quiet V). q.history) a.1
 
+-- an eviction without a put is of the same table
+pub evict_same : (V : ℕ) (sh : Shape) (before after : WriterRecord) (told : Result (Evict V) EvictError) → HasTriedToEvict V sh before after told → after.of ≡ before.of
+evict_same V sh before after (Ok (Evicted at old)) h = h.made.of
+evict_same V sh before after (Ok (Empty at)) h = ap (λ (w : WriterRecord). w.of) h.2
+evict_same V sh before after (Err evict.AllRecent) h = h.made.of
+evict_same V sh before after (Err evict.Spent) h = ap (λ (w : WriterRecord). w.of) h.1
+
+evict_answer_means : (V : ℕ) (sh : Shape) (before after : WriterRecord) (told : Result (Evict V) EvictError) → HasTriedToEvict V sh before after told → EvictMeans V (state_of V sh before.acts).history (state_of V sh after.acts).history told
+evict_answer_means V sh before after (Ok (Evicted at old)) h = (h.holds, h.history, ap (λ (x : List (Change V)). map_value x old.key) h.history ∙ held-evict (state_of V sh before.acts).history old.key, h.moment)
+evict_answer_means V sh before after (Ok (Empty at)) h = (h.0, ap (λ (w : WriterRecord). (state_of V sh w.acts).history) h.2, h.1)
+evict_answer_means V sh before after (Err evict.AllRecent) h = h.history
+evict_answer_means V sh before after (Err evict.Spent) h = ap (λ (w : WriterRecord). (state_of V sh w.acts).history) h.1
+
 kept_changes : (V : ℕ) (sh : Shape) (s t : State V) (k : ℕ) (v : List ℕ) (told : Result Put Why) → KeptAnswers sh (quiet_of s) k v told (quiet_of t) → t.history ≡ s.history ++ changes_by k v told
 kept_changes V sh s t k v (Ok (Stored at moves None)) a = a.grows.history
 kept_changes V sh s t k v (Ok (Stored at moves (Some evicted))) a = absurd a
@@ -140,6 +158,9 @@ module _ (V : ℕ) (o cells : Opening) (self seat : WriterRecord) (table : cells
   history_before : history V self ≡ (state_of V cells.layout.shape seat.acts).history
   history_before = ap (history V) (sym same) ∙ history_is V cells seat seat_of
 
+  history_after : (after : WriterRecord) → after.of ≡ seat.of → history V after ≡ (state_of V cells.layout.shape after.acts).history
+  history_after after of' = history_is V cells after (of' ∙ seat_of)
+
   history_called : (after : WriterRecord) (made : List Made) → after.of ≡ seat.of → after.acts ≡ seat.acts ++ made → history V after ≡ (after_all cells.layout.shape (state_of V cells.layout.shape seat.acts) made).history
   history_called after made of' acts = history_is V cells after (of' ∙ seat_of) ∙ history_grown V cells.layout.shape seat.acts after.acts made acts
 
@@ -160,6 +181,10 @@ module _ (V : ℕ) (o cells : Opening) (self seat : WriterRecord) (table : cells
       let s = state_of V cells.layout.shape seat.acts in
       subst (λ (p : List (Change V) × List (Change V)). RemovalMeans V p.0 p.1 k told) (λ i. (sym history_before i, sym (history_called after h.made h.of h.acts) i))
       (removal_answer_means V cells.layout.shape s (after_all cells.layout.shape s h.made) k told h.answered.means)
+
+  pub evict_means : (after : WriterRecord) (told : Result (Evict V) EvictError) → HasTriedToEvict V cells.layout.shape seat after told → EvictMeans V (history V self) (history V after) told
+  evict_means after told h =
+      subst (λ (p : List (Change V) × List (Change V)). EvictMeans V p.0 p.1 told) (λ i. (sym history_before i, sym (history_after after (evict_same V cells.layout.shape seat after told h)) i)) (evict_answer_means V cells.layout.shape seat after told h)
 
   -- a mark changes no map
   history_kept : (after : WriterRecord) (k : ℕ) (reply : Reply V) → HasGot V cells.layout.shape k seat after reply → history V after ≡ (state_of V cells.layout.shape seat.acts).history

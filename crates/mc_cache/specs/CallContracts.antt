@@ -3,18 +3,21 @@ use Rattle.std.specs.Prelude.{ℕ, List}
 use Rattle.mc_plan.specs.WholeCalls.{PutCall, PutIfCall, RemoveCall}
 use Rattle.mc_plan.specs.declared.answer.AbsentError.{AbsentError}
 use Rattle.mc_plan.specs.declared.answer.Answer.TheVariants as answer
+use Rattle.mc_plan.specs.declared.answer.EvictError.{EvictError}
 use Rattle.mc_plan.specs.declared.answer.IfError.{IfError}
 use Rattle.mc_plan.specs.declared.answer.Put.{Put}
 use Rattle.mc_plan.specs.declared.answer.PutError.{PutError}
 use Rattle.mc_plan.specs.declared.answer.Remove.{Remove}
 use Rattle.mc_plan.specs.declared.answer.Spent.{Spent}
+use Rattle.mc_writer.specs.Evictions.{HasTriedToEvict}
 use Rattle.mc_writer.specs.WriterCalls.{HasCalled, HasPutIfAbsent}
+use Rattle.mc_writer.specs.declared.entry.Evict.{Evict}
 use Rattle.mc_writer.specs.declared.entry.Replaced.{Replaced}
 use Rattle.mc_writer.specs.declared.entry.Swapped.{Swapped}
 use Rattle.mc_writer.specs.declared.entry.Take.{Take}
-use Rattle.mc_cache.specs.Failing.{PutFails, PutIfAbsentFails, PutIfFails, RemovalFails, SwapFails, SwapIfFails, TakeFails, TakeIfFails}
+use Rattle.mc_cache.specs.Failing.{EvictFails, PutFails, PutIfAbsentFails, PutIfFails, RemovalFails, SwapFails, SwapIfFails, TakeFails, TakeIfFails}
 use Rattle.mc_cache.specs.Plain.{PutIfAbsentMeans, PutIfMeans, PutMeans, RemovalMeans}
-use Rattle.mc_cache.specs.Taking.{HasTakenIf, SwapIfAbsentMeans, SwapIfMeans, SwapMeans, TakeIfMeans, TakeMeans, absent_of, swap_answer, swap_if_answer, take_answer}
+use Rattle.mc_cache.specs.Taking.{EvictMeans, HasTakenIf, SwapIfAbsentMeans, SwapIfMeans, SwapMeans, TakeIfMeans, TakeMeans, absent_of, swap_answer, swap_if_answer, take_answer}
 use Rattle.mc_cache.specs.TurnCalls.{Contract}
 
 abbrev pub put_contract : (V : ℕ) → ℕ → List ℕ → Contract V Put PutError
@@ -78,4 +81,11 @@ take_if_contract V k since = record {
   called = λ sh told w w'. HasTakenIf V sh k w w' told;
   means = λ h h' told. TakeIfMeans V h h' k since told;
   fails = λ sh h made told. TakeIfFails sh h made told;
+}
+
+abbrev pub evict_contract : (V : ℕ) → Contract V (Evict V) EvictError
+evict_contract V = record {
+  called = λ sh told w w'. HasTriedToEvict V sh w w' told;
+  means = λ h h' told. EvictMeans V h h' told;
+  fails = λ sh h made told. EvictFails sh h made told;
 }

@@ -7,6 +7,8 @@ use Rattle.mc_words.specs.declared.shape.Shape.{Shape}
 use Rattle.mc_theory.specs.Lists.{state_of}
 use Rattle.mc_plan.specs.declared.answer.AbsentError.{AbsentError}
 use Rattle.mc_plan.specs.declared.answer.AbsentError.TheVariants as absent
+use Rattle.mc_plan.specs.declared.answer.EvictError.{EvictError}
+use Rattle.mc_plan.specs.declared.answer.EvictError.TheVariants as evict
 use Rattle.mc_plan.specs.declared.answer.IfError.{IfError}
 use Rattle.mc_plan.specs.declared.answer.IfError.TheVariants as why
 use Rattle.mc_plan.specs.declared.answer.Put.{Put}
@@ -17,6 +19,7 @@ use Rattle.mc_plan.specs.declared.answer.Spent.{Spent as RemoveSpent}
 use Rattle.mc_shared.specs.Records.{ReaderRecord, WriterRecord}
 use Rattle.mc_cache.specs.declared.desk.DeskError.{DeskError}
 use Rattle.mc_cache.specs.declared.desk.DeskError.TheVariants as desk
+use Rattle.mc_writer.specs.declared.entry.Evict.{Evict}
 use Rattle.mc_writer.specs.declared.entry.Replaced.{Replaced}
 use Rattle.mc_writer.specs.declared.entry.Take.{Take}
 use Rattle.mc_cache.specs.Taking.{put_if_of, put_of, removal_of}
@@ -69,6 +72,12 @@ TakeFails sh h made told = RemovalFails sh h made (removal_of told)
 
 abbrev pub TakeIfFails : {V : ℕ} → Shape → List (Change V) → ℕ → Result (Replaced V) IfError → Type 0
 TakeIfFails sh h made told = PutIfFails sh h made (put_if_of told)
+
+-- an eviction without a put makes two version changes. It may find no entry that gives way only if there is one
+abbrev pub EvictFails : {V : ℕ} → Shape → List (Change V) → ℕ → Result (Evict V) EvictError → Type 0
+EvictFails sh h made (Ok told) = Unit {0}
+EvictFails sh h made (Err evict.AllRecent) = 0 < key_count h
+EvictFails sh h made (Err evict.Spent) = IsSpent sh h made 2
 
 -- a try for the turn may fail if the try was held, or as its call may fail
 abbrev pub TurnFails : {T E : Type 0} → (Result T E → Type 0) → Result T (DeskError E) → Type 0

@@ -16,10 +16,12 @@ pub mod Inside
 pub use Rattle.mc_words.specs.declared.history.Change
 pub use Rattle.mc_words.specs.declared.history.Reply
 pub use Rattle.mc_plan.specs.declared.answer.AbsentError
+pub use Rattle.mc_plan.specs.declared.answer.EvictError
 pub use Rattle.mc_plan.specs.declared.answer.IfError
 pub use Rattle.mc_plan.specs.declared.answer.Put
 pub use Rattle.mc_plan.specs.declared.answer.PutError
 pub use Rattle.mc_plan.specs.declared.answer.Remove
 pub use Rattle.mc_plan.specs.declared.answer.Spent
 pub use Rattle.mc_writer.specs.declared.entry.Entry
+pub use Rattle.mc_writer.specs.declared.entry.Evict
 pub use Rattle.mc_writer.specs.declared.entry.Swapped

@@ -1,10 +1,13 @@
 -- The meaning of the calls that also return the entry which they take out of the map: it is what the map held just before.
-use Rattle.std.specs.Prelude.{ℕ, ◌≡◌, ◌≢◌, List, Some, Result, Ok, Err, IfOk}
+use Rattle.std.specs.Prelude.{ℕ, ◌≡◌, ◌≢◌, ◌++◌, ◌∷◌, [], List, length, None, Some, Result, Ok, Err, IfOk}
 pub use Rattle.mc_writer.specs.GivenWay.{Holds, giving_way, put_if_of, put_of, removal_of}
+use Rattle.mc_words.specs.History.{key_count, map_value}
 use Rattle.mc_words.specs.declared.history.Change.{Change}
+use Rattle.mc_words.specs.declared.history.Change.TheVariants as change
 use Rattle.mc_plan.specs.declared.answer.AbsentError.{AbsentError}
 use Rattle.mc_plan.specs.declared.answer.Answer.{Answer}
 use Rattle.mc_plan.specs.declared.answer.Answer.TheVariants as answer
+use Rattle.mc_plan.specs.declared.answer.EvictError.{EvictError}
 use Rattle.mc_plan.specs.declared.answer.IfError.{IfError}
 use Rattle.mc_plan.specs.declared.answer.IfError.TheVariants as why
 use Rattle.mc_plan.specs.declared.answer.Put.{Put}
@@ -18,6 +21,8 @@ use Rattle.mc_shared.specs.Records.{WriterRecord}
 use Rattle.mc_writer.specs.WriterCalls.{HasCalled}
 use Rattle.mc_cache.specs.Plain.{PutIfAbsentMeans, PutIfMeans, PutMeans, RemovalMeans}
 use Rattle.mc_writer.specs.declared.entry.Entry.{Entry}
+use Rattle.mc_writer.specs.declared.entry.Evict.{Evict}
+use Rattle.mc_writer.specs.declared.entry.Evict.TheVariants.{Evicted, Empty}
 use Rattle.mc_writer.specs.declared.entry.Replaced.{Replaced}
 use Rattle.mc_writer.specs.declared.entry.Take.{Take}
 use Rattle.mc_writer.specs.declared.entry.Take.TheVariants.{Taken, NotThere}
@@ -61,6 +66,12 @@ HasTakenIf V sh k w w' (Ok replaced) = HasCalled V sh (RemoveCall k) w w' (answe
 HasTakenIf V sh k w w' (Err (why.NotThere at)) = HasCalled V sh (RemoveCall k) w w' (answer.Remove (Ok (removal.NotThere at)))
 HasTakenIf V sh k w w' (Err (why.Changed stands)) = w' ≡ w
 HasTakenIf V sh k w w' (Err why.Spent) = (spent : Spent) × HasCalled V sh (RemoveCall k) w w' (answer.Remove (Err spent))
+
+-- an eviction without a put: it takes out one entry, which is what the map held of its key, or the map holds none. One that fails has changed nothing
+abbrev pub EvictMeans : (V : ℕ) → List (Change V) → List (Change V) → Result (Evict V) EvictError → Type 0
+EvictMeans V h h' (Ok (Evicted at old)) = Holds h old.key (Some old) × (h' ≡ h ++ change.Evict old.key ∷ []) × (map_value h' old.key ≡ None) × (at ≡ length h')
+EvictMeans V h h' (Ok (Empty at)) = (key_count h ≡ 0) × (h' ≡ h) × (at ≡ length h)
+EvictMeans V h h' (Err why) = h' ≡ h
 
 -- a removal on a condition, and what the map held of its key: its last put was the one that the caller had seen. That another one had changed
 -- the key comes before that the limit could be passed

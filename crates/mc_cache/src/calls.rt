@@ -1,12 +1,12 @@
 //! The calls of the writer that a turn makes, as values.
 ghost use Rattle.mc_cache.specs.TurnCalls.{CanMake, HasMade};
-ghost use Rattle.mc_cache.specs.CallContracts.{put_contract, put_if_absent_contract, put_if_contract, remove_contract, swap_contract, swap_if_absent_contract, swap_if_contract, take_contract, take_if_contract};
+ghost use Rattle.mc_cache.specs.CallContracts.{evict_contract, put_contract, put_if_absent_contract, put_if_contract, remove_contract, swap_contract, swap_if_absent_contract, swap_if_contract, take_contract, take_if_contract};
 
 use crate::cache::Cache;
 use crate::turn::{Answers, TurnCall};
 use crate::writer::Writer;
-use mc_plan::{AbsentError, IfError, Put, PutError, Remove, Spent};
-use mc_writer::{Replaced, Swapped, Take};
+use mc_plan::{AbsentError, EvictError, IfError, Put, PutError, Remove, Spent};
+use mc_writer::{Evict, Replaced, Swapped, Take};
 
 /// `Writer::put` of this key with this value.
 #[derive(Clone, Copy)]
@@ -174,5 +174,26 @@ impl<const V: usize> TurnCall<V, Replaced<V>, IfError> for TakingIf {
         ensures { HasMade (take_if_contract V self.0 self.1) cache.now result writer.old writer.new }
     {
         writer.take_if(cache, self.0, self.1)
+    }
+}
+
+/// `Writer::evict`. It is a call of no key.
+#[derive(Clone, Copy)]
+pub struct Evicting;
+
+impl<const V: usize> TurnCall<V, Evict<V>, EvictError> for Evicting {
+    ghost contract = { λ c. evict_contract V };
+
+    #[inline(always)]
+    fn make(
+        self,
+        cache: &Cache<V>,
+        writer: &mut Writer<V>,
+        _: Answers<V>,
+    ) -> Result<Evict<V>, EvictError>
+        requires { CanMake V cache.now writer.old }
+        ensures { HasMade (evict_contract V) cache.now result writer.old writer.new }
+    {
+        writer.evict(cache)
     }
 }
