@@ -100,6 +100,8 @@ OF_PROCESS(take, (cefrodil_handle *handle, uint64_t key, uint64_t *old, size_t o
            (handle, key, old, old_words, reply))
 OF_PROCESS(take_if, (cefrodil_handle *handle, uint64_t key, uint64_t since, uint64_t *old, size_t old_words, cefrodil_reply *reply),
            (handle, key, since, old, old_words, reply))
+OF_PROCESS(evict, (cefrodil_handle *handle, uint64_t near, uint64_t *old, size_t old_words, cefrodil_reply *reply),
+           (handle, near, old, old_words, reply))
 OF_PROCESS(hold, (cefrodil_handle *handle), (handle))
 OF_PROCESS(release, (cefrodil_handle *handle), (handle))
 OF_PROCESS(moment, (cefrodil_handle *handle, uint64_t *moment), (handle, moment))

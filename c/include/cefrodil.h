@@ -122,7 +122,7 @@ typedef struct cefrodil_reply {
     uint64_t at;      /* number of changes to the key's shard when the answer was true; for a write, its own included, and an eviction
                        * before a put is a change of its own */
     uint64_t since;   /* the `at` of the key's last put */
-    uint64_t evicted; /* the key that was evicted for the new one */
+    uint64_t evicted; /* the key that was evicted */
     uint32_t moves;   /* how many keys were moved for the new one */
     uint32_t put;     /* what the put did: one of CEFRODIL_PUT_.. */
 } cefrodil_reply;
@@ -166,9 +166,9 @@ typedef enum cefrodil_status {
     CEFRODIL_BUSY = 2,         /* changes spoiled every try of the lookup; says nothing about the table */
     CEFRODIL_NO_PATH = 3,      /* both buckets of the key are full, and no moves of up to `depth` keys free a slot; if frequent, take more buckets
                                 * */
-    CEFRODIL_ALL_RECENT = 4,   /* the table is full, and a key to evict was not found: the put looked at items, twice as often as there are items,
-                                * and lookups had used each again. Put again, or leave the key uncached. Frequent only if the items are few; only
-                                * recency bits changed */
+    CEFRODIL_ALL_RECENT = 4,   /* a key to evict was not found: the call looked at items, twice as often as there are items, and lookups had used
+                                * each again. Call again, or leave the key uncached. Frequent only if the items are few; only recency bits changed
+                                * */
     CEFRODIL_SPENT = 5,        /* the write could exceed the `limit` of the shape: open a new cache. 2^62 takes centuries */
     CEFRODIL_CHANGED = 6,      /* the key's last put was another one, at `since` */
     CEFRODIL_HELD = 7,         /* a try for a turn did not win, or another call takes spare handles; nothing was done */
@@ -314,6 +314,13 @@ CEFRODIL_CALL cefrodil_status cefrodil_take(cefrodil_handle *handle, uint64_t ke
  * OK: as for cefrodil_take. CHANGED: `since` is that of the key's last put. Otherwise ABSENT, SPENT, HELD, CLOSED, WIDTH. */
 CEFRODIL_CALL cefrodil_status cefrodil_take_if(cefrodil_handle *handle, uint64_t key, uint64_t since, uint64_t *old, size_t old_words,
                                                cefrodil_reply *reply);
+
+/* Evicts a key without a put: the one that would give way to a new key if the shard were full. The shard is that of the key `near`, which
+ * need not be there; with one shard any key will do. So a program frees what it keeps behind the cache, or keeps room for the next puts.
+ * OK: `evicted` is the key, `old` its value, `since` the `at` of its last put. ABSENT: the shard has no key; `at` is set. ALL_RECENT: as for
+ * a put. SPENT, HELD, CLOSED, WIDTH. Unless OK, `old` is unchanged. */
+CEFRODIL_CALL cefrodil_status cefrodil_evict(cefrodil_handle *handle, uint64_t near, uint64_t *old, size_t old_words,
+                                             cefrodil_reply *reply);
 
 /* Takes the turn of every shard and holds them: nobody else writes until cefrodil_release or cefrodil_close. It takes no memory. Meanwhile
  * the writes of this handle are never HELD, its lookups never BUSY, and each list and number that it asks for is of one moment of all

@@ -67,6 +67,8 @@ template <size_t Words> class Handle : public inside::Calls<Words> {
     [[nodiscard]] Swapped<Words> try_take(uint64_t key) noexcept { return this->take(key); }
     // Takes the entry whose put was at `since`, and no later one.
     [[nodiscard]] Swapped<Words> try_take_if(uint64_t key, uint64_t since) noexcept { return this->take_if(key, since); }
+    // Evicts a key without a put: the one that would give way to a new key if the shard of `near` were full. absent: that shard has no key.
+    [[nodiscard]] Swapped<Words> try_evict(uint64_t near = 0) noexcept { return this->evict(near); }
 
     // Makes a call by this handle again while it is held: at most `tries` times, at least once, without a pause. `call` takes the handle, and
     // returns what its call returned: `handle.within(1000, [](auto &handle) { return handle.try_take(7); })`. Not for try_put_many, whose answers
@@ -151,6 +153,8 @@ template <size_t Words> class Writing : private inside::Calls<Words> {
     using Calls::swap, Calls::swap_if, Calls::swap_if_absent, Calls::take;
     // Takes the entry whose put was at `since`, and no later one.
     using Calls::take_if;
+    // As Handle::try_evict.
+    using Calls::evict;
     // Equivalent to put for each key in order.
     using Calls::put_many;
     // Looks the key up, but doesn't count as a use of it.

@@ -124,6 +124,16 @@ template <size_t Words> class Calls : public OpenHandle {
         const cefrodil_status status = cefrodil_take_if(raw(), key, since, old.data(), Words, &reply);
         return swapped<Words>(wrote(status, reply), old, true);
     }
+    [[nodiscard]] Swapped<Words> evict(uint64_t near = 0) noexcept {
+        cefrodil_reply reply;
+        Value old{};
+        const cefrodil_status status = cefrodil_evict(raw(), near, old.data(), Words, &reply);
+        Written write = wrote(status, reply);
+        if (status == CEFRODIL_OK) {
+            write.evicted = reply.evicted;
+        }
+        return swapped<Words>(write, old, true);
+    }
 
     // It is no use of the key, so it isn't counted as a lookup.
     [[nodiscard]] Answer<Words> peek(uint64_t key) noexcept {

@@ -97,6 +97,7 @@ static void use(cefrodil_handle *handle) {
     MUST(cefrodil_put_if_absent(handle, 6, value, WORDS, &reply) != CEFRODIL_HELD);
     MUST(cefrodil_entries(handle, entries, KEYS * (1 + WORDS), &count) == CEFRODIL_OK && count > KEYS / 2);
     MUST(cefrodil_take(handle, 6, old, WORDS, &reply) <= CEFRODIL_ABSENT && cefrodil_len(handle, &count) == CEFRODIL_OK);
+    MUST(cefrodil_evict(handle, 6, old, WORDS, &reply) == CEFRODIL_OK);
     MUST(cefrodil_put(handle, 1, value, WORDS + 1, &reply) == CEFRODIL_WIDTH);
     MUST(cefrodil_get(handle, 1, old, WORDS - 1, &reply) == CEFRODIL_WIDTH);
 }

@@ -75,7 +75,8 @@ static void writes() {
     MUST(spent.put(1, {1}).status == Status::spent && spent.put_if(1, 1, {1}).status == Status::spent);
     MUST(spent.put_if_absent(1, {1}).status == Status::spent && spent.remove(1).status == Status::spent);
     MUST(spent.swap(1, {1}).status == Status::spent && spent.swap_if(1, 1, {1}).status == Status::spent && spent.take(1).status == Status::spent);
-    MUST(are(spent.meter().counts(), {0, 0, 0, 0, 0, 7}) && are(meter.counts(), {0, 0, 0, 0, 3, 0}));
+    MUST(spent.evict().status == Status::spent && writing.evict().evicted && are(spent.meter().counts(), {0, 0, 0, 0, 0, 8}));
+    MUST(are(meter.counts(), {0, 0, 0, 0, 3, 0}));
 }
 
 // Both buckets of nine keys are the same two, and no key may move.
@@ -198,6 +199,11 @@ struct Told {
         // Lookups of the others may mark each key while the hand goes round.
         counts.refusals += answer.status == Status::all_recent;
     }
+    // An eviction that is not part of a put is not counted.
+    void evicted(Status status) {
+        counts.held += status == Status::held;
+        counts.refusals += status == Status::all_recent;
+    }
     void listed(Status status) { counts.held += status == Status::held; }
 };
 
@@ -218,6 +224,7 @@ static void work(Handle<1> &handle, Told &told, std::atomic<bool> &is_held) {
         told.wrote(handle.try_swap_if(key, n, {n}));
         told.wrote(handle.try_take(key));
         told.wrote(handle.try_take_if(key, n));
+        told.evicted(handle.try_evict(key).status);
         told.listed(handle.try_peek(key).status);
         told.wrote(handle.try_remove(key + 5));
         told.listed(handle.try_len(number));

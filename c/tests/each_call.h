@@ -24,6 +24,7 @@
     row(swap_if_absent, WIDTH | TURN | LIMIT | REPLY, (handle, key, value, words, told.old, words, &told.reply)) \
     row(take, WIDTH | TURN | LIMIT | REPLY, (handle, key, told.old, words, &told.reply)) \
     row(take_if, WIDTH | TURN | LIMIT | REPLY, (handle, key, since, told.old, words, &told.reply)) \
+    row(evict, WIDTH | TURN | LIMIT | REPLY, (handle, key, told.old, words, &told.reply)) \
     row(hold, TURN, (handle)) \
     row(release, NOTHING, (handle)) \
     row(moment, TURN, (handle, &told.moment)) \

@@ -28,6 +28,7 @@ static std::vector<cefrodil::Handle<1>> handles;
     row(handle, try_swap_if_absent, (1, {1})) \
     row(handle, try_take, (1)) \
     row(handle, try_take_if, (1, 1)) \
+    row(handle, try_evict, (1)) \
     row(handle, hold, (writing)) \
     row(handle, try_moment, (number)) \
     row(handle, try_len, (number)) \
@@ -45,6 +46,7 @@ static std::vector<cefrodil::Handle<1>> handles;
     row(writing, swap_if_absent, (1, {1})) \
     row(writing, take, (1)) \
     row(writing, take_if, (1, 1)) \
+    row(writing, evict, (1)) \
     row(writing, moment, (number)) \
     row(writing, len, (number)) \
     row(writing, capacity, (number)) \

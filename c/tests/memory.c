@@ -152,7 +152,8 @@ static int holds(const cefrodil_shape *shape, size_t words, struct how how) {
            cefrodil_put(&handles[0], 1, entries, words, &reply) == CEFRODIL_OK && cefrodil_get(&handles[0], 1, found, words, &reply) == CEFRODIL_OK &&
            cefrodil_hold(&handles[1]) == CEFRODIL_HELD && cefrodil_moment(&handles[0], &moment) == CEFRODIL_OK && moment == 4 &&
            cefrodil_len(&handles[0], &len) == CEFRODIL_OK && len == 2 && cefrodil_release(&handles[0]) == CEFRODIL_OK &&
-           cefrodil_put(&handles[1], 2, entries, words, &reply) == CEFRODIL_OK && cefrodil_get_or_turn(&handles[2], 2, found, words, &reply) == CEFRODIL_OK;
+           cefrodil_put(&handles[1], 2, entries, words, &reply) == CEFRODIL_OK && cefrodil_get_or_turn(&handles[2], 2, found, words, &reply) == CEFRODIL_OK &&
+           cefrodil_evict(&handles[1], 2, found, words, &reply) == CEFRODIL_OK;
     left = -1;
     held = held && kept == before;
     close_all();

@@ -28,6 +28,17 @@ static void keep(uint64_t object) {
     }
 }
 
+/* Evicts an object of the shard of this key, if it has one, and frees it. */
+static void shed(uint64_t near) {
+    cefrodil_reply reply;
+    uint64_t old = OBJECTS;
+    const uint32_t status = cefrodil_evict(&handle, near, &old, 1, &reply);
+    MUST(status == CEFRODIL_OK ? old * 7 % KEYS == reply.evicted && reply.since != 0 : status == CEFRODIL_ABSENT && old == OBJECTS);
+    if (status == CEFRODIL_OK) {
+        free_object(old);
+    }
+}
+
 /* Takes every key out, and frees its object. */
 static void empty(void) {
     for (uint64_t key = 0; key < KEYS; key++) {
@@ -47,6 +58,9 @@ static void keep_all(void) {
     }
     for (uint64_t object = 0; object < OBJECTS; object++) {
         keep(object);
+        if (object % 5 == 0) {
+            shed(object);
+        }
     }
     empty();
     for (int i = 0; i < OBJECTS; i++) {

@@ -10,8 +10,8 @@
 
 enum { HANDLES = 3, ENTRY = 2, FIRST = 4 };
 
-/* A call: the number of its key, and that of the key which gives way, or 0. */
-enum call { PUT, RENEW, GET };
+/* A call: the number of its key, and that of the key which gives way, or 0. EVICT evicts in the shard of its key, which need not be there. */
+enum call { PUT, RENEW, GET, EVICT };
 struct row {
     enum call call;
     uint64_t key, evicted;
@@ -32,6 +32,18 @@ static const struct row again_by_clock[] = {{PUT, 1, 0}, {PUT, 2, 0}, {PUT, 3, 0
 /* In the end all four keys were used, one more than may be. So the first of them gives way that was not used since it was looked at. */
 static const struct row all_used[] = {{PUT, 1, 0}, {PUT, 2, 0}, {PUT, 3, 0}, {PUT, 4, 0}, {GET, 1, 0}, {RENEW, 2, 0}, {GET, 3, 0},
                                       {PUT, 5, 4}, {GET, 1, 0}, {GET, 5, 0}, {PUT, 6, 2}, {PUT, 2, 6}, {PUT, 7, 2}};
+/* Key 1 was used, so it goes last. Keys 2 to 4 gave way while they were new. So key 2, which is put again, stays longer than key 5. */
+static const struct row emptied[] = {{PUT, 1, 0}, {PUT, 2, 0}, {PUT, 3, 0}, {PUT, 4, 0}, {GET, 1, 0}, {EVICT, 0, 2}, {EVICT, 9, 3},
+                                     {EVICT, 1, 4}, {EVICT, 4, 1}, {EVICT, 1, 0}, {PUT, 2, 0}, {PUT, 5, 0}, {EVICT, 2, 5}, {EVICT, 2, 2},
+                                     {EVICT, 2, 0}};
+/* The hand clears all bits, and evicts key 1 and then key 2. It passes key 3, which is used, and key 5, which is put, and comes round again. */
+static const struct row emptied_by_clock[] = {{PUT, 1, 0}, {PUT, 2, 0}, {PUT, 3, 0}, {PUT, 4, 0}, {GET, 1, 0}, {EVICT, 0, 1}, {EVICT, 9, 2},
+                                              {GET, 3, 0}, {EVICT, 1, 4}, {PUT, 5, 0}, {EVICT, 5, 3}, {EVICT, 2, 5}, {EVICT, 5, 0}};
+/* By each policy: a put that finds an item free evicts none, and the next one evicts the key after the one that went last. */
+static const struct row between_puts[] = {{PUT, 1, 0}, {PUT, 2, 0}, {PUT, 3, 0}, {PUT, 4, 0}, {EVICT, 1, 1}, {PUT, 5, 0}, {PUT, 6, 2},
+                                          {EVICT, 7, 3}, {PUT, 7, 0}, {PUT, 8, 4}, {EVICT, 8, 5}, {GET, 8, 0}};
+static const struct row one_emptied[] = {{PUT, 1, 0}, {GET, 1, 0}, {EVICT, 1, 1}, {EVICT, 1, 0},
+                                         {PUT, 2, 0}, {PUT, 3, 2}, {EVICT, 2, 3}, {EVICT, 3, 0}};
 /* The one key gives way to each new one, used or not. */
 static const struct row one_item[] = {{PUT, 1, 0}, {PUT, 2, 1}, {GET, 2, 0}, {PUT, 3, 2}, {PUT, 2, 3}, {RENEW, 2, 0}, {PUT, 1, 2}};
 
@@ -43,17 +55,21 @@ static cefrodil_shape shape = {.limit = UINT64_C(1) << 62, .buckets = 8, .stripe
 static void play(const struct row *row, size_t step, uint64_t shard) {
     cefrodil_handle *const handle = &handles[step % HANDLES];
     const bool holds = handle == &handles[1];
-    const uint64_t key = row->key * K + shard * OTHER;
+    const uint64_t key = row->key * K + shard * OTHER, evicted = row->evicted != 0 ? row->evicted * K + shard * OTHER : 0;
     uint64_t value = key;
-    cefrodil_reply reply;
+    cefrodil_reply reply = {0, 0, 0, 0, 0};
     MUST(!holds || cefrodil_hold(handle) == CEFRODIL_OK);
-    if (row->call == GET) {
-        MUST(cefrodil_get(handle, key, &value, 1, &reply) == CEFRODIL_OK && value == key);
-    } else {
+    switch (row->call) {
+    case GET: MUST(cefrodil_get(handle, key, &value, 1, &reply) == CEFRODIL_OK && value == key); break;
+    case EVICT:
+        MUST(cefrodil_evict(handle, key, &value, 1, &reply) == (evicted != 0 ? CEFRODIL_OK : CEFRODIL_ABSENT));
+        MUST(value == (evicted != 0 ? evicted : key) && cefrodil_get(handle, evicted, &value, 1, NULL) == CEFRODIL_ABSENT);
+        break;
+    default:
         MUST(cefrodil_put(handle, key, &value, 1, &reply) == CEFRODIL_OK && (reply.put == CEFRODIL_PUT_RENEWED) == (row->call == RENEW));
-        MUST((reply.put == CEFRODIL_PUT_EVICTED) == (row->evicted != 0));
-        MUST(reply.evicted == (row->evicted != 0 ? row->evicted * K + shard * OTHER : 0));
+        MUST((reply.put == CEFRODIL_PUT_EVICTED) == (evicted != 0));
     }
+    MUST(reply.evicted == evicted);
     MUST(!holds || cefrodil_release(handle) == CEFRODIL_OK);
 }
 
@@ -121,8 +137,14 @@ int main(void) {
     PLAYS(SCAN_RESISTANT, FIRST, again);
     PLAYS(SCAN_RESISTANT, FIRST, all_used);
     PLAYS(SCAN_RESISTANT, 1, one_item);
+    PLAYS(SCAN_RESISTANT, FIRST, emptied);
+    PLAYS(SCAN_RESISTANT, FIRST, between_puts);
+    PLAYS(SCAN_RESISTANT, 1, one_emptied);
     PLAYS(CLOCK, FIRST, scan_by_clock);
     PLAYS(CLOCK, FIRST, again_by_clock);
     PLAYS(CLOCK, 1, one_item);
+    PLAYS(CLOCK, FIRST, emptied_by_clock);
+    PLAYS(CLOCK, FIRST, between_puts);
+    PLAYS(CLOCK, 1, one_emptied);
     return outcome("policies");
 }

@@ -55,6 +55,37 @@ static void gives_way(uint32_t policy, const Evicted &expected) {
     MUST(open_with(shape, 1, 2, {1, 1, 2, 2, 3, 3, 4, 4}, handles, statuses) == Status::ok && evicted_after(5, handles) == expected);
 }
 
+// Keys 1 to 4 give way in this order, without a put. Key 2 was used, which CLOCK's hand forgets before it evicts. Then the cache is empty.
+static void gives_way_without_a_put(uint32_t policy, const Evicted &expected) {
+    Evicted all;
+    std::vector<Handle<1>> handles;
+    Writing<1> writing;
+    MUST(open(shape_of(policy), 1, 2, handles) == Status::ok);
+    for (uint64_t key = 1; key <= 4; key++) {
+        MUST(handles[0].try_put(key, {key}).status == Status::ok);
+    }
+    MUST(handles[0].get(2).status == Status::ok);
+    all.push_back(handles[1].try_evict(9).evicted.value_or(0));
+    MUST(handles[0].hold(writing) == Status::ok && handles[1].try_evict().status == Status::held);
+    for (int n = 0; n < 3; n++) {
+        all.push_back(writing.evict(n).evicted.value_or(0));
+    }
+    MUST(all == expected && writing.evict().status == Status::absent);
+}
+
+// Only the shard of the named key gives one up: that which has the keys with this bit, as they are not mixed.
+static void of_a_shard() {
+    const uint64_t bit = uint64_t(1) << 48;
+    cefrodil_shape shape = *shape_for_items(20, 2);
+    shape.mix = CEFRODIL_MIX_NONE;
+    std::vector<Handle<1>> handles;
+    MUST(open(shape, 2, 1, handles) == Status::ok);
+    MUST(handles[0].try_put(1, {10}).at == 1 && handles[0].try_put(bit + 1, {11}).at == 1 && handles[0].try_put(2, {20}).at == 2);
+    const Swapped<1> first = handles[0].try_evict(bit), none = handles[0].try_evict(bit);
+    MUST(first.evicted == bit + 1 && first.at == 2 && first.old_since == 1 && none.status == Status::absent && none.at == 2);
+    MUST(handles[0].try_evict().evicted == 1u && handles[0].try_evict().evicted == 2u && handles[0].try_evict().at == 4);
+}
+
 static void bad_policy() {
     std::vector<Handle<1>> handles;
     std::vector<Status> statuses;
@@ -79,6 +110,9 @@ template <class Map> static void a_map() {
 int main() {
     gives_way(CEFRODIL_POLICY_SCAN_RESISTANT, by_scan_resistant);
     gives_way(CEFRODIL_POLICY_CLOCK, by_clock);
+    gives_way_without_a_put(CEFRODIL_POLICY_SCAN_RESISTANT, {1, 3, 4, 2});
+    gives_way_without_a_put(CEFRODIL_POLICY_CLOCK, {1, 2, 3, 4});
+    of_a_shard();
     bad_policy();
     a_map<map<uint64_t, uint64_t>>();
     a_map<object_map<uint64_t, uint64_t>>();

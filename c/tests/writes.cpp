@@ -15,6 +15,7 @@ struct ByWriting {
     Swapped<1> swap_if_absent(uint64_t key, uint64_t value) { return writing.swap_if_absent(key, {value}); }
     Swapped<1> take(uint64_t key) { return writing.take(key); }
     Swapped<1> take_if(uint64_t key, uint64_t since) { return writing.take_if(key, since); }
+    Swapped<1> evict() { return writing.evict(); }
     Answer<1> peek(uint64_t key) { return writing.peek(key); }
     Status put_many(const uint64_t *keys, const std::array<uint64_t, 1> *values, cefrodil_put_answer *answers) {
         return writing.put_many(keys, 3, values, answers);
@@ -30,6 +31,7 @@ struct ByHandle {
     Swapped<1> swap_if_absent(uint64_t key, uint64_t value) { return handle.try_swap_if_absent(key, {value}); }
     Swapped<1> take(uint64_t key) { return handle.try_take(key); }
     Swapped<1> take_if(uint64_t key, uint64_t since) { return handle.try_take_if(key, since); }
+    Swapped<1> evict() { return handle.try_evict(); }
     Answer<1> peek(uint64_t key) { return handle.try_peek(key); }
     Status put_many(const uint64_t *keys, const std::array<uint64_t, 1> *values, cefrodil_put_answer *answers) {
         return handle.try_put_many(keys, 3, values, answers);
@@ -90,11 +92,24 @@ template <class Calls> static void keys_of_one_call(Calls calls, const Meter &me
     MUST(calls.peek(6).value && meter.counts().evictions == evictions + 1);
 }
 
+// Two of the three keys that were put last are there, and give way without a put.
+template <class Calls> static void keys_that_give_way(Calls calls) {
+    const Swapped<1> first = calls.evict(), second = calls.evict(), none = calls.evict();
+    for (const Swapped<1> &told : {first, second}) {
+        MUST(told.status == Status::ok && told.evicted && told.old && told.since == 0 && calls.peek(*told.evicted).status == Status::absent);
+        const uint64_t key = told.evicted.value_or(0), value = key == 5 ? 51 : key == 6 ? 60 : 31, since = key == 5 ? 13 : key == 6 ? 16 : 14;
+        MUST(told.old && (*told.old)[0] == value && told.old_since == since);
+    }
+    MUST(first.at == 17 && second.at == 18 && first.evicted != second.evicted);
+    MUST(none.status == Status::absent && none.at == 18 && none.old_since == 0 && none.since == 0 && !none.old && !none.evicted);
+}
+
 template <class Calls> static void writes(Calls calls, const Meter &meter) {
     a_key_that_is_there(calls);
     a_key_that_is_taken(calls);
     a_key_that_is_evicted(calls);
     keys_of_one_call(calls, meter);
+    keys_that_give_way(calls);
 }
 
 // A handle that takes another's place closes its own cache. One that takes its own place stays open.
@@ -121,7 +136,8 @@ int main() {
         writes(ByWriting{writing}, writing.meter());
         writes(ByHandle{handles[0]}, handles[0].meter());
         uint64_t len = 9;
-        MUST(handles[0].try_remove(6).status == Status::ok && handles[0].try_len(len) == Status::ok && len == 1);
+        MUST(handles[0].try_put(6, {60}).at == 19 && handles[0].try_len(len) == Status::ok && len == 1);
+        MUST(handles[0].try_remove(6).status == Status::ok && handles[0].try_len(len) == Status::ok && len == 0);
     }
     shape.policy = CEFRODIL_POLICY_SCAN_RESISTANT;
     moves(shape, handles[0]);

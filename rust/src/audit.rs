@@ -1,6 +1,6 @@
 //! Logs of changes and answers, which the program `mccheck` checks.
 use crate::error::Why;
-use crate::reply::{Entry, Put, Removal, Reply, Swapped, Take};
+use crate::reply::{Entry, Evict, Put, Removal, Reply, Swapped, Take};
 use std::io::{self, Write};
 
 /// A log of what a cache's calls answered, for `mccheck`: it says how many answers are not what the map held at their moment.
@@ -123,6 +123,17 @@ impl<const WORDS: usize, W: Write> AuditLog<WORDS, W> {
             }
             Take::NotThere { at } => self.removed(key, Removal::NotThere { at: *at }),
         }
+    }
+
+    /// What an eviction did. That the shard has no key says nothing.
+    ///
+    /// # Errors
+    ///
+    /// That of the stream.
+    pub fn evicted(&mut self, evict: &Evict<WORDS>) -> io::Result<()> {
+        let Evict::Evicted { at, old } = evict else { return Ok(()) };
+        self.found(at - 1, old)?;
+        writeln!(self.out, "evict {at} {}", old.key)
     }
 
     /// The stream. What it has not written yet is for the caller to flush.

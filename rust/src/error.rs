@@ -65,6 +65,16 @@ pub enum PutError {
     Spent,
 }
 
+/// Why no key was evicted: the first of these, in this order, that applies.
+#[derive(Clone, Copy, Debug, PartialEq, Eq, Hash)]
+#[non_exhaustive]
+pub enum EvictError {
+    /// The limit on version changes could be exceeded.
+    Spent,
+    /// A key to evict was not found, as in [`PutError::AllRecent`].
+    AllRecent,
+}
+
 /// Why a conditional put failed: the first of these, in this order, that applies.
 #[derive(Clone, Copy, Debug, PartialEq, Eq, Hash)]
 #[non_exhaustive]
@@ -188,6 +198,10 @@ macro_rules! statuses {
 }
 
 // .ci/calls: errors
+statuses! { EvictError
+    ALL_RECENT => AllRecent "all recent",
+    SPENT => Spent "spent",
+}
 statuses! { ListError
     NO_MEMORY => NoMemory "no memory",
 }
@@ -274,7 +288,7 @@ macro_rules! has_text {
     };
 }
 
-has_text!(MoreError PutError Why ListError);
+has_text!(MoreError PutError EvictError Why ListError);
 
 impl Display for PutIfError {
     fn fmt(&self, text: &mut Formatter) -> fmt::Result {
@@ -325,6 +339,7 @@ impl<E: Display> Display for TurnError<E> {
 impl Error for OpenError {}
 impl Error for MoreError {}
 impl Error for PutError {}
+impl Error for EvictError {}
 impl Error for Why {}
 impl Error for PutIfError {}
 impl Error for PutIfAbsentError {}

@@ -1,9 +1,9 @@
 //! A thread's handle of a cache.
 use crate::counts::Meter;
-use crate::error::{Held, ListError, MoreError, PutError, PutIfAbsentError, PutIfError, Spent, TurnError};
+use crate::error::{EvictError, Held, ListError, MoreError, PutError, PutIfAbsentError, PutIfError, Spent, TurnError};
 use crate::open_handle::{openings, OpenHandle};
 use crate::raw;
-use crate::reply::{self, Entry, Put, Removal, Replaced, Reply, Swapped, Take};
+use crate::reply::{self, Entry, Evict, Put, Removal, Replaced, Reply, Swapped, Take};
 use std::fmt::{self, Debug, Formatter};
 
 /// A thread's handle of a cache. It looks up without a lock, and each of its writes tries once for the turn of the key's shard. To write
@@ -212,6 +212,17 @@ impl<const WORDS: usize> Handle<WORDS> {
         let mut old = [0; WORDS];
         let told = self.0.take_if(key, since, &mut old);
         reply::turn(told, |told| Replaced::of(key, old, told))
+    }
+
+    /// Like [`try_put`](Handle::try_put), with [`Writing::evict`](crate::Writing::evict).
+    ///
+    /// # Errors
+    ///
+    /// [`TurnError`]: no key and no value was changed.
+    pub fn try_evict(&mut self, near: u64) -> Result<Evict<WORDS>, TurnError<EvictError>> {
+        let mut old = [0; WORDS];
+        let told = self.0.evict(near, &mut old);
+        reply::turn(told, |told| Evict::of(old, told))
     }
 
     /// The number of keys in the cache. Each shard is counted in a turn of its own, so with several it adds up numbers of several moments.

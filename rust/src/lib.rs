@@ -34,13 +34,14 @@ pub use audit::AuditLog;
 pub use cache::{Cache, Opened};
 pub use counts::{prometheus, Counts, Meter};
 pub use error::{
-    Held, ListError, MayBeHeld, MoreError, NotHeld, OpenError, PutError, PutIfAbsentError, PutIfError, Spent, TurnError, Why,
+    EvictError, Held, ListError, MayBeHeld, MoreError, NotHeld, OpenError, PutError, PutIfAbsentError, PutIfError, Spent,
+    TurnError, Why,
 };
 pub use filler::{FillError, Filler, Ticket, Tickets};
 pub use handle::Handle;
 pub use open_handle::version;
 pub use pool::{Lent, Pool};
-pub use reply::{Entry, Put, Removal, Replaced, Reply, Swapped, Take};
+pub use reply::{Entry, Evict, Put, Removal, Replaced, Reply, Swapped, Take};
 pub use shape::{Mix, Policy, Shape};
 pub use width::Value;
 pub use writing::Writing;

@@ -209,6 +209,14 @@ impl OpenHandle {
         (status, reply)
     }
 
+    pub fn evict(&mut self, near: u64, old: &mut [u64]) -> (u32, RawReply) {
+        let mut reply = RawReply::default();
+        let old_words = old.len();
+        let status = unsafe { raw::cefrodil_evict(&mut self.raw, near, old.as_mut_ptr(), old_words, &mut reply) };
+        self.counter.wrote(status, &reply);
+        (status, reply)
+    }
+
     pub fn hold(&mut self) -> u32 {
         let status = unsafe { raw::cefrodil_hold(&mut self.raw) };
         self.counter.tried(status);

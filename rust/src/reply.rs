@@ -1,5 +1,5 @@
 //! Answers of calls.
-use crate::error::{ListError, PutError, PutIfAbsentError, PutIfError, Spent, TurnError};
+use crate::error::{EvictError, ListError, PutError, PutIfAbsentError, PutIfError, Spent, TurnError};
 use crate::memory::room;
 use crate::open_handle::OpenHandle;
 use crate::raw::{self, RawAnswer, RawPut, RawReply};
@@ -113,6 +113,23 @@ pub enum Take<const WORDS: usize> {
     },
     /// The key was not there.
     NotThere {
+        /// The moment.
+        at: u64,
+    },
+}
+
+/// What an eviction did that is not part of a put. `at` is its moment: the number of changes to the shard after it.
+#[derive(Clone, Copy, Debug, PartialEq, Eq, Hash)]
+pub enum Evict<const WORDS: usize> {
+    /// A key was evicted.
+    Evicted {
+        /// The moment.
+        at: u64,
+        /// Its entry.
+        old: Entry<WORDS>,
+    },
+    /// The shard has no key.
+    Empty {
         /// The moment.
         at: u64,
     },
@@ -295,6 +312,17 @@ impl<const WORDS: usize> Take<WORDS> {
             Removal::Removed { at } => Take::Taken { at, old: Entry { key, value, since: told.1.since } },
             Removal::NotThere { at } => Take::NotThere { at },
         })
+    }
+}
+
+impl<const WORDS: usize> Evict<WORDS> {
+    pub(crate) fn of(value: [u64; WORDS], (status, reply): Told) -> Result<Evict<WORDS>, EvictError> {
+        let RawReply { at, since, evicted: key, .. } = reply;
+        match status {
+            raw::OK => Ok(Evict::Evicted { at, old: Entry { key, value, since } }),
+            raw::ABSENT => Ok(Evict::Empty { at }),
+            status => Err(EvictError::of(status)),
+        }
     }
 }
 

@@ -1,9 +1,9 @@
 //! A handle that holds the turns of all shards.
 use crate::counts::Meter;
-use crate::error::{ListError, MoreError, PutError, PutIfAbsentError, PutIfError, Spent};
+use crate::error::{EvictError, ListError, MoreError, PutError, PutIfAbsentError, PutIfError, Spent};
 use crate::handle::Handle;
 use crate::open_handle::{openings, OpenHandle};
-use crate::reply::{self, Entry, Put, Removal, Replaced, Reply, Swapped, Take};
+use crate::reply::{self, Entry, Evict, Put, Removal, Replaced, Reply, Swapped, Take};
 use std::fmt::{self, Debug, Formatter};
 
 /// A handle that holds the turns of all shards: nobody else writes, and other handles look up as before. Its writes are never held, its
@@ -209,6 +209,35 @@ impl<const WORDS: usize> Writing<'_, WORDS> {
         let mut old = [0; WORDS];
         let told = self.handle().take_if(key, since, &mut old);
         Replaced::of(key, old, told)
+    }
+
+    /// Evicts a key without a put: the one that would give way to a new key if the shard were full. The shard is that of the key `near`,
+    /// which need not be there; with one shard any key will do. So a program drops what it keeps behind the cache, or keeps room for the
+    /// next puts.
+    ///
+    /// # Errors
+    ///
+    /// [`EvictError`]: no key and no value was changed. After `AllRecent` only recency bits were.
+    ///
+    /// # Examples
+    ///
+    /// ```
+    /// use cefrodil::{Cache, Entry, Evict, Shape};
+    ///
+    /// let mut handles = Cache::<1>::open(&Shape::for_items(100, 1)?, 1, 1)?;
+    /// let mut writing = handles[0].hold()?;
+    /// writing.put(7, &[70])?;
+    /// writing.put(8, &[80])?;
+    /// assert_eq!(writing.get(7).value(), Some([70]));
+    /// assert_eq!(writing.evict(0)?, Evict::Evicted { at: 3, old: Entry { key: 8, value: [80], since: 2 } });
+    /// assert_eq!(writing.evict(0)?, Evict::Evicted { at: 4, old: Entry { key: 7, value: [70], since: 1 } });
+    /// assert_eq!(writing.evict(0)?, Evict::Empty { at: 4 });
+    /// # Ok::<(), Box<dyn std::error::Error>>(())
+    /// ```
+    pub fn evict(&mut self, near: u64) -> Result<Evict<WORDS>, EvictError> {
+        let mut old = [0; WORDS];
+        let told = self.handle().evict(near, &mut old);
+        Evict::of(old, told)
     }
 
     /// Looks the key up. Never [`Reply::Busy`]. A hit marks the key as recently used.

@@ -1,7 +1,7 @@
 //! The errors of openings and writes, and the parts of answers that `calls.rs` leaves open.
 use cefrodil::{
-    Cache, Handle, Mix, OpenError, Policy, Put, PutError, PutIfAbsentError, PutIfError, Reply, Shape, Spent, TurnError, Value,
-    Why,
+    Cache, EvictError, Handle, Mix, OpenError, Policy, Put, PutError, PutIfAbsentError, PutIfError, Reply, Shape, Spent,
+    TurnError, Value, Why,
 };
 use std::collections::HashSet;
 use std::error::Error;
@@ -113,6 +113,7 @@ fn refused_by(handle: &mut Handle<1>) {
     assert_eq!(handle.try_swap_if(0, 1, &[7]), Err(TurnError::Call(PutIfError::Spent)));
     assert_eq!(handle.try_take_if(0, 1), Err(TurnError::Call(PutIfError::Spent)));
     assert_eq!(handle.try_take(0), Err(TurnError::Call(Spent)));
+    assert_eq!(handle.try_evict(0), Err(TurnError::Call(EvictError::Spent)));
 }
 
 #[test]

@@ -1,5 +1,5 @@
 //! A log has a line for each change and each answer. Its answers are those of a plain map, which is changed as the log says.
-use cefrodil::{AuditLog, Cache, Handle, Removal, Reply, Shape, TurnError};
+use cefrodil::{AuditLog, Cache, Evict, Handle, Removal, Reply, Shape, TurnError};
 use std::collections::BTreeMap;
 use std::error::Error;
 use std::io;
@@ -45,7 +45,12 @@ fn an_eviction_is_a_change_of_its_own() -> Tested {
     log.put(1, &[10], writing.put(1, &[10])?)?;
     log.put(2, &[20], writing.put(2, &[20])?)?;
     log.swapped(3, &[30], &writing.swap(3, &[30])?)?;
-    assert_eq!(text(log)?, "words 1\nput 1 1 10\nevict 2 1\nput 3 2 20\nfound 3 3 2 20\nevict 4 2\nput 5 3 30\n");
+    log.evicted(&writing.evict(1)?)?;
+    log.evicted(&writing.evict(1)?)?;
+    assert_eq!(
+        text(log)?,
+        "words 1\nput 1 1 10\nevict 2 1\nput 3 2 20\nfound 3 3 2 20\nevict 4 2\nput 5 3 30\nfound 5 5 3 30\nevict 6 3\n"
+    );
     Ok(())
 }
 
@@ -105,6 +110,9 @@ fn work(mut handle: Handle<1>, number: u64) -> Result<String, Box<dyn Error + Se
         }
         if let Ok(take) = handle.try_take(key + 3) {
             log.taken(key + 3, &take)?;
+        }
+        if let Ok(evict @ Evict::Evicted { .. }) = handle.try_evict(key) {
+            log.evicted(&evict)?;
         }
     }
     Ok(String::from_utf8(log.into_inner())?)

@@ -1,8 +1,8 @@
 //! What the calls of a cache's handles came to is counted: by a handle that holds, too, and also once it is dropped. In threads no count is
 //! lost. Without the feature `counts` each count is 0.
 use cefrodil::{
-    prometheus, Cache, Counts, Handle, MayBeHeld, Meter, Mix, Policy, Put, PutError, PutIfAbsentError, PutIfError, Reply, Shape,
-    Spent, TurnError,
+    prometheus, Cache, Counts, Evict, EvictError, Handle, MayBeHeld, Meter, Mix, Policy, Put, PutError, PutIfAbsentError,
+    PutIfError, Reply, Shape, Spent, TurnError,
 };
 use std::error::Error;
 use std::sync::atomic::{AtomicBool, Ordering};
@@ -73,12 +73,14 @@ fn evictions_and_refusals_are_counted() -> Tested {
     writing.put_if_absent(4, &[7])?;
     writing.swap(5, &[8])?;
     counted(&meter, [0, 0, 0, 0, 3, 0]);
+    assert!(matches!(writing.evict(0)?, Evict::Evicted { .. }));
+    counted(&meter, [0, 0, 0, 0, 3, 0]);
     let mut handles = Cache::<1>::open(&Shape { limit: 0, ..SMALL }, 1, 1)?;
     let mut spent = handles[0].hold()?;
     assert_eq!((spent.put(1, &[1]), spent.put_if(1, 1, &[1])), (Err(PutError::Spent), Err(PutIfError::Spent)));
     assert!(spent.put_if_absent(1, &[1]).is_err() && spent.remove(1) == Err(Spent) && spent.swap(1, &[1]).is_err());
-    assert!(spent.swap_if(1, 1, &[1]).is_err() && spent.take(1).is_err());
-    counted(&spent.meter(), [0, 0, 0, 0, 0, 7]);
+    assert!(spent.swap_if(1, 1, &[1]).is_err() && spent.take(1).is_err() && spent.evict(1) == Err(EvictError::Spent));
+    counted(&spent.meter(), [0, 0, 0, 0, 0, 8]);
     // Both buckets of nine keys are the same two, and no key may move.
     let crowded = Shape { buckets: 1024, items: 16, depth: 0, mix: Mix::None, ..SMALL };
     let mut handles = Cache::<1>::open(&crowded, 1, 1)?;

@@ -1,5 +1,7 @@
 //! Each status that is an error in Rust has the text of the archive. If one has another, the table says so.
-use cefrodil::{Held, ListError, MoreError, OpenError, PutError, PutIfAbsentError, PutIfError, Spent, TurnError, Why};
+use cefrodil::{
+    EvictError, Held, ListError, MoreError, OpenError, PutError, PutIfAbsentError, PutIfError, Spent, TurnError, Why,
+};
 use std::ffi::{c_char, CStr};
 
 extern "C" {
@@ -15,8 +17,14 @@ fn text_of_archive(status: u32) -> &'static str {
 fn errors_of(status: u32) -> Vec<String> {
     match status {
         3 => vec![PutError::NoPath.to_string(), Why::NoPath.to_string(), PutIfAbsentError::Put(PutError::NoPath).to_string()],
-        4 => vec![PutError::AllRecent.to_string()],
-        5 => vec![PutError::Spent.to_string(), PutIfError::Spent.to_string(), Spent.to_string(), Why::Spent.to_string()],
+        4 => vec![PutError::AllRecent.to_string(), EvictError::AllRecent.to_string()],
+        5 => vec![
+            PutError::Spent.to_string(),
+            PutIfError::Spent.to_string(),
+            EvictError::Spent.to_string(),
+            Spent.to_string(),
+            Why::Spent.to_string(),
+        ],
         7 => vec![
             TurnError::<Spent>::Held.to_string(),
             Held.to_string(),

@@ -71,6 +71,21 @@ pub extern "C" fn cefrodil_take_if(
     told_of_handle!(handle, reply, held => held.swap(key, Swap::RemoveIf(since), &[], old, reply))
 }
 
+/// Takes out the entry that a full shard would give up next, in the shard of the key `near`, and returns it. Its value is written to `old`.
+#[tactic(auto, using(crate::proofs::Gives::gives_open, crate::proofs::Gives::gives_closed))]
+#[unsafe(no_mangle)]
+pub extern "C" fn cefrodil_evict(
+    handle: &mut RawHandle,
+    near: u64,
+    old: &mut [u64],
+    reply: &mut RawReply,
+) -> u32
+    ensures open { handle.new.live ≡ handle.old.live }
+    ensures told { SwapGives (kept handle.old) (kept handle.new) near Swap.Evict [] old.old old.new (record { status = result; reply = reply.new }) }
+{
+    told_of_handle!(handle, reply, held => held.swap(near, Swap::Evict, &[], old, reply))
+}
+
 /// Takes a key out, and returns its entry.
 #[tactic(auto, using(crate::proofs::Gives::gives_open, crate::proofs::Gives::gives_closed))]
 #[unsafe(no_mangle)]

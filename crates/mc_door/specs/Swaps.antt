@@ -1,20 +1,23 @@
 -- What the writes mean that also return the entry which gives way: a holder makes them, and a pass in a turn.
 use Rattle.std.specs.Prelude.{ℕ, ◌≡◌, ◌≢◌, ◌⊎◌, List, length, Option, Some, None, Result, Ok, Err}
-use Rattle.mc_cache.specs.CallContracts.{swap_contract, swap_if_absent_contract, swap_if_contract, take_contract, take_if_contract}
+use Rattle.mc_cache.specs.CallContracts.{evict_contract, swap_contract, swap_if_absent_contract, swap_if_contract, take_contract, take_if_contract}
 use Rattle.mc_cache.specs.TurnCalls.{Contract}
 use Rattle.mc_cache.specs.declared.desk.DeskError.{DeskError}
 use Rattle.mc_cache.specs.declared.desk.DeskError.TheVariants as desk
 use Rattle.mc_writer.specs.declared.entry.Entry.{Entry}
+use Rattle.mc_writer.specs.declared.entry.Evict.{Evict}
+use Rattle.mc_writer.specs.declared.entry.Evict.TheVariants.{Evicted, Empty}
 use Rattle.mc_writer.specs.declared.entry.Replaced.{Replaced}
 use Rattle.mc_writer.specs.declared.entry.Swapped.{Swapped}
 use Rattle.mc_writer.specs.declared.entry.Take.{Take}
 use Rattle.mc_writer.specs.declared.entry.Take.TheVariants.{Taken, NotThere}
 use Rattle.mc_plan.specs.declared.answer.AbsentError.{AbsentError}
+use Rattle.mc_plan.specs.declared.answer.EvictError.{EvictError}
 use Rattle.mc_plan.specs.declared.answer.IfError.{IfError}
 use Rattle.mc_plan.specs.declared.answer.PutError.{PutError}
 use Rattle.mc_plan.specs.declared.answer.Spent.{Spent}
 use Rattle.mc_door.specs.Roles.{Role}
-use Rattle.mc_door.specs.Tellings.{plain, swap_if_absent_told, swap_if_told, swap_told, take_if_told, take_told, turn_told}
+use Rattle.mc_door.specs.Tellings.{evict_told, plain, swap_if_absent_told, swap_if_told, swap_told, take_if_told, take_told, turn_told}
 use Rattle.mc_door.specs.Tells.{HasTold}
 use Rattle.mc_door.specs.Turns.{HasCalledBy}
 use Rattle.mc_door.specs.declared.status.TheConstants.{WIDTH}
@@ -26,6 +29,7 @@ use Rattle.mc_door.specs.declared.write.Swap.TheVariants as call
 abbrev pub swap_words : ℕ → Swap → List ℕ → ℕ
 swap_words V call.Remove v = V
 swap_words V (call.RemoveIf since) v = V
+swap_words V call.Evict v = V
 swap_words V _ v = length v
 
 -- the entry that a call took out, if it took one out
@@ -46,6 +50,11 @@ old_of_take (Ok (Taken at old)) = Some old
 old_of_take (Ok (NotThere at)) = None
 old_of_take (Err why) = None
 
+abbrev pub old_of_evict : {V : ℕ} → Result (Evict V) EvictError → Option (Entry V)
+old_of_evict (Ok (Evicted at old)) = Some old
+old_of_evict (Ok (Empty at)) = None
+old_of_evict (Err why) = None
+
 -- the entry that a turn took out, if it took one out
 abbrev pub old_of_turn : {V : ℕ} {T E : Type 0} → (Result T E → Option (Entry V)) → Result T (DeskError E) → Option (Entry V)
 old_of_turn old_of (Ok done) = old_of (Ok done)
@@ -64,6 +73,7 @@ SwapIs V Is key (call.PutIf since) v = Is (Replaced V) IfError (swap_if_contract
 SwapIs V Is key call.PutIfAbsent v = Is (Swapped V) AbsentError (swap_if_absent_contract V key v) swap_if_absent_told old_of_swap_if_absent
 SwapIs V Is key call.Remove v = Is (Take V) Spent (take_contract V key) take_told old_of_take
 SwapIs V Is key (call.RemoveIf since) v = Is (Replaced V) IfError (take_if_contract V key since) take_if_told old_of_swap_if
+SwapIs V Is key call.Evict v = Is (Evict V) EvictError (evict_contract V) evict_told old_of_evict
 
 -- by a holder, or by a pass, which tries for the turn. The words of the old value are these before the call, and those after it
 abbrev pub SwapMeans : (V : ℕ) → Role → Role → ℕ → Swap → List ℕ → List ℕ → List ℕ → Outcome → Type 0

@@ -4,6 +4,8 @@ use Rattle.mc_cache.specs.declared.desk.DeskError.{DeskError}
 use Rattle.mc_cache.specs.declared.desk.DeskError.TheVariants as desk
 use Rattle.mc_plan.specs.declared.answer.AbsentError.{AbsentError}
 use Rattle.mc_plan.specs.declared.answer.AbsentError.TheVariants as absent
+use Rattle.mc_plan.specs.declared.answer.EvictError.{EvictError}
+use Rattle.mc_plan.specs.declared.answer.EvictError.TheVariants as evict_error
 use Rattle.mc_plan.specs.declared.answer.IfError.{IfError}
 use Rattle.mc_plan.specs.declared.answer.IfError.TheVariants as if_error
 use Rattle.mc_plan.specs.declared.answer.Put.{Put}
@@ -14,6 +16,8 @@ use Rattle.mc_plan.specs.declared.answer.Remove.{Remove}
 use Rattle.mc_plan.specs.declared.answer.Remove.TheVariants as remove
 use Rattle.mc_plan.specs.declared.answer.Spent.{Spent}
 use Rattle.mc_writer.specs.declared.entry.Entry.{Entry}
+use Rattle.mc_writer.specs.declared.entry.Evict.{Evict}
+use Rattle.mc_writer.specs.declared.entry.Evict.TheVariants.{Evicted, Empty}
 use Rattle.mc_writer.specs.declared.entry.Replaced.{Replaced}
 use Rattle.mc_writer.specs.declared.entry.Swapped.{Swapped}
 use Rattle.mc_writer.specs.declared.entry.Take.{Take}
@@ -109,3 +113,9 @@ abbrev pub take_told : {V : ℕ} → Result (Take V) Spent → Outcome
 take_told (Ok (Taken at old)) = with_stamp (Some old) (told_at OK at)
 take_told (Ok (NotThere at)) = told_at ABSENT at
 take_told (Err spent) = plain SPENT
+
+abbrev pub evict_told : {V : ℕ} → Result (Evict V) EvictError → Outcome
+evict_told (Ok (Evicted at old)) = record { status = OK; reply = record { at = at; since = old.since; evicted = old.key; moves = 0; put = NOTHING } }
+evict_told (Ok (Empty at)) = told_at ABSENT at
+evict_told (Err evict_error.AllRecent) = plain ALL_RECENT
+evict_told (Err evict_error.Spent) = plain SPENT

@@ -10,7 +10,7 @@ use crate::tell::in_turn;
 use crate::words::array_of;
 use crate::write::Swap;
 use mc_cache::DeskError;
-use mc_cache::calls::{Swapping, SwappingIf, SwappingIfAbsent, Taking, TakingIf};
+use mc_cache::calls::{Evicting, Swapping, SwappingIf, SwappingIfAbsent, Taking, TakingIf};
 
 #[inline(never)]
 fn swap_in<const V: usize, S: Caller<V>>(
@@ -98,6 +98,21 @@ fn take_if<const V: usize, S: Caller<V>>(
     in_turn!(tried, reply, made => tell::take_if(made, old, reply))
 }
 
+#[inline(never)]
+fn evict<const V: usize, S: Caller<V>>(
+    side: &mut S,
+    near: u64,
+    old: &mut [u64],
+    reply: &mut RawReply,
+) -> u32
+    requires width { IsWidth V }
+    requires old { length old.old ≡ V }
+    ensures { SwapMeans V (S.role side.old) (S.role side.new) near Swap.Evict [] old.old old.new (record { status = result; reply = reply.new }) }
+{
+    let tried = side.try_call(Evicting(near));
+    in_turn!(tried, reply, made => tell::evict(made, old, reply))
+}
+
 /// Any of them.
 #[inline(always)]
 pub(crate) fn swap<const V: usize, S: Caller<V>>(
@@ -119,5 +134,6 @@ pub(crate) fn swap<const V: usize, S: Caller<V>>(
         Swap::PutIfAbsent => swap_if_absent(side, key, value, old, reply),
         Swap::Remove => take::<V, S>(side, key, old, reply),
         Swap::RemoveIf(since) => take_if::<V, S>(side, key, since, old, reply),
+        Swap::Evict => evict::<V, S>(side, key, old, reply),
     }
 }

@@ -1,13 +1,13 @@
 //! Writes the answer of a write to C's reply, each form of it by itself. A refusal and a put that failed are out of line, which saves
 //! registers.
 ghost use Rattle.std.specs.Prelude.{◌≡◌, Err, length};
-ghost use Rattle.mc_door.specs.Swaps.{left_by, old_of_swap, old_of_swap_if, old_of_swap_if_absent, old_of_take};
-ghost use Rattle.mc_door.specs.Tellings.{done_told, not_put_told, plain, put_if_absent_told, put_if_told, put_told, removal_told, swap_if_absent_told, swap_if_told, swap_told, stamped, take_if_told, take_told};
+ghost use Rattle.mc_door.specs.Swaps.{left_by, old_of_evict, old_of_swap, old_of_swap_if, old_of_swap_if_absent, old_of_take};
+ghost use Rattle.mc_door.specs.Tellings.{done_told, evict_told, not_put_told, plain, put_if_absent_told, put_if_told, put_told, removal_told, swap_if_absent_told, swap_if_told, swap_told, stamped, take_if_told, take_told};
 
 use crate::outcome::{Outcome, RawReply};
 use crate::status;
 use mc_cache::{
-    AbsentError, Entry, IfError, Put, PutError, Remove, Replaced, Spent, Swapped, Take,
+    AbsentError, Entry, Evict, EvictError, IfError, Put, PutError, Remove, Replaced, Spent, Swapped, Take,
 };
 
 /// A status alone.
@@ -193,6 +193,28 @@ pub(crate) fn take_if<const V: usize>(
             status
         }
         Err(why) => Outcome::not_put_if(why).tell(reply),
+    }
+}
+
+pub(crate) fn evict<const V: usize>(
+    made: Result<Evict<V>, EvictError>,
+    old: &mut [u64],
+    reply: &mut RawReply,
+) -> u32
+    requires { length old.old ≡ V }
+    ensures told { record { status = result; reply = reply.new } ≡ evict_told made.entry }
+    ensures old { old.new ≡ left_by (old_of_evict made.entry) old.old }
+{
+    match made {
+        Ok(Evict::Evicted { at, old: evicted }) => {
+            let status = Outcome::at(status::OK, at).tell(reply);
+            reply.evicted = evicted.key;
+            give(Some(evicted), old, reply);
+            status
+        }
+        Ok(Evict::Empty { at }) => Outcome::at(status::ABSENT, at).tell(reply),
+        Err(EvictError::AllRecent) => refused(status::ALL_RECENT, reply),
+        Err(EvictError::Spent) => refused(status::SPENT, reply),
     }
 }
 

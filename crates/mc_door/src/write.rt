@@ -40,6 +40,8 @@ pub enum Swap {
     Remove,
     /// A removal of a key whose last put was at this moment. It has no value.
     RemoveIf(u64),
+    /// An eviction in the shard of the key. It has no value.
+    Evict,
 }
 
 impl Swap {
@@ -49,7 +51,7 @@ impl Swap {
         ensures { result ≡ swap_words words self value.now }
     {
         match self {
-            Swap::Remove | Swap::RemoveIf(_) => words,
+            Swap::Remove | Swap::RemoveIf(_) | Swap::Evict => words,
             _ => value.len(),
         }
     }

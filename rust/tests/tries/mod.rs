@@ -22,6 +22,7 @@ pub const TRIES: &[Try] = &[
     ("try_swap_if_absent", |handle| is_held(handle.try_swap_if_absent(7, &[71]))),
     ("try_take", |handle| is_held(handle.try_take(7))),
     ("try_take_if", |handle| is_held(handle.try_take_if(7, 1))),
+    ("try_evict", |handle| is_held(handle.try_evict(7))),
     ("hold", |handle| is_held(handle.hold())),
     ("try_moment", |handle| is_held(handle.try_moment())),
     ("try_len", |handle| is_held(handle.try_len())),
