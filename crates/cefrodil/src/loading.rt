@@ -39,7 +39,7 @@ fn asked_with(
     count: usize,
 ) -> Result<(Policy, Shape), u32>
     ensures { MatchResult result (λ r. IsWidth words × AreEntries words entry_words count × HasMix shape.now × HasPolicy shape.now ×
-            IsPolicyOf shape.now r.0 × IsShapeOf shape.now r.1)
+        IsPolicyOf shape.now r.0 × IsShapeOf shape.now r.1)
         (λ status. RefusesWith words entry_words count (RefusesAsked shape.now words) status) }
 {
     if words <= MOST_WORDS && words > 0 && !are_entries(words, entry_words, count) {

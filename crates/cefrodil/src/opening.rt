@@ -150,14 +150,7 @@ fn open_all(
         Ok(asked) => asked,
         Err(status) => return status,
     };
-    let rest = match open(
-        alloc,
-        policy,
-        shape,
-        words,
-        shards,
-        count_of(handles.len()),
-    ) {
+    let rest = match open(alloc, policy, shape, words, shards, count_of(handles.len())) {
         Ok(rest) => rest,
         Err(why) => return status_of(why),
     };

@@ -177,9 +177,9 @@ impl<const V: usize> TurnCall<V, Replaced<V>, IfError> for TakingIf {
     }
 }
 
-/// `Writer::evict`. It is a call of no key.
+/// `Writer::evict`, in the shard of this key. The key alone is not asked for.
 #[derive(Clone, Copy)]
-pub struct Evicting;
+pub struct Evicting(pub u64);
 
 impl<const V: usize> TurnCall<V, Evict<V>, EvictError> for Evicting {
     ghost contract = { λ c. evict_contract V };

@@ -2,18 +2,18 @@
 ghost use Rattle.std.specs.Prelude.{◌≡◌};
 
 use crate::calls::{
-    Putting, PuttingIf, PuttingIfAbsent, Removing, Swapping, SwappingIf, SwappingIfAbsent, Taking,
-    TakingIf,
+    Evicting, Putting, PuttingIf, PuttingIfAbsent, Removing, Swapping, SwappingIf,
+    SwappingIfAbsent, Taking, TakingIf,
 };
 
-/// A call of one key.
+/// A call of one key, or of its shard.
 pub trait Keyed {
     ghost use Rattle.std.specs.Prelude.{ℕ};
 
-    // The key that it looks up and changes.
+    // The key that it looks up and changes, or that names the shard.
     ghost key_of: { Self → ℕ };
 
-    /// The key that it looks up and changes.
+    /// The key that it looks up and changes, or that names the shard.
     fn key(&self) -> u64
         ensures value { result ≡ key_of self.now };
 }
@@ -107,6 +107,17 @@ impl Keyed for Taking {
 }
 
 impl Keyed for TakingIf {
+    ghost key_of = { λ c. c.0 };
+
+    #[inline(always)]
+    fn key(&self) -> u64
+        ensures value { result ≡ self.now.0 }
+    {
+        self.0
+    }
+}
+
+impl Keyed for Evicting {
     ghost key_of = { λ c. c.0 };
 
     #[inline(always)]

@@ -7,7 +7,8 @@ ghost use Rattle.mc_door.specs.Tellings.{done_told, evict_told, not_put_told, pl
 use crate::outcome::{Outcome, RawReply};
 use crate::status;
 use mc_cache::{
-    AbsentError, Entry, Evict, EvictError, IfError, Put, PutError, Remove, Replaced, Spent, Swapped, Take,
+    AbsentError, Entry, Evict, EvictError, IfError, Put, PutError, Remove, Replaced, Spent,
+    Swapped, Take,
 };
 
 /// A status alone.

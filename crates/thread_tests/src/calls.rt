@@ -2,8 +2,8 @@
 ghost use Rattle.std.specs.Prelude.{◌≡◌};
 
 use mc_cache::{
-    AbsentError, Cache, Entry, IfError, Put, PutError, Reader, Remove, Replaced, Reply, Spent,
-    Swapped, Take, Writer,
+    AbsentError, Cache, Entry, Evict, EvictError, IfError, Put, PutError, Reader, Remove, Replaced,
+    Reply, Spent, Swapped, Take, Writer,
 };
 
 /// A call. A look is the reader's, all others are the writer's.
@@ -18,6 +18,7 @@ pub enum Call {
     /// As `PutIf`.
     SwapIf(u64, u64, u64),
     Take(u64),
+    Evict,
     Get(u64),
     Peek(u64),
     Look(u64),
@@ -51,6 +52,10 @@ pub enum Told {
     RenewedFrom([u64; 3], u64),
     /// Removed, and this was the entry.
     Taken([u64; 3], u64),
+    /// Evicted without a put: the entry.
+    Evicted([u64; 3], u64),
+    Empty(u64),
+    NotEvicted(EvictError),
     /// The value, the moment and the stamp.
     Found(u64, u64, u64),
     Absent(u64),
@@ -137,6 +142,14 @@ impl Told {
         }
     }
 
+    fn of_evict(told: Result<Evict<1>, EvictError>) -> Told {
+        match told {
+            Ok(Evict::Evicted { at, old }) => Told::Evicted(words_of(old), at),
+            Ok(Evict::Empty { at }) => Told::Empty(at),
+            Err(why) => Told::NotEvicted(why),
+        }
+    }
+
     fn of_reply(reply: Reply<1>) -> Told {
         match reply {
             Reply::Found { value, at, since } => Told::Found(value[0], at, since),
@@ -170,6 +183,7 @@ pub fn make(cache: &Cache<1>, writer: &mut Writer<1>, reader: &mut Reader<1>, ca
             Told::of_swap_if(writer.swap_if(cache, key, since, [value]))
         }
         Call::Take(key) => Told::of_take(writer.take(cache, key)),
+        Call::Evict => Told::of_evict(writer.evict(cache)),
         Call::Get(key) => Told::of_reply(writer.get(cache, key)),
         Call::Peek(key) => Told::of_reply(writer.peek(cache, key)),
         Call::Look(key) => Told::of_reply(reader.get(cache, key)),

@@ -73,7 +73,8 @@ pub fn with_items(items: u32) -> Shape {
     shape(items, MOST, Mix::Plain)
 }
 
-fn with_limit(limit: u64) -> Shape {
+/// As many items as slots, keys as they are, and this limit.
+pub fn with_limit(limit: u64) -> Shape {
     shape(16, limit, Mix::Plain)
 }
 
