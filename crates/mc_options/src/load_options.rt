@@ -141,7 +141,8 @@ fn with_flags<'a>(alloc: Global, command: Command<'a>) -> Result<Command<'a>, Al
 {
     let policy = "A new key gives way before one that was used again, in place of CLOCK";
     let command = command.arg(flag(alloc, "scan-resistant", policy))?;
-    let rates = "Also prints calls a second, and with one shard how far answers were behind the newest change";
+    let rates =
+        "Also prints calls a second, and with one shard how far answers were behind the newest change";
     command.arg(flag(alloc, "histogram", rates))
 }
 

@@ -191,12 +191,7 @@ pub(crate) fn measure<R: Threads + Sync + Files + AllocGlobal + Clock + CpuClock
     options: &Options,
 ) -> io::Result<Report> {
     let before = resident(rt)?;
-    let opened = open_by::<4>(
-        alloc,
-        options.policy,
-        options.shape()?,
-        options.seats(),
-    );
+    let opened = open_by::<4>(alloc, options.policy, options.shape()?, options.seats());
     let Ok((cache, writer, readers)) = opened else {
         return Err(io::Error::other("the cache can't be opened"));
     };

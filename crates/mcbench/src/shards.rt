@@ -80,14 +80,7 @@ pub(crate) fn measure<R: Threads + Sync + Files + AllocGlobal + Clock + CpuClock
         return Err(io::Error::other("there is no such shape"));
     };
     let seats = options.writers.saturating_add(1);
-    let opened = open_spared::<4>(
-        alloc,
-        options.policy,
-        shape,
-        options.shards,
-        seats,
-        seats,
-    );
+    let opened = open_spared::<4>(alloc, options.policy, shape, options.shards, seats, seats);
     let Ok((shards, passes, _)) = opened else {
         return Err(io::Error::other("the shards can't be opened"));
     };
