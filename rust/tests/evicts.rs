@@ -58,6 +58,7 @@ fn the_shard_of_the_named_key_gives_one_up() -> Tested {
     let entry = |key, since| Entry { key, value: [key], since };
     assert_eq!(handles[0].try_evict(BIT)?, Evict::Evicted { at: 2, old: entry(BIT + 1, 1) });
     assert_eq!(handles[0].try_evict(BIT + 7)?, Evict::Empty { at: 2 });
+    assert_eq!(handles[0].hold()?.evict(BIT + 7)?, Evict::Empty { at: 2 });
     assert_eq!(handles[0].try_stamped_entries()?.len(), 2);
     assert_eq!(handles[0].try_evict(7)?, Evict::Evicted { at: 3, old: entry(1, 1) });
     Ok(())
