@@ -89,10 +89,10 @@ class Cache(Clock):
 
 def ratios(program, make, skew, items):
     """The hits of each kind of replacement, of which those of the cache are compared with mcstep."""
-    models = {'Cefrodil': Cache(items), 'LRU': Lru(items), 'FIFO': Fifo(items), 'random': Random(items)}
+    models = {'Cefrodil, CLOCK': Cache(items), 'LRU': Lru(items), 'FIFO': Fifo(items), 'random': Random(items)}
     keys = list(make(skew, items, LOOKUPS))
     found = {name: traces.of_model(model, keys) for name, model in models.items()}
-    models['Cefrodil'].check(program)
+    models['Cefrodil, CLOCK'].check(program)
     return found
 
 
@@ -112,7 +112,7 @@ def main(arguments):
     program = arguments[0] if arguments else os.path.join(TOP, 'crates/mcstep/out/mcstep')
     if not os.access(program, os.X_OK):
         sys.exit(f'hit_ratios.py: there is no program {program}; to build it: (cd crates/mcstep && rt run < stdin)')
-    print('|skew|items|scans|Cefrodil|LRU|FIFO|random|')
+    print('|skew|items|scans|Cefrodil, CLOCK|LRU|FIFO|random|')
     print('|---|---|---|---|---|---|---|')
     for skew, items, make in itertools.product(traces.SKEWS, traces.SIZES, (traces.plain, traces.scans)):
         cells = '|'.join(f'{each:.1f}' for each in ratios(program, make, skew, items).values())
