@@ -14,12 +14,12 @@ one = (omega arith, omega arith, is_power-pow 0 (omega arith))
 pub returns-in-Err : goal.returns-in-Err
 returns-in-Err g c = refused_by_no_gate (g.G.Gate.may_refuse c.args.gate.now) c.args.load 1 c.args.writers c.in-Err.why (c.in-Err.ensures 1)
 
-pub returns-in-Err-open : goal.returns-in-Err-open
-returns-in-Err-open g c = (
+pub returns-in-Err-open_by : goal.returns-in-Err-open_by
+returns-in-Err-open_by g c = (
   c.in_default.ensures.0,
   c.in_default.ensures.1,
   one,
-  seats_refused c.args.load.shape c.args.load.readers c.args.writers c.seats_of-seats.result c.in-Err-open.why c.in_default.ensures.0 c.seats_of-seats.ensures.asked c.seats_of-seats.ensures.had c.in-Err-open.ensures.cache,
+  seats_refused c.args.load.shape c.args.load.readers c.args.writers c.seats_of-seats.result c.in-Err-open_by.why c.in_default.ensures.0 c.seats_of-seats.ensures.asked c.seats_of-seats.ensures.had c.in-Err-open_by.ensures.cache,
 )
 
 pub run_workers-requires-after_bounds : goal.run_workers-requires-after_bounds
