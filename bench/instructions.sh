@@ -1,6 +1,6 @@
 #!/usr/bin/env bash
-# How many instructions a call takes, of the cache, of the cache called from C and of the unproved twin, in tables for 1,000 keys, by
-# valgrind's callgrind. What else the machine does changes no count. Each program runs twice, for a shorter and for a longer time. What the
+# How many instructions a call takes, of the cache by each policy, of the same called from C, and of the unproved twin, in tables for 1,000 keys,
+# by valgrind's callgrind. What else the machine does changes no count. Each program runs twice, for a shorter and for a longer time. What the
 # longer run has more, in instructions and in calls, is divided, so that the start and the filling of the first table count for nothing.
 #
 # usage: bench/instructions.sh [PROGRAM [ARCHIVE]]     the same as for bench/build, which is left out if BUILT names its folder
@@ -24,7 +24,9 @@ count() {
     shift 3
     local options=("$@" --keys 1000 --capacity 1000 --seconds "$time")
     case "$name" in
-        cefrodil) run=("$built/mcbench" "${options[@]}") ;;
+        clock) run=("$built/mcbench" "${options[@]}") ;;
+        cefrodil) run=("$built/mcbench" --policy scan-resistant "${options[@]}") ;;
+        door_clock) run=("$built/door" --clock 1 "${options[@]}") ;;
         door) run=("$built/door" "${options[@]}") ;;
         twin) run=("$built/contest" "${options[@]}" twin) ;;
     esac
@@ -55,6 +57,8 @@ row() {
 choose_contestants "$@"
 echo '| | hit | miss | overwrite | fill | evict |'
 echo '|---|---|---|---|---|---|'
+row clock 'Cefrodil, CLOCK'
 row cefrodil Cefrodil
+row door_clock 'from C, CLOCK'
 row door 'from C'
 row twin 'unproved twin'

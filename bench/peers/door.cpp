@@ -5,10 +5,12 @@ enum { READERS = 8 };
 
 // The cache as programs in C call it: with one shard, whose turn one handle holds. A thread has another handle while it looks up.
 struct Door : Handles<READERS + 1> {
+    static inline uint32_t policy;
     cefrodil_shape shape;
 
     explicit Door(size_t keys) {
         if (cefrodil_shape_for_items(uint32_t(keys), 1, &shape) != CEFRODIL_OK) abort();
+        shape.policy = policy;
         if (cefrodil_open(&shape, 1, 4, handles, READERS + 1) != CEFRODIL_OK) abort();
         if (cefrodil_hold(&handles[READERS]) != CEFRODIL_OK) abort();
         left = READERS;
@@ -43,4 +45,7 @@ struct Door : Handles<READERS + 1> {
     size_t slots() { return size_t(4) * shape.buckets; }
 };
 
-int main(int count, char **words) { return contest<Door>(count, words); }
+int main(int count, char **words) {
+    Door::policy = Options(count, words).clock ? CEFRODIL_POLICY_CLOCK : CEFRODIL_POLICY_SCAN_RESISTANT;
+    return contest<Door>(count, words);
+}

@@ -49,7 +49,7 @@ struct Options {
     uint64_t readers = 1, writers = 0, keys = 1000, capacity = 1000, write_every = 1, seed = 1, many = 1, latencies = 0;
     // Only the bench of maps has a choice here: how many letters a key has, or 0 for a number; how many words a value has; and 1 for a quick hash.
     uint64_t letters = 0, words = 4, quick = 0;
-    // Only full_cache.hpp has a choice here: the skew in hundredths, how many shards there are, and 1 for CLOCK.
+    // Of full_cache.hpp alone, but for the last: the skew in hundredths, how many shards there are, and 1 for CLOCK.
     uint64_t skew = 99, shards = 16, clock = 0;
     double seconds = 0.3;
 
