@@ -1,4 +1,4 @@
-// Locks of keys, for cefrodil_turns.hpp and cefrodil_key_lines.hpp. A lock is tried, and never waited for. No code of the user runs under one.
+// Locks of keys, for cefrodil_turns.hpp. A lock is tried, and never waited for. No code of the user runs under one.
 #ifndef CEFRODIL_KEY_LOCKS_HPP
 #define CEFRODIL_KEY_LOCKS_HPP
 
@@ -37,7 +37,7 @@ class KeyLock {
     std::atomic<bool> is_taken_{false};
 };
 
-// Those of all keys of a map with one table. There are so many that two threads seldom meet at one.
+// Those of all keys of a map. There are so many that two threads seldom meet at one.
 class KeyLocks {
   public:
     KeyLock &of(uint64_t key) noexcept { return lines_[place_in(lines_.size(), mixed(key))].lock; }

@@ -51,7 +51,7 @@ template <class K, class V> class Objects {
             return Status::other_version;
         }
         const uint32_t shards = options.shards == 0 ? shards_for(options.entries) : options.shards;
-        const uint32_t each = !rules_.weigher && options.small_table ? share_of(options.entries, shards) : 0;
+        const uint32_t each = !rules_.weigher ? share_of(options.entries, shards) : 0;
         // One more of each thread, which is about to put it.
         const uint32_t more = each * shards + static_cast<uint32_t>(allowed(options.passes));
         const uint32_t room = each != 0 && share_of(more, shards) != 0 ? more : options.entries;
@@ -62,7 +62,7 @@ template <class K, class V> class Objects {
             if (each != 0) {
                 weights_.open(shards, each, each, true);
             } else if (rules_.weigher) {
-                weights_.open(1, std::min(rules_.most_weight, Rules().most_weight), options.entries, options.small_table);
+                weights_.open(1, std::min(rules_.most_weight, Rules().most_weight), options.entries, true);
             }
         };
         return is_open_ && !has_memory(grow) ? Status::no_memory : status;
@@ -105,10 +105,10 @@ template <class K, class V> class Objects {
             Each *const object = Each::at((*answer.value)[0]);
             return objects_.has_ended(*object, generation) ? Seen{Status::absent, nullptr, answer.since} : Seen{Status::ok, object, answer.since};
         }
-        // The moment of the put of what is under a number, if that has expired or is of an older generation, or else 0.
+        // The moment of the put of what is under a number, if that has expired or is of an older generation, or else 0. It is no use of the object.
         uint64_t expired(uint64_t index, uint64_t generation) noexcept {
-            const Seen seen = look_at_all(index, objects_.turns_.looks());
-            return seen.object != nullptr && objects_.has_ended(*seen.object, generation) ? seen.since : 0;
+            const Answer<1> answer = objects_.turns_.repeated([&](Slot<1> &slot) { return slot.handle.try_peek(index); });
+            return answer.value && objects_.has_ended(*Each::at((*answer.value)[0]), generation) ? answer.since : 0;
         }
 
       private:

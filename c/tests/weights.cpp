@@ -230,11 +230,7 @@ static uint64_t misses(const cefrodil::MapOptions &options, const Numbers::Rules
 
 // Keys that are used once evict none that are used often, though there is room for 100 alone.
 static void used_keys_stay() {
-    cefrodil::MapOptions options{100, 1}, alone = options;
-    alone.small_table = false;
-    MUST(misses(options, {}) == 50 && misses(alone, {}) > 4000);
-    options.entries = alone.entries = 200;
-    MUST(misses(options, bounded(100)) == 50 && misses(alone, bounded(100)) > 4000);
+    MUST(misses({100, 1}, {}) == 50 && misses({200, 1}, bounded(100)) == 50);
 }
 
 // Whether a key that left the small queue is still there long after it came again, and one that did not come again isn't.
@@ -308,10 +304,6 @@ static void entries_alone() {
         MUST(numbers.size() == 10000 - evicted && numbers.size() <= numbers.capacity() && numbers.size() > numbers.capacity() - numbers.capacity() / 20);
         MUST(numbers.meter().counts().evictions == evicted);
     }
-    cefrodil::MapOptions alone{1000, 1};
-    alone.small_table = false;
-    Numbers numbers;
-    MUST(numbers.open(alone) == Status::ok && numbers.capacity() == 1000 && numbers.insert(1, 1).status == Status::ok);
 }
 
 // What waits to be freed weighs at most a sixteenth of the bound, and an object, if no call uses it.
