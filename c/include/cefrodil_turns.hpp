@@ -82,6 +82,7 @@ template <size_t Words> class Turns {
         shape.stripes = std::min(shape.stripes, std::max(stripes_of_a_shard, all_stripes / shards));
         tries_ = tries;
         looks_ = std::min(tries, most_looks);
+        shards_ = shards;
         capacity_ = uint64_t(shape.items) * shards;
         return passes_.open(shape, shards, passes);
     }
@@ -146,6 +147,7 @@ template <size_t Words> class Turns {
     // How often a lookup is repeated that is a miss if it stays busy.
     uint32_t looks() const noexcept { return looks_; }
     uint64_t keys() const noexcept { return static_cast<uint64_t>(std::max<int64_t>(0, passes_.keys())); }
+    uint32_t shards() const noexcept { return shards_; }
     uint64_t capacity() const noexcept { return capacity_; }
     Meter meter() const noexcept { return passes_.shared().meter(); }
     // What the meter reads. Null: nothing is counted.
@@ -178,7 +180,7 @@ template <size_t Words> class Turns {
 
     Passes<Words> passes_{};
     KeyLocks locks_{};
-    uint32_t tries_ = 0, looks_ = 0;
+    uint32_t tries_ = 0, looks_ = 0, shards_ = 0;
     uint64_t capacity_ = 0;
 };
 

@@ -128,6 +128,7 @@ int main() {
     of_a_shard();
     bad_policy();
     a_map<map<uint64_t, uint64_t>>();
+    a_map<object_map<uint64_t, uint64_t>>();
     a_scan<map<uint64_t, uint64_t>>();
     a_scan<object_map<uint64_t, uint64_t>>();
     return outcome("policies");
