@@ -11,8 +11,6 @@
 #include "rust_flights.hpp"
 #include "rust_object_generations.hpp"
 #include "rust_slots.hpp"
-#include "rust_tiers.hpp"
-#include "rust_weights.hpp"
 #include <cstdio>
 #include <cstdlib>
 #include <string>
@@ -57,9 +55,7 @@ int main(int argc, char **argv) {
     explore<RustFlights>("Rust flights", schedules);
     explore<RustSlots>("Rust slots", schedules);
     explore<RustEpochs>("Rust epochs", schedules);
-    explore<RustTiers>("Rust tiers", schedules);
     explore<RustGenerations>("Rust generations", schedules);
     explore<RustObjectGenerations>("Rust generations of objects", schedules);
-    explore<RustWeights>("Rust weights", schedules);
     return faults == 0 ? 0 : 1;
 }

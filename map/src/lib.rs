@@ -7,30 +7,23 @@ mod clear;
 mod clock;
 mod compute;
 mod error;
-mod filter;
 mod flight;
 mod forks;
 mod generation;
 mod handle;
 mod inner;
 mod key;
-mod key_lines;
 mod key_locks;
 mod map;
-mod moves;
 #[cfg(feature = "objects")]
 mod objects;
 mod print;
 mod published;
 mod settings;
 mod sip;
-mod sketch;
 mod slots;
-mod small_handle;
-mod spread;
 mod stalls;
 mod stats;
-mod tiers;
 mod update;
 mod wait;
 mod wakers;
@@ -47,8 +40,8 @@ pub use key::{Hashed, Key};
 pub use map::{Inserted, Map};
 #[cfg(feature = "objects")]
 pub use objects::{
-    AbsentError, Block, Bytes, BytesBuilder, BytesMap, Cursor, Head, IfError, Line, Look, ObjectBuilder, ObjectLead, ObjectMap,
-    ObjectWait, Put, Queued, Queues, Reason, Refused,
+    AbsentError, Block, Bytes, BytesBuilder, BytesMap, Head, IfError, Look, ObjectBuilder, ObjectLead, ObjectMap, ObjectWait,
+    Put, Reason, Refused,
 };
 pub use published::Published;
 pub use stats::Stats;

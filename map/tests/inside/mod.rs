@@ -8,13 +8,11 @@ mod epochs;
 mod errors;
 mod expiry;
 mod fills;
-mod filters;
 mod flights;
 mod forks;
 mod generations;
 mod held;
 mod idle;
-mod moves;
 #[cfg(feature = "objects")]
 mod object_disturbed;
 #[cfg(feature = "objects")]
@@ -31,22 +29,20 @@ mod overtaken;
 mod places;
 mod prints;
 mod shapes;
-mod sketches;
 mod slots;
 mod stalled;
-mod tiers;
 mod timed;
 mod turns;
 mod waiting;
 mod waits;
 
 use crate::slots::Slots;
-use cefrodil::{Handle, Policy, Shape, Writing};
+use cefrodil::{Handle, Shape, Writing};
 use std::sync::Arc;
 
 // The shape of a map of one shard with places for so many entries.
 fn one_shard(items: u32) -> Shape {
-    Shape { policy: Policy::Clock, ..Shape::for_items(items, 1).unwrap() }
+    Shape::for_items(items, 1).unwrap()
 }
 
 // Holds every turn, as another thread's handle does, until it is dropped.
