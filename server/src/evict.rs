@@ -1,7 +1,7 @@
 //! Items that give way: those in their queue for longest that were not read lately.
 use crate::allocator;
 use crate::ceiling::{Expected, PART_OF_CUT, TIMES_OF_CUT};
-use crate::index::{Outcome, Refused, Stamp};
+use crate::index::{Refused, Token};
 use crate::item::Item;
 use crate::queue::{Entry, Line, Queue, Queued};
 use crate::room::Leaving;
@@ -34,9 +34,13 @@ const PART_OF_TIDIED: usize = 8;
 /// An item that a command is about to replace. It must not give way to the one that replaces it.
 #[derive(Clone, Copy)]
 pub(crate) struct Kept {
-    pub stamp: Stamp,
+    pub hash: u64,
+    pub token: Token,
     pub bytes: u64,
 }
+
+/// One put of the key with this hash.
+type Stamp = (u64, Token);
 
 /// Whether an item gives way alone, or with its neighbours in memory: then the system gets that memory back.
 #[derive(Clone, Copy, PartialEq, Eq)]
@@ -64,7 +68,7 @@ impl Store {
             return Err(Fault::NoRoom);
         }
         self.room.take(bytes);
-        let kept = kept.map(|kept| kept.stamp);
+        let kept = kept.map(|kept| (kept.hash, kept.token));
         let expected = self.look_at_memory(bytes, kept);
         if self.evict_enough(kept, Way::Alone) && self.wait_for_frees() {
             return Ok(expected);
@@ -187,13 +191,13 @@ impl Store {
     ) -> Option<bool> {
         let neighbours = if way == Way::WithNeighbours { self.neighbours(stamp) } else { Vec::new() };
         let has_gone = match self.remove(stamp, leaving) {
-            Ok(Outcome::Done(_)) => {
-                self.queue.gave_way(queued, stamp.hash);
+            Ok(()) => {
+                self.queue.gave_way(queued, stamp.0);
                 Some(true)
             }
-            Ok(Outcome::Absent) => None,
+            Err(Refused::Absent) => None,
             // The entry represents the item that has replaced that one. There may be room now: others have left for it.
-            Ok(Outcome::Changed) => {
+            Err(Refused::Changed) => {
                 self.queue.push(queued);
                 Some(true)
             }
@@ -205,26 +209,24 @@ impl Store {
         let stamps = neighbours.into_iter().filter_map(|(hash, at)| self.stamp_at(hash, at));
         for (neighbour, leaving) in stamps.filter(|(stamp, _)| Some(*stamp) != kept) {
             // If it can't be removed, it stays. Otherwise it leaves for its place in memory, so its key comes back to the main queue.
-            if let Ok(Outcome::Done(_)) = self.remove(neighbour, leaving) {
-                self.queue.gave_way(Queued { line: Line::Small, ..queued }, neighbour.hash);
+            if self.remove(neighbour, leaving).is_ok() {
+                self.queue.gave_way(Queued { line: Line::Small, ..queued }, neighbour.0);
             }
         }
         has_gone
     }
 
-    fn remove(&self, stamp: Stamp, leaving: Leaving) -> Result<Outcome, Refused> {
-        let outcome = self.index.remove_stamped(stamp)?;
-        if let Outcome::Done(_) = outcome {
-            self.room.count_gone(leaving);
-        }
-        Ok(outcome)
+    fn remove(&self, (hash, token): Stamp, leaving: Leaving) -> Result<(), Refused> {
+        self.index.remove(hash, token)?;
+        self.room.count_gone(leaving);
+        Ok(())
     }
 
     /// The hashes and addresses of all items that lie in one chunk with this one.
     fn neighbours(&self, stamp: Stamp) -> Vec<(u64, usize)> {
         let mut found = Vec::new();
-        self.index.peek_stamped(stamp, &mut |seen| {
-            if let Ok(Some((item, _))) = seen {
+        self.index.peek(stamp.0, &mut |seen| {
+            if let Some((item, _)) = seen.ok().flatten().filter(|(_, token)| *token == stamp.1) {
                 slabs::look_around(item, |other| found.push((self.index.hash_of(other.key()), slabs::address_of(other))));
             }
         });
@@ -236,7 +238,7 @@ impl Store {
         let mut stamp = None;
         self.index.peek(hash, &mut |seen| {
             if let Ok(Some((item, token))) = seen {
-                stamp = (slabs::address_of(item) == at).then(|| (Stamp { hash, token }, self.leaving(item)));
+                stamp = (slabs::address_of(item) == at).then(|| ((hash, token), self.leaving(item)));
             }
         });
         stamp
@@ -248,7 +250,7 @@ impl Store {
         self.index.look_hash(hash, &mut |seen| {
             verdict = match seen {
                 Ok(Some((item, token))) if item.is_represented_by(number) => {
-                    let stamp = Stamp { hash, token };
+                    let stamp = (hash, token);
                     if kept == Some(stamp) {
                         Verdict::Kept
                     } else if may_spare && self.is_spared(item) {

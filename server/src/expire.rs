@@ -1,6 +1,6 @@
 //! Items that have expired, or that a flush has hit, go after a while though nobody asks for them.
 use crate::counts::Count;
-use crate::index::{Outcome, Token};
+use crate::index::Token;
 use crate::room::Leaving;
 use crate::store::{Found, Store};
 use std::time::Duration;
@@ -33,7 +33,7 @@ impl Store {
         if !matches!(self.find(key, |_, _| ()), Ok(Found::Dead(found, _)) if found == token) {
             return;
         }
-        if matches!(self.index.remove_if(key, token), Ok(Outcome::Done(_))) {
+        if self.index.remove(self.index.hash_of(key), token).is_ok() {
             self.counts.add(Count::Expired);
             self.room.count_unfetched(leaving);
         }

@@ -3,7 +3,6 @@
 
 pub mod accept;
 pub mod allocator;
-pub mod answers;
 pub mod audit;
 pub mod ceiling;
 pub mod clock;

@@ -1,7 +1,6 @@
 //! The index of items: a map of objects over Cefrodil's index.
-use crate::answers;
 use crate::audit::{digest, Audit};
-use crate::index::{Index, Outcome, Refused, Seen, Stamp, Token};
+use crate::index::{Index, Refused, Seen, Token};
 use crate::item::{About, Item, NewItem};
 use crate::room::{cost, Leaving, Room};
 use cefrodil_map::{BytesMap, GetError, IfError, Inserted, Look, OpenError, Put, Reason};
@@ -47,6 +46,14 @@ pub fn shards_for(items: usize) -> Option<u32> {
         _ => SHARDS,
     };
     Some(shards as u32)
+}
+
+fn seen(found: Result<Look<&Item>, GetError>) -> Seen<'_> {
+    match found {
+        Ok(Look::Found { result, since, .. }) => Ok(Some((result, since))),
+        Ok(_) => Ok(None),
+        Err(_) => Err(Refused::Held),
+    }
 }
 
 /// The bytes of an item.
@@ -121,11 +128,11 @@ impl Objects {
         self.audit.is_some().then(|| (self.hash_of(item.key()), digest(item)))
     }
 
-    fn failed(&self, hash: impl FnOnce() -> u64, why: IfError) -> Result<Outcome, Refused> {
+    fn failed(&self, hash: u64, why: IfError) -> Refused {
         if let IfError::NotThere { at } = why {
-            self.log_change("absent", at, hash);
+            self.log_change("absent", at, || hash);
         }
-        answers::of_condition(why)
+        why.into()
     }
 }
 
@@ -139,7 +146,7 @@ impl Index for Objects {
             if let Ok(found) = found {
                 self.log_look(|| self.hash_of(keys[position]), found);
             }
-            each(position, answers::seen(found));
+            each(position, seen(found));
         };
         match keys {
             [key] => self.map.look(key, |look| found(0, look)),
@@ -152,7 +159,7 @@ impl Index for Objects {
             if let Ok(found) = found {
                 self.log_look(|| hash, found);
             }
-            see(answers::seen(found));
+            see(seen(found));
         });
     }
 
@@ -161,62 +168,39 @@ impl Index for Objects {
             if let Ok(found) = found {
                 self.log_look(|| hashes[position], found);
             }
-            each(position, answers::seen(found));
+            each(position, seen(found));
         });
     }
 
     fn peek(&self, hash: u64, see: &mut dyn FnMut(Seen<'_>)) {
-        self.map.peek_hash(hash, |found| see(answers::seen(found)));
+        self.map.peek_hash(hash, |found| see(seen(found)));
     }
 
     fn put(&self, hash: u64, item: NewItem, see: &mut dyn FnMut(&Item, Option<&Item>)) -> Result<Token, Refused> {
         let logged = self.logged(&item);
-        let (put, ()) = self.map.put_seen(hash, item, see).map_err(answers::of_put)?;
+        let (put, ()) = self.map.put_seen(hash, item, see)?;
         self.note_put(logged, put);
         Ok(put.at)
     }
 
-    fn put_new(&self, item: NewItem) -> Result<Outcome, Refused> {
+    fn put_new(&self, item: NewItem) -> Result<Token, Refused> {
         let logged = self.logged(&item);
-        match self.map.put_if_absent(item) {
-            Ok(put) => {
-                self.note_put(logged, put);
-                Ok(Outcome::Done(put.at))
-            }
-            Err(why) => answers::of_new(why),
-        }
+        let put = self.map.put_if_absent(item)?;
+        self.note_put(logged, put);
+        Ok(put.at)
     }
 
-    fn put_if(&self, token: Token, item: NewItem) -> Result<Outcome, Refused> {
+    fn put_if(&self, token: Token, item: NewItem) -> Result<Token, Refused> {
         let (logged, hash) = (self.logged(&item), self.hash_of(item.key()));
-        match self.map.replace_if(token, item) {
-            Ok(put) => {
-                self.note_put(logged, put);
-                Ok(Outcome::Done(put.at))
-            }
-            Err(why) => self.failed(|| hash, why),
-        }
+        let put = self.map.replace_if(token, item).map_err(|why| self.failed(hash, why))?;
+        self.note_put(logged, put);
+        Ok(put.at)
     }
 
-    fn remove_if(&self, key: &[u8], token: Token) -> Result<Outcome, Refused> {
-        let hash = || self.hash_of(key);
-        match self.map.remove_if(key, token) {
-            Ok(at) => {
-                self.log_change("remove", at, hash);
-                Ok(Outcome::Done(at))
-            }
-            Err(why) => self.failed(hash, why),
-        }
-    }
-
-    fn remove_stamped(&self, stamp: Stamp) -> Result<Outcome, Refused> {
-        match self.map.remove_stamped(stamp.hash, stamp.token) {
-            Ok(at) => {
-                self.log_change("remove", at, || stamp.hash);
-                Ok(Outcome::Done(at))
-            }
-            Err(why) => self.failed(|| stamp.hash, why),
-        }
+    fn remove(&self, hash: u64, token: Token) -> Result<Token, Refused> {
+        let at = self.map.remove_stamped(hash, token).map_err(|why| self.failed(hash, why))?;
+        self.log_change("remove", at, || hash);
+        Ok(at)
     }
 
     fn stalled(&self) -> Duration {

@@ -1,7 +1,7 @@
 //! Commands that change what a key has.
 use crate::counts::Count;
 use crate::evict::Kept;
-use crate::index::{Outcome, Refused, Stamp, Token};
+use crate::index::{Refused, Token};
 use crate::item::{new_item, Item, NewItem};
 use crate::number;
 use crate::queue::Entry;
@@ -60,7 +60,7 @@ impl Store {
             let token = self.index.put(hash, item, &mut |item, old| {
                 new = item.note_number(old.and_then(|old| old.number()));
             })?;
-            Ok((Outcome::Done(token), new))
+            Ok((token, new))
         })?;
         Ok(put.map_or(Answer::NotStored, Answer::Done))
     }
@@ -110,23 +110,19 @@ impl Store {
     fn put_over(&self, key: &[u8], found: Found<Older>, next: NewItem) -> Result<Option<Token>, Fault> {
         let (kept, number) = match found {
             Found::Live(Older { length, number }, token) => {
-                (Some(Kept { stamp: self.stamp(key, token), bytes: cost(key.len(), length) }), number)
+                (Some(Kept { hash: self.index.hash_of(key), token, bytes: cost(key.len(), length) }), number)
             }
             Found::Dead(_, number) => (None, number),
             Found::Absent => (None, None),
         };
         let new = next.note_number(number);
         self.put(key, next.value().len(), kept, |_| {
-            let outcome = match found {
+            let put = match found {
                 Found::Live(_, token) | Found::Dead(token, _) => self.index.put_if(token, next),
                 Found::Absent => self.index.put_new(next),
             };
-            Ok((outcome?, new))
+            Ok((put?, new))
         })
-    }
-
-    fn stamp(&self, key: &[u8], token: Token) -> Stamp {
-        Stamp { hash: self.index.hash_of(key), token }
     }
 
     /// Makes room for an item with a value of this length, and puts it. `put` gets the key's hash, and returns the number of a new entry that the
@@ -136,30 +132,36 @@ impl Store {
         key: &[u8],
         length: usize,
         kept: Option<Kept>,
-        put: impl FnOnce(u64) -> Result<(Outcome, Option<u16>), Refused>,
+        put: impl FnOnce(u64) -> Result<(Token, Option<u16>), Refused>,
     ) -> Result<Option<Token>, Fault> {
         let (bytes, hash) = (cost(key.len(), length), self.index.hash_of(key));
         let expected = self.make_room(bytes, kept)?;
-        let outcome = put(hash);
+        let done = put(hash);
         drop(expected);
         if length >= LARGE {
             self.index.sweep();
             self.seats.look();
         }
-        if let Ok((Outcome::Done(token), new)) = outcome {
-            if let Some(number) = new {
-                self.enqueue(Entry { hash, number }, bytes);
+        match done {
+            Ok((token, new)) => {
+                if let Some(number) = new {
+                    self.enqueue(Entry { hash, number }, bytes);
+                }
+                Ok(Some(token))
             }
-            return Ok(Some(token));
-        }
-        self.room.give_back(bytes);
-        match outcome {
             Err(why) => {
-                self.disturbed(why);
-                Err(Fault::NoRoom)
+                self.room.give_back(bytes);
+                self.not_put(why)
             }
-            Ok(_) => Ok(None),
         }
+    }
+
+    fn not_put(&self, why: Refused) -> Result<Option<Token>, Fault> {
+        if matches!(why, Refused::Changed | Refused::Absent) {
+            return Ok(None);
+        }
+        self.disturbed(why);
+        Err(Fault::NoRoom)
     }
 
     /// Deletes the key's value, if it has this token.
@@ -180,16 +182,16 @@ impl Store {
                 Found::Live((), token) if !is_meant(token) => return Ok(Found::Live(false, token)),
                 Found::Live((), token) | Found::Dead(token, _) => token,
             };
-            match self.index.remove_if(key, token) {
-                Ok(Outcome::Done(_)) => {
+            match self.index.remove(self.index.hash_of(key), token) {
+                Ok(_) => {
                     self.tidy();
                     return Ok(match found {
                         Found::Dead(token, number) => Found::Dead(token, number),
                         _ => Found::Live(true, token),
                     });
                 }
-                Ok(Outcome::Absent) => return Ok(Found::Absent),
-                Ok(Outcome::Changed) => {}
+                Err(Refused::Absent) => return Ok(Found::Absent),
+                Err(Refused::Changed) => {}
                 Err(why) => return Err(self.disturbed(why)),
             }
         }

@@ -1,6 +1,6 @@
 //! What the index writes into the log: each change and each answer, in order.
 use cefrodild::audit::{digest, Audit};
-use cefrodild::index::{Index, Outcome, Stamp};
+use cefrodild::index::{Index, Refused};
 use cefrodild::item::{new_item, NewItem};
 use cefrodild::objects::Objects;
 use cefrodild::room::Room;
@@ -62,15 +62,14 @@ fn each_call_has_its_line() {
     let first = logged.put(key, 1);
     look();
     room.take(0);
-    let Ok(Outcome::Done(second)) = objects.put_if(first, item(key, 2)) else { panic!("it has this token") };
+    let second = objects.put_if(first, item(key, 2)).expect("it has this token");
     objects.look_hash(hash, &mut |seen| assert!(seen.is_ok()));
-    let Ok(Outcome::Done(third)) = objects.remove_if(key, second) else { panic!("it has this token") };
-    assert_eq!(objects.remove_if(key, second), Ok(Outcome::Absent));
-    assert_eq!(objects.remove_stamped(Stamp { hash, token: second }), Ok(Outcome::Absent));
-    assert_eq!(objects.put_if(second, item(key, 3)), Ok(Outcome::Absent));
+    let third = objects.remove(hash, second).expect("it has this token");
+    assert_eq!(objects.remove(hash, second), Err(Refused::Absent));
+    assert_eq!(objects.put_if(second, item(key, 3)), Err(Refused::Absent));
     room.take(0);
-    let Ok(Outcome::Done(fourth)) = objects.put_new(item(key, 4)) else { panic!("it was absent") };
-    let Ok(Outcome::Done(fifth)) = objects.remove_stamped(Stamp { hash, token: fourth }) else { panic!("it has this token") };
+    let fourth = objects.put_new(item(key, 4)).expect("it was absent");
+    let fifth = objects.remove(hash, fourth).expect("it has this token");
     let line = |kind: &str, at, more: &[u64]| (kind.to_owned(), at, more.to_vec());
     let digest = |flags| digest(&item(key, flags));
     let expected = [
@@ -80,7 +79,6 @@ fn each_call_has_its_line() {
         line("put", second, &[hash, digest(2)]),
         line("found", second, &[second, hash, digest(2)]),
         line("remove", third, &[hash]),
-        line("absent", third, &[hash]),
         line("absent", third, &[hash]),
         line("absent", third, &[hash]),
         line("put", fourth, &[hash, digest(4)]),
@@ -108,9 +106,9 @@ fn each_eviction_has_its_line() {
 fn what_changed_nothing_is_not_in_the_log() {
     let logged = Logged::new("nothing", 100);
     let token = logged.put(b"key", 1);
-    assert_eq!(logged.objects.put_new(item(b"key", 2)), Ok(Outcome::Changed));
-    assert_eq!(logged.objects.put_if(token + 1, item(b"key", 2)), Ok(Outcome::Changed));
-    assert_eq!(logged.objects.remove_if(b"key", token + 1), Ok(Outcome::Changed));
+    assert_eq!(logged.objects.put_new(item(b"key", 2)), Err(Refused::Changed));
+    assert_eq!(logged.objects.put_if(token + 1, item(b"key", 2)), Err(Refused::Changed));
+    assert_eq!(logged.objects.remove(logged.objects.hash_of(b"key"), token + 1), Err(Refused::Changed));
     let lines = logged.lines();
     assert_eq!(lines.iter().map(|(kind, ..)| kind.as_str()).collect::<Vec<_>>(), ["put"]);
 }

@@ -1,6 +1,6 @@
 //! The index of items over Cefrodil's.
 use cefrodild::audit::Audit;
-use cefrodild::index::{Index, Outcome, Stamp, Token};
+use cefrodild::index::{Index, Refused, Token};
 use cefrodild::item::new_item;
 use cefrodild::objects::{shards_for, Objects};
 use cefrodild::room::{cost, Room};
@@ -14,28 +14,30 @@ fn put(objects: &Objects, room: &Room, key: &[u8], flags: u32) -> Token {
         .expect("there is room")
 }
 
-/// The flags of the item with this stamp, if it is there.
-fn flags_of(objects: &Objects, stamp: Stamp) -> Option<u32> {
+/// The flags of the key's item, if it is there and has this token.
+fn flags_of(objects: &Objects, key: &[u8], token: Token) -> Option<u32> {
     let mut flags = None;
-    objects.peek_stamped(stamp, &mut |seen| flags = seen.expect("nobody disturbs it").map(|(item, _)| item.flags));
+    objects.peek(objects.hash_of(key), &mut |seen| {
+        let seen = seen.expect("nobody disturbs it").filter(|(_, found)| *found == token);
+        flags = seen.map(|(item, _)| item.flags);
+    });
     flags
 }
 
 #[test]
-fn a_stamp_names_one_put_of_one_key() {
+fn a_token_names_one_put_of_a_key() {
     let room = Arc::new(Room::new(1 << 20));
     let objects = Objects::open(1000, 1, &room, None).expect("there is memory");
     for key in [b"".as_slice(), b"a", b"12345678", &[b'k'; 250]] {
-        let stamp = |token| Stamp { hash: objects.hash_of(key), token };
-        let old = stamp(put(&objects, &room, key, 1));
-        assert_eq!(flags_of(&objects, old), Some(1));
-        let new = stamp(put(&objects, &room, key, 2));
-        assert_eq!((flags_of(&objects, old), flags_of(&objects, new)), (None, Some(2)));
-        assert_eq!(objects.remove_stamped(old), Ok(Outcome::Changed));
-        assert_eq!(flags_of(&objects, new), Some(2));
-        assert!(matches!(objects.remove_stamped(new), Ok(Outcome::Done(_))));
+        let (hash, old) = (objects.hash_of(key), put(&objects, &room, key, 1));
+        assert_eq!(flags_of(&objects, key, old), Some(1));
+        let new = put(&objects, &room, key, 2);
+        assert_eq!((flags_of(&objects, key, old), flags_of(&objects, key, new)), (None, Some(2)));
+        assert_eq!(objects.remove(hash, old), Err(Refused::Changed));
+        assert_eq!(flags_of(&objects, key, new), Some(2));
+        assert!(objects.remove(hash, new).is_ok());
         objects.look(&[key], &mut |_, seen| assert!(matches!(seen, Ok(None))));
-        assert_eq!((objects.remove_stamped(new), flags_of(&objects, new)), (Ok(Outcome::Absent), None));
+        assert_eq!((objects.remove(hash, new), flags_of(&objects, key, new)), (Err(Refused::Absent), None));
         assert_eq!((room.items(), room.used()), (0, 0), "its bytes are given back");
     }
 }
@@ -45,14 +47,14 @@ fn a_condition_that_is_not_met_changes_nothing() {
     let room = Arc::new(Room::new(1 << 20));
     let objects = Objects::open(1000, 1, &room, None).expect("there is memory");
     let (key, item) = (b"key".as_slice(), |flags| new_item(1, flags, u64::MAX, b"key", &[&[0]]).expect("there is memory"));
-    assert_eq!(objects.put_if(1, item(1)), Ok(Outcome::Absent));
-    assert_eq!(objects.remove_if(key, 1), Ok(Outcome::Absent));
+    assert_eq!(objects.put_if(1, item(1)), Err(Refused::Absent));
+    assert_eq!(objects.remove(objects.hash_of(key), 1), Err(Refused::Absent));
     let old = put(&objects, &room, key, 2);
     let new = put(&objects, &room, key, 3);
-    assert_eq!(objects.put_new(item(4)), Ok(Outcome::Changed));
-    assert_eq!(objects.put_if(old, item(5)), Ok(Outcome::Changed));
-    assert_eq!(objects.remove_if(key, old), Ok(Outcome::Changed));
-    assert_eq!(flags_of(&objects, Stamp { hash: objects.hash_of(key), token: new }), Some(3));
+    assert_eq!(objects.put_new(item(4)), Err(Refused::Changed));
+    assert_eq!(objects.put_if(old, item(5)), Err(Refused::Changed));
+    assert_eq!(objects.remove(objects.hash_of(key), old), Err(Refused::Changed));
+    assert_eq!(flags_of(&objects, key, new), Some(3));
     assert_eq!((room.items(), room.used()), (1, cost(key.len(), 1)));
 }
 
@@ -63,11 +65,11 @@ fn a_condition_that_is_met() {
     let (key, bytes) = (b"key".as_slice(), cost(3, 1));
     let item = |flags| new_item(1, flags, u64::MAX, key, &[&[0]]).expect("there is memory");
     room.take(bytes);
-    let Ok(Outcome::Done(first)) = objects.put_new(item(1)) else { panic!("it was absent") };
+    let first = objects.put_new(item(1)).expect("it was absent");
     room.take(bytes);
-    let Ok(Outcome::Done(second)) = objects.put_if(first, item(2)) else { panic!("it has this token") };
-    assert_eq!(flags_of(&objects, Stamp { hash: objects.hash_of(key), token: second }), Some(2));
-    assert!(matches!(objects.remove_if(key, second), Ok(Outcome::Done(_))));
+    let second = objects.put_if(first, item(2)).expect("it has this token");
+    assert_eq!(flags_of(&objects, key, second), Some(2));
+    assert!(objects.remove(objects.hash_of(key), second).is_ok());
     objects.look(&[key], &mut |_, seen| assert!(matches!(seen, Ok(None))));
     assert_eq!((room.items(), room.used()), (0, 0));
 }
@@ -106,9 +108,7 @@ fn items_that_were_removed_or_replaced_did_not_give_way() {
     let objects = Objects::open(1000, 1, &room, None).expect("there is memory");
     put(&objects, &room, b"key", 1);
     let token = put(&objects, &room, b"key", 2);
-    assert!(objects.remove_if(b"key", token).is_ok());
-    let stamp = Stamp { hash: objects.hash_of(b"key"), token: put(&objects, &room, b"key", 3) };
-    assert!(objects.remove_stamped(stamp).is_ok());
+    assert!(objects.remove(objects.hash_of(b"key"), token).is_ok());
     assert_eq!((room.evicted(), room.items(), room.used()), (0, 0, 0));
 }
 

@@ -3,7 +3,7 @@
 pub mod client;
 pub mod draw;
 
-use cefrodild::index::{Index, Outcome, Refused, Seen, Stamp, Token};
+use cefrodild::index::{Index, Refused, Seen, Token};
 use cefrodild::item::{Item, NewItem};
 use cefrodild::room::{cost, Room};
 use std::collections::HashMap;
@@ -59,7 +59,7 @@ impl Plain {
         item: NewItem,
         meant: impl FnOnce(Option<Token>) -> bool,
         see: &mut dyn FnMut(&Item, Option<&Item>),
-    ) -> Result<Outcome, Refused> {
+    ) -> Result<Token, Refused> {
         if self.control.refuses_puts.load(SeqCst) {
             return Err(Refused::Full);
         }
@@ -67,7 +67,7 @@ impl Plain {
         let hash = self.hash_of(item.key());
         let token = items.get(&hash).map(|entry| entry.token);
         if !meant(token) {
-            return Ok(token.map_or(Outcome::Absent, |_| Outcome::Changed));
+            return Err(token.map_or(Refused::Absent, |_| Refused::Changed));
         }
         *last += 1;
         see(&item, items.get(&hash).map(|entry| &*entry.item));
@@ -76,7 +76,7 @@ impl Plain {
             Some(old) => self.room.give_back(old.cost),
             None => self.room.add_item(),
         }
-        Ok(Outcome::Done(*last))
+        Ok(*last)
     }
 
     fn let_others_act(&self) {
@@ -125,42 +125,35 @@ impl Index for Plain {
     }
 
     fn put(&self, _: u64, item: NewItem, see: &mut dyn FnMut(&Item, Option<&Item>)) -> Result<Token, Refused> {
-        match self.put_as(item, |_| true, see)? {
-            Outcome::Done(token) => Ok(token),
-            _ => unreachable!("there is no condition"),
-        }
+        self.put_as(item, |_| true, see)
     }
 
-    fn put_new(&self, item: NewItem) -> Result<Outcome, Refused> {
+    fn put_new(&self, item: NewItem) -> Result<Token, Refused> {
         self.let_others_act();
         self.put_as(item, |token| token.is_none(), &mut |_, _| {})
     }
 
-    fn put_if(&self, token: Token, item: NewItem) -> Result<Outcome, Refused> {
+    fn put_if(&self, token: Token, item: NewItem) -> Result<Token, Refused> {
         self.let_others_act();
         self.put_as(item, |found| found == Some(token), &mut |_, _| {})
     }
 
-    fn remove_if(&self, key: &[u8], token: Token) -> Result<Outcome, Refused> {
-        self.remove_stamped(Stamp { hash: self.hash_of(key), token })
-    }
-
-    fn remove_stamped(&self, stamp: Stamp) -> Result<Outcome, Refused> {
+    fn remove(&self, hash: u64, token: Token) -> Result<Token, Refused> {
         self.let_others_act();
         let one_less = self.control.removals_to_refuse.fetch_update(SeqCst, SeqCst, |left| left.checked_sub(1));
         if self.control.refuses_removals.load(SeqCst) || one_less.is_ok() {
             return Err(Refused::Held);
         }
         let (items, last) = &mut *self.items.lock().unwrap();
-        match items.get(&stamp.hash) {
-            None => Ok(Outcome::Absent),
-            Some(entry) if entry.token != stamp.token => Ok(Outcome::Changed),
+        match items.get(&hash) {
+            None => Err(Refused::Absent),
+            Some(entry) if entry.token != token => Err(Refused::Changed),
             Some(entry) => {
                 self.room.give_back(entry.cost);
                 self.room.subtract_item();
-                items.remove(&stamp.hash);
+                items.remove(&hash);
                 *last += 1;
-                Ok(Outcome::Done(*last))
+                Ok(*last)
             }
         }
     }
