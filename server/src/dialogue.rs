@@ -142,7 +142,7 @@ impl Dialogue {
             Ok(Request::Keys(..)) => line(out, FORMAT.text),
             Ok(request) => match order_of(&request) {
                 Some(order) => return self.block(store, &request, is_quiet, &order, rest, out).behind(end),
-                None => match Listing::of(store, &request) {
+                None => match Listing::of(&request) {
                     Some(listing) => self.state = State::List(listing),
                     None => run(store, &request, b"", is_quiet, out),
                 },

@@ -70,8 +70,7 @@ pub fn new_item(born: u64, flags: u32, deadline: u64, key: &[u8], value: &[&[u8]
         marks: AtomicU16::new(0),
     };
     let item = may_fail(|| NewItem::try_new(about, key, value))?;
-    slabs::note(&item);
-    Some(item)
+    slabs::note(&item).then_some(item)
 }
 
 /// Which items `flush_all` has made invalid: those that are no younger than one of these times, once it has come.

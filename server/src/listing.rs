@@ -3,10 +3,11 @@ use crate::command::text;
 use crate::index::Token;
 use crate::item::Item;
 use crate::output::Output;
-use crate::queue::{Cursor, Entry};
 use crate::request::Request;
 use crate::seat::{Seen, State};
+use crate::slabs::address_of;
 use crate::store::Store;
+use crate::walk::{self, Position};
 use std::io::Write;
 use std::mem::ManuallyDrop;
 use std::net::{SocketAddr, TcpStream};
@@ -16,7 +17,7 @@ use std::os::unix::net::UnixStream;
 /// The class of all items. The others are empty.
 pub const CLASS: u64 = 1;
 
-/// A part has so many items or clients at most.
+/// A part has so many clients at most.
 const PART: usize = 64;
 
 /// What is listed, and what of it comes next.
@@ -27,24 +28,20 @@ pub enum Listing {
     Clients(usize),
 }
 
-/// Items in the order of their entries in the queues.
+/// Items in the order in which they lie in memory. One that gets another value meanwhile may come twice, or not at all.
 #[derive(Clone, Copy, Debug)]
 pub struct Items {
     write: fn(&Store, &Item, Token, &mut Output),
-    next: Option<Cursor>,
-    /// Items that are spared meanwhile come again at the end of their queue. So no more entries are looked at than there are at first.
-    entries: usize,
+    next: Option<Position>,
     /// How many are to be listed.
     most: u64,
 }
 
 impl Listing {
     /// The list that answers a request.
-    pub fn of(store: &Store, request: &Request) -> Option<Listing> {
-        let items = |write, is_empty: bool, most| {
-            let entries = if is_empty { 0 } else { store.queue.entries() };
-            Some(Listing::Items(Items { write, next: Some(Cursor::default()), entries, most }))
-        };
+    pub fn of(request: &Request) -> Option<Listing> {
+        let items =
+            |write, is_empty: bool, most| Some(Listing::Items(Items { write, next: (!is_empty).then_some(walk::START), most }));
         match *request {
             Request::Dump(class, most) => items(write_cached, class != CLASS, if most == 0 { u64::MAX } else { most }),
             Request::Crawl(has_class) => items(write_crawled, !has_class, u64::MAX),
@@ -64,17 +61,17 @@ impl Listing {
 
 impl Items {
     fn part(&mut self, store: &Store, out: &mut Output) -> bool {
-        let Some(cursor) = self.next.filter(|_| self.entries > 0) else { return false };
-        let (entries, next) = store.queue.look_from(cursor, PART.min(self.entries));
-        self.next = next;
-        self.entries -= entries.len();
-        for Entry { hash, number } in entries {
+        let Some(position) = self.next else { return false };
+        let mut found = Vec::new();
+        self.next = walk::look(position, |item| found.push((store.index.hash_of(item.key()), address_of(item))));
+        for (hash, address) in found {
             if self.most == 0 {
                 return false;
             }
             store.index.peek(hash, &mut |seen| {
-                if let Some((item, token)) = seen.ok().flatten() {
-                    if item.number() == Some(number) && store.is_live(item) {
+                // Another item of this key, or one of another index, is not what was found.
+                if let Some((item, token)) = seen.ok().flatten().filter(|(item, _)| address_of(item) == address) {
+                    if store.is_live(item) {
                         self.most -= 1;
                         (self.write)(store, item, token, out);
                     }

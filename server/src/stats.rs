@@ -2,7 +2,6 @@
 use crate::clock::unix_time;
 use crate::command::{line, text, version};
 use crate::listing::CLASS;
-use crate::queue::Cursor;
 use crate::request::ERROR;
 use crate::store::Store;
 use crate::usage;
@@ -80,17 +79,9 @@ fn items(store: &Store, out: &mut Vec<u8>) {
     line(out, "END");
 }
 
-/// The seconds since the item was stored that is first in the main queue.
+/// The seconds since the oldest item was stored.
 fn age(store: &Store) -> u64 {
-    let (first, mut age) = (store.queue.look_from(Cursor::default(), 1).0, 0);
-    for entry in first {
-        store.index.peek(entry.hash, &mut |seen| {
-            if let Ok(Some((item, _))) = seen {
-                age = unix_time().saturating_sub(store.clock.unix_time_of(item.born()));
-            }
-        });
-    }
-    age
+    store.oldest().map_or(0, |born| unix_time().saturating_sub(store.clock.unix_time_of(born)))
 }
 
 /// The class has pages of a megabyte, and chunks as large as an item is on average.

@@ -2,16 +2,17 @@
 use crate::ceiling::Ceiling;
 use crate::clock::Clock;
 use crate::counts::{Count, Counts};
+use crate::expire::Round;
 use crate::index::{Index, Refused, Seen, Token};
 use crate::item::{Flushes, Item};
+use crate::key_locks::KeyLocks;
 use crate::options::Options;
 use crate::queue::Queue;
 use crate::room::Room;
 use crate::seat::Seats;
-use crate::turn::Turns;
 use std::fmt::{self, Debug, Formatter};
 use std::sync::atomic::AtomicU64;
-use std::sync::Arc;
+use std::sync::{Arc, Mutex, MutexGuard};
 
 /// The buffers of all connections may take this part of the memory limit, beside it.
 const PART_OF_BUFFERS: usize = 2;
@@ -24,10 +25,11 @@ pub struct Store {
     pub room: Arc<Room>,
     pub(crate) ceiling: Option<Ceiling>,
     pub queue: Queue,
-    pub(crate) turns: Turns,
+    pub(crate) key_locks: KeyLocks,
+    pub(crate) round: Mutex<Round>,
     /// The second since the start in which the system refused memory though items had given way.
     pub(crate) helpless: AtomicU64,
-    flushes: Flushes,
+    pub(crate) flushes: Flushes,
     pub options: Options,
     pub seats: Arc<Seats>,
 }
@@ -86,11 +88,11 @@ impl Store {
     /// A store over this index.
     pub fn new(index: Box<dyn Index>, room: Arc<Room>, options: Options) -> Store {
         let counts = Counts::new(options.threads);
-        let (clock, turns, flushes) = (Clock::new(), Turns::default(), Flushes::default());
+        let (clock, key_locks, round, flushes) = (Clock::new(), KeyLocks::default(), Mutex::default(), Flushes::default());
         let queue = if options.one_queue { Queue::one() } else { Queue::new(options.items) };
         let seats = Seats::new(options.connections, options.memory / PART_OF_BUFFERS);
         let helpless = AtomicU64::new(u64::MAX);
-        Store { index, counts, clock, room, ceiling: None, queue, turns, helpless, flushes, seats, options }
+        Store { index, counts, clock, room, ceiling: None, queue, key_locks, round, helpless, flushes, seats, options }
     }
 
     /// The same store, whose items get less room if the process exceeds this ceiling.
@@ -123,7 +125,7 @@ impl Store {
     /// Does the same, and gives what is found this deadline.
     pub fn look_and_touch(&self, keys: &[&[u8]], deadline: u64, mut each: impl FnMut(usize, &Item, Token) -> bool) -> usize {
         for (position, key) in keys.iter().enumerate() {
-            let _turn = self.turns.wait(key);
+            let _lock = self.lock(key);
             let (mut is_hit, mut goes_on) = (false, true);
             self.look(&[key], |_, item, token| {
                 is_hit = true;
@@ -173,9 +175,14 @@ impl Store {
         Fault::Disturbed
     }
 
+    /// Locks the key against other changes of its deadline, and those that keep it.
+    pub(crate) fn lock(&self, key: &[u8]) -> MutexGuard<'_, ()> {
+        self.key_locks.lock(self.index.hash_of(key))
+    }
+
     /// Gives the key's item a new deadline. Returns whether the key has a value.
     pub fn touch(&self, key: &[u8], deadline: u64) -> Result<bool, Fault> {
-        let _turn = self.turns.wait(key);
+        let _lock = self.lock(key);
         let found = self.find(key, |item, _| {
             item.mark_used();
             item.touch(deadline);

@@ -80,7 +80,7 @@ impl Store {
     }
 
     fn store_if(&self, order: &Order, data: &[u8]) -> Result<Answer, Fault> {
-        let _turn = matches!(order.how, How::Append | How::Prepend).then(|| self.turns.wait(order.key));
+        let _lock = matches!(order.how, How::Append | How::Prepend).then(|| self.lock(order.key));
         for _ in 0..TRIES {
             let found = self.find(order.key, |item, now| {
                 item.mark_used();
@@ -200,7 +200,7 @@ impl Store {
 
     /// Adds to the key's number or subtracts from it. The item gets the deadline, if there is one.
     pub fn change(&self, key: &[u8], change: Change, compare: Option<Token>, deadline: Option<u64>) -> Result<Changed, Fault> {
-        let _turn = self.turns.wait(key);
+        let _lock = self.lock(key);
         for _ in 0..TRIES {
             let found = self.find(key, |item, born| {
                 item.mark_used();

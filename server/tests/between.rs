@@ -151,9 +151,9 @@ fn a_new_time_to_live_waits_for_a_change_that_keeps_the_old_one() {
 fn an_item_that_is_touched_in_time_does_not_go() {
     let mut client = Client::new(MEGABYTE);
     client.ask("set n 0 -1 1\n1\nset gone 0 -1 1\n1\n");
-    client.control.touches_after_peek.store(true, SeqCst);
-    client.store.expire();
-    client.control.touches_after_peek.store(false, SeqCst);
+    client.control.touches_before_peek.store(true, SeqCst);
+    client.expire();
+    client.control.touches_before_peek.store(false, SeqCst);
     assert_eq!((value(&mut client), client.store.room.items()), ("1".to_owned(), 2));
 }
 
@@ -170,6 +170,6 @@ fn a_new_time_to_live_waits_for_the_crawler() {
         }
         sender.send(asking).expect("it is waited for");
     }));
-    client.store.expire();
+    client.expire();
     assert_eq!(threads.recv().expect("there is a thread").join().expect("it is answered"), "NOT_FOUND\n");
 }

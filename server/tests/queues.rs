@@ -181,7 +181,7 @@ fn what_expires_is_removed_from_both_queues() {
     let (mut client, mut first) = (client(), SCANNED);
     full(&mut client, &mut first);
     client.ask("touch 0001 -1\nset 0300 0 -1 1\n5\n");
-    client.store.expire();
+    client.expire();
     assert_eq!(client.store.room.items(), ITEMS as u64 - 2);
     assert!(!has(&mut client, 1) && !has(&mut client, 300) && has(&mut client, 2));
 }

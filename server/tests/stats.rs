@@ -185,6 +185,17 @@ fn the_class_of_all_items() {
 }
 
 #[test]
+fn the_age_of_the_oldest_item() {
+    let mut client = Client::new(MEGABYTE);
+    client.ask("set a 0 0 1\n1\n");
+    thread::sleep(Duration::from_millis(1_100));
+    client.ask("set b 0 0 1\n1\n");
+    client.expire();
+    let age: u64 = stats(&mut client, "items", "items:1:age").parse().expect("a number");
+    assert!((1..10).contains(&age), "{age}");
+}
+
+#[test]
 fn lookups_of_items_that_are_not_live() {
     let mut client = Client::new(MEGABYTE);
     client.ask("set a 0 -1 1\n1\nset b 0 0 1\n1\nset c 0 -1 1\n1\nget a b x\n");
@@ -235,7 +246,7 @@ fn expired_items_that_gave_way_were_not_evicted() {
     assert_eq!(stats(&mut client, "", NAMES), "0 0 1 1 0");
     let mut client = Client::new(MEGABYTE);
     client.ask("set a 0 -1 1\n1\nset b 0 100 1\n1\nget b\ntouch b -1\nset c 0 0 1\n1\n");
-    client.store.expire();
+    client.expire();
     assert_eq!(stats(&mut client, "", NAMES), "0 0 0 1 2", "b was read once");
 }
 

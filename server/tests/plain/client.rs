@@ -4,8 +4,9 @@ use cefrodild::dialogue::{Dialogue, Turn};
 use cefrodild::options::{parse, Asked};
 use cefrodild::output::{Output, MOST_WAITING};
 use cefrodild::room::Room;
+use cefrodild::slabs;
 use cefrodild::store::Store;
-use std::sync::Arc;
+use std::sync::{Arc, Once};
 
 pub const MEGABYTE: usize = 1 << 20;
 
@@ -25,6 +26,8 @@ impl Client {
 
     /// The same, with these options.
     pub fn with(memory: usize, options: &str) -> Client {
+        static ONCE: Once = Once::new();
+        ONCE.call_once(|| slabs::set_up(256 * MEGABYTE).expect("there are addresses"));
         let (room, control) = (Arc::new(Room::new(memory as u64)), Arc::new(Control::default()));
         let Ok(Asked::Serve(options)) = parse(options.split(' ').map(str::to_owned)) else { panic!("{options}") };
         let store = Arc::new(Store::new(Box::new(Plain::new(&room, &control)), room, options));
@@ -35,6 +38,11 @@ impl Client {
     pub fn beside(&self) -> Client {
         let (store, control) = (Arc::clone(&self.store), Arc::clone(&self.control));
         Client { store, control, dialogue: Dialogue::default(), input: Vec::new() }
+    }
+
+    /// Lets the store look at all items, and at those of other tests of this process, until those that are dead have gone.
+    pub fn expire(&self) {
+        (0..50).for_each(|_| self.store.expire());
     }
 
     /// Sends bytes, and returns the answers and whether the connection ends.

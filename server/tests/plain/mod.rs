@@ -26,8 +26,8 @@ pub struct Control {
     pub stalled: AtomicU64,
     /// How often what had left was to be freed.
     pub sweeps: AtomicUsize,
-    /// What is found by a peek never expires from then on: another thread has found it before, and gives it a new time to live now.
-    pub touches_after_peek: AtomicBool,
+    /// What is about to be found by a peek never expires from then on: another thread has found it before, and gives it a new time to live now.
+    pub touches_before_peek: AtomicBool,
     /// How many hashes were looked up together, at most.
     pub most_together: AtomicUsize,
 }
@@ -118,10 +118,10 @@ impl Index for Plain {
         }
         let (items, _) = &*self.items.lock().unwrap();
         let entry = items.get(&hash);
-        see(Ok(entry.map(|entry| (&*entry.item, entry.token))));
-        if let Some(entry) = entry.filter(|_| self.control.touches_after_peek.load(SeqCst)) {
+        if let Some(entry) = entry.filter(|_| self.control.touches_before_peek.load(SeqCst)) {
             entry.item.touch(u64::MAX);
         }
+        see(Ok(entry.map(|entry| (&*entry.item, entry.token))));
     }
 
     fn put(&self, _: u64, item: NewItem, see: &mut dyn FnMut(&Item, Option<&Item>)) -> Result<Token, Refused> {
