@@ -14,7 +14,6 @@
 #include "rust_object_generations.hpp"
 #include "rust_slots.hpp"
 #include "rust_tiers.hpp"
-#include "rust_weights.hpp"
 #include <cstdio>
 #include <cstdlib>
 #include <string>
@@ -64,6 +63,5 @@ int main(int argc, char **argv) {
     explore<RustTiers>("Rust tiers", schedules);
     explore<RustGenerations>("Rust generations", schedules);
     explore<RustObjectGenerations>("Rust generations of objects", schedules);
-    explore<RustWeights>("Rust weights", schedules);
     return faults == 0 ? 0 : 1;
 }

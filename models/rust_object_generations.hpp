@@ -51,8 +51,8 @@ struct RustObjectGenerations : rl::test_suite<RustObjectGenerations, 3> {
             enter(object, now());                                         //| let object = inner.object(key, value, life, NONE);
         }
         entry.exchange(object, all);
-        if (!explored::without("generation by the put")) {                //| in map/src/objects/weights.rs
-            enter(object, now());                                         //| pinned.object(word).enter(self.generation.now());
+        if (!explored::without("generation by the put")) {
+            enter(object, now());                                         //| object.enter(self.generation.now());
         }
     }
 

@@ -13,7 +13,7 @@ use crate::slots::Slots;
 use crate::tiers::Tiers;
 use crate::wait::TRIES;
 use crate::words::{Layout, MOST};
-use cefrodil::Shape;
+use cefrodil::{Policy, Shape};
 use std::collections::hash_map::RandomState;
 use std::fmt::{self, Debug, Formatter};
 use std::hash::BuildHasher;
@@ -146,7 +146,7 @@ impl<K: ?Sized, V: Copy + Send + Sync + 'static, S: BuildHasher> Builder<K, V, S
     /// The first [`OpenError`] that applies.
     pub fn open(self) -> Result<Map<K, V, S>, OpenError> {
         let (shape, shards) = self.settings.shape()?;
-        self.open_shaped(&shape, shards, TRIES)
+        self.open_shaped(&by_clock(shape), shards, TRIES)
     }
 
     /// Opens the map with shards of this shape, and calls that try so often.
@@ -185,8 +185,13 @@ impl<K: ?Sized, V: Copy + Send + Sync + 'static, S: BuildHasher> Builder<K, V, S
 impl<K: ?Sized, V, S> Builder<K, V, S> {
     fn small_handles(&self, width: usize) -> Result<Vec<AnyHandle>, OpenError> {
         let (shape, shards) = self.settings.small_shape()?;
-        AnyHandle::open(width, &shape, shards, self.settings.handles()).map_err(OpenError::of)
+        AnyHandle::open(width, &by_clock(shape), shards, self.settings.handles()).map_err(OpenError::of)
     }
+}
+
+// A map with a small table chooses by that which entry gives way. Without it, it goes by CLOCK.
+fn by_clock(shape: Shape) -> Shape {
+    Shape { policy: Policy::Clock, ..shape }
 }
 
 impl<K: ?Sized, V, S> Debug for Builder<K, V, S> {

@@ -111,6 +111,16 @@ impl InsertError {
     }
 }
 
+#[cfg(feature = "objects")]
+impl InsertError {
+    pub(crate) fn of_eviction(why: RemoveError) -> InsertError {
+        match why {
+            RemoveError::Spent => InsertError::Spent,
+            RemoveError::Busy | RemoveError::Held | RemoveError::Contended => InsertError::Held,
+        }
+    }
+}
+
 impl From<InsertError> for UpdateError {
     fn from(why: InsertError) -> UpdateError {
         UpdateError::Insert(why)

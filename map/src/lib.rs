@@ -47,8 +47,8 @@ pub use key::{Hashed, Key};
 pub use map::{Inserted, Map};
 #[cfg(feature = "objects")]
 pub use objects::{
-    AbsentError, Block, Bytes, BytesBuilder, BytesMap, Cursor, Head, IfError, Line, Look, ObjectBuilder, ObjectLead, ObjectMap,
-    ObjectWait, Put, Queued, Queues, Reason, Refused,
+    AbsentError, Block, Bytes, BytesBuilder, BytesMap, Head, IfError, Look, ObjectBuilder, ObjectLead, ObjectMap, ObjectWait,
+    Put, Reason, Refused,
 };
 pub use published::Published;
 pub use stats::Stats;

@@ -1,6 +1,6 @@
 //! What the builders of all maps choose.
 use crate::error::OpenError;
-use cefrodil::{Mix, Policy, Shape};
+use cefrodil::{Mix, Shape};
 use std::collections::hash_map::RandomState;
 use std::fmt::{self, Formatter};
 use std::time::Duration;
@@ -59,13 +59,6 @@ impl<S> Settings<S> {
         self.shape_for(self.capacity, self.shards.unwrap_or_else(|| shards_for(self.capacity)))
     }
 
-    /// The same, with room for one entry more by each handle, if it can have that: a put comes before the eviction that makes room for it.
-    #[cfg(feature = "objects")]
-    pub fn shape_with_room(&self) -> Result<(Shape, u32), OpenError> {
-        let (shape, shards) = self.shape()?;
-        Ok(self.shape_for(self.capacity.saturating_add(self.handles()), shards).unwrap_or((shape, shards)))
-    }
-
     /// Those of the small table. It has no more shards than were asked for.
     pub fn small_shape(&self) -> Result<(Shape, u32), OpenError> {
         let capacity = (self.capacity / ENTRIES_OF_A_SMALL_ONE).max(1);
@@ -79,8 +72,6 @@ impl<S> Settings<S> {
         shape.stripes = shape.stripes.min((STRIPES / shards).max(STRIPES_OF_A_SHARD));
         // The index hashes what a hasher of the user's may have spread badly.
         shape.mix = if self.once { Mix::None } else { Mix::Full };
-        // A map chooses by a small table or by queues which entry gives way. Without them it goes by CLOCK.
-        shape.policy = Policy::Clock;
         Ok((shape, shards))
     }
 

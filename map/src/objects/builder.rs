@@ -3,7 +3,6 @@ use super::epochs::Epochs;
 use super::inner::{ObjectInner, Stripe};
 use super::map::ObjectMap;
 use super::object::{Held, Object};
-use super::queues::Queues;
 use super::weights::{Weigher, Weights};
 use crate::clock::Clock;
 use crate::error::OpenError;
@@ -50,26 +49,12 @@ pub(crate) struct Hears<O> {
     pub freed: Option<Freed<O>>,
     /// What they may weigh together, and what weighs them.
     pub weigher: Option<(u64, Weigher<O>)>,
-    /// Whether new objects have no queue of their own.
-    pub one_queue: bool,
 }
 
 impl<O> Hears<O> {
-    /// Nobody hears of them, and the index alone evicts some.
+    /// Nobody hears of them, and nothing weighs them.
     pub fn nothing() -> Hears<O> {
-        Hears { listener: None, freed: None, weigher: None, one_queue: true }
-    }
-}
-
-impl<O> Weights<O> {
-    // The bound of a map for so many objects, with so many shards. `None`: the index alone evicts some.
-    fn of(weigher: Option<(u64, Weigher<O>)>, one_queue: bool, objects: usize, shards: u32) -> Option<Weights<O>> {
-        match (weigher, one_queue) {
-            (Some((most, weigher)), true) => Some(Weights::weighed(most, weigher, Queues::one())),
-            (Some((most, weigher)), false) => Some(Weights::weighed(most, weigher, Queues::new(objects))),
-            (None, true) => None,
-            (None, false) => Some(Weights::counted(objects, shards)),
-        }
+        Hears { listener: None, freed: None, weigher: None }
     }
 }
 
@@ -94,13 +79,12 @@ pub struct ObjectBuilder<K, V, S = RandomState> {
 impl<K, V> ObjectBuilder<K, V> {
     /// For a map of at least this many entries.
     pub fn new(capacity: usize) -> ObjectBuilder<K, V> {
-        ObjectBuilder { settings: Settings::new(capacity), hears: Hears { one_queue: false, ..Hears::nothing() } }
+        ObjectBuilder { settings: Settings::new(capacity), hears: Hears::nothing() }
     }
 }
 
 impl<K, V, S> ObjectBuilder<K, V, S> {
-    /// As [`Builder::shards`](crate::Builder::shards). Without [`max_weight`](Self::max_weight) and [`one_queue`](Self::one_queue) the map holds as many
-    /// entries as were asked for, or a few more so that each part has as many as the others: there is one for each shard.
+    /// As [`Builder::shards`](crate::Builder::shards).
     pub fn shards(mut self, shards: u32) -> Self {
         self.settings.shards = Some(shards);
         self
@@ -170,29 +154,14 @@ impl<K, V, S> ObjectBuilder<K, V, S> {
     /// # Ok::<(), Box<dyn std::error::Error>>(())
     /// ```
     ///
-    /// - A put that brings the sum above `most` evicts entries before it returns: those that were put first and not used since, and new ones before
-    ///   others ([`one_queue`](Self::one_queue) says how). So the sum is above `most` only while a put runs. It stays above until the next put if the
-    ///   evicting call gets no turn for over a second, as a write that is refused.
+    /// - A put that brings the sum above `most` evicts others: those that would give way to new keys in a full map. So the sum is above `most` only
+    ///   while a put runs. It stays above until the next put if the call that evicts gets no turn for over a second.
+    /// - A put of a new key makes room first. It is refused if it gets no turn for that, as any write.
     /// - An entry that alone is heavier than `most` is refused: [`InsertError::TooHeavy`](crate::InsertError::TooHeavy). What its key had stays.
     /// - The map is still bounded by its number of entries, too. Take a capacity for as many entries as fit by their weight.
     /// - [`weight`](ObjectMap::weight) is the sum. Objects that have left and wait to be freed don't count.
     pub fn max_weight(mut self, most: u64, weigher: impl Fn(&K, &V) -> u64 + Send + Sync + 'static) -> Self {
         self.hears.weigher = Some((most, Box::new(move |object| weigher(&object.key, &object.value))));
-        self
-    }
-
-    /// Leaves out the small queue for new keys. With [`max_weight`](Self::max_weight) those entries are evicted then that were put first and not used
-    /// since, new or not. Without it there is no queue at all: a full shard of the index evicts an entry that was not used lately, as a
-    /// [`Map`](crate::Map) with one table does. Then a put is quicker, and an entry takes less memory.
-    ///
-    /// By default new keys go to a small queue first, with a tenth of the weight or of the entries. An entry that is used there moves to the main queue,
-    /// and another one is evicted. If its key is put again soon, it goes to the main queue. So keys that are used once evict none that are used often.
-    /// More lookups hit, most of all where many keys are used once or in scans. An entry that weighs more than a tenth of `most` leaves early, unless it
-    /// is used.
-    ///
-    /// Without `max_weight` there are queues for each of as many parts as the map has shards, and each part holds as many entries as the others.
-    pub fn one_queue(mut self) -> Self {
-        self.hears.one_queue = true;
         self
     }
 }
@@ -209,25 +178,18 @@ where
     ///
     /// The first [`OpenError`] that applies.
     pub fn open(self) -> Result<ObjectMap<K, V, S>, OpenError> {
-        let is_counted = self.hears.weigher.is_none() && !self.hears.one_queue;
-        let (shape, shards) = if is_counted { self.settings.shape_with_room()? } else { self.settings.shape()? };
-        self.open_with((&shape, shards), TRIES)
+        let (shape, shards) = self.settings.shape()?;
+        self.open_shaped(&shape, shards, TRIES)
     }
 
-    /// Opens the map with shards of this shape, for as many objects as have room there, and calls that try so often.
-    #[cfg(test)]
-    pub(crate) fn open_shaped(mut self, shape: &Shape, shards: u32, tries: u32) -> Result<ObjectMap<K, V, S>, OpenError> {
-        self.settings.capacity = (shape.items * shards) as usize;
-        self.open_with((shape, shards), tries)
-    }
-
-    fn open_with(self, shape: (&Shape, u32), tries: u32) -> Result<ObjectMap<K, V, S>, OpenError> {
-        Ok(ObjectMap { inner: Arc::new(ObjectInner::open(self.settings, shape, tries, self.hears)?) })
+    /// Opens the map with shards of this shape, and calls that try so often.
+    pub(crate) fn open_shaped(self, shape: &Shape, shards: u32, tries: u32) -> Result<ObjectMap<K, V, S>, OpenError> {
+        Ok(ObjectMap { inner: Arc::new(ObjectInner::open(self.settings, (shape, shards), tries, self.hears)?) })
     }
 }
 
 impl<O: Held, S> ObjectInner<O, S> {
-    /// Opens so many shards of this shape. They have room for as many objects as the settings ask for.
+    /// Opens so many shards of this shape.
     pub fn open(
         settings: Settings<S>,
         (shape, shards): (&Shape, u32),
@@ -236,13 +198,10 @@ impl<O: Held, S> ObjectInner<O, S> {
     ) -> Result<ObjectInner<O, S>, OpenError> {
         let count = settings.handles();
         let mut handles = Cache::open(shape, shards, count).map_err(OpenError::of)?;
-        let Settings { capacity, hasher, life, idle, threads, .. } = settings;
-        let Hears { listener, freed, weigher, one_queue } = hears;
-        let room = handles[0].capacity();
-        let objects = if weigher.is_some() { room } else { capacity };
-        let weights = Weights::of(weigher, one_queue, objects, shards);
+        let Settings { hasher, life, idle, threads, .. } = settings;
+        let Hears { listener, freed, weigher } = hears;
         Ok(ObjectInner {
-            capacity: weights.as_ref().and_then(Weights::most_objects).map_or(room, |most| most.min(room)),
+            capacity: handles[0].capacity(),
             slots: Arc::new(Slots::new(handles)),
             epochs: Epochs::new(threads),
             flights: Flights::new(),
@@ -255,7 +214,8 @@ impl<O: Held, S> ObjectInner<O, S> {
             tries,
             listener,
             freed,
-            weights,
+            weights: weigher.map(|(most, weigher)| Weights::new(most, weigher)),
+            shards,
             objects: PhantomData,
         })
     }

@@ -7,7 +7,7 @@ use super::look::Look;
 use super::object::Keyed;
 use super::pinned::State;
 use super::put::Put;
-use crate::error::{GetError, InsertError, OpenError};
+use crate::error::{ClearError, GetError, InsertError, OpenError, RemoveError};
 use crate::handle::MANY;
 use crate::settings::Settings;
 use crate::stats::Stats;
@@ -153,6 +153,28 @@ impl<H: Head, S> BytesMap<H, S> {
         let pinned = self.inner.pin();
         let reply = self.inner.slots.call(|handle| handle.try_peek(hash)).unwrap_or(Reply::Busy);
         look(pinned.state_or_look(hash, &Any, reply, 1).map(|state| state.object()).ok_or(GetError::Busy))
+    }
+
+    /// Evicts the block that would give way to a new key next, in the shard of this hash, or if that shard is empty, in another one. Calls `see` with the
+    /// block, which stays until `see` returns, and with the moment of the eviction. Then the listener hears of the block. `None`: the map is empty.
+    ///
+    /// # Errors
+    ///
+    /// [`RemoveError`]: nothing was evicted.
+    pub fn evict<R>(&self, near: u64, see: impl FnOnce(&Bytes<H>, u64) -> R) -> Result<Option<R>, RemoveError> {
+        self.inner.evict(near, self.inner.tries, see)
+    }
+
+    /// The hashes of all entries, for a program that looks at one after the other, by [`peek_hash`](Self::peek_hash). Those that other threads put or
+    /// remove meanwhile are among them or not. It takes 32 bytes for each entry that the map can hold, and keeps 8 for each that it has.
+    ///
+    /// # Errors
+    ///
+    /// [`ClearError`].
+    pub fn hashes(&self) -> Result<Vec<u64>, ClearError> {
+        let mut hashes: Vec<u64> = self.inner.list()?.into_iter().map(|(hash, _)| hash).collect();
+        hashes.shrink_to_fit();
+        Ok(hashes)
     }
 
     /// As [`ObjectMap::remove_stamped`](crate::ObjectMap::remove_stamped).

@@ -82,12 +82,11 @@ impl<K: Hash + Eq, V, S: BuildHasher> ObjectInner<Object<K, V>, S> {
             let object = self.object(key, value, None, made_in);
             self.detach(hash);
             let put = match seen {
-                Some(seen) => self.put_over_seen(&pinned, hash, object, seen),
+                Some(seen) => self.put_over_seen(hash, object, seen),
                 None => self.put_over(hash, object, over, self.tries),
             };
-            drop(pinned);
             match put {
-                Ok(done) => return Ok(self.end(done)),
+                Ok(put) => return Ok(put),
                 Err((_, Fail::Insert(why))) => return Err(why.into()),
                 Err((object, _)) => key = object.key,
             }
@@ -113,11 +112,10 @@ impl<K: Hash + Eq, V, S: BuildHasher> ObjectInner<Object<K, V>, S> {
             self.detach(hash);
             let put = match anew {
                 Some(_) => self.put_over(hash, object, over, self.tries),
-                None => self.put_over_seen(&pinned, hash, object, seen),
+                None => self.put_over_seen(hash, object, seen),
             };
-            drop(pinned);
             match put {
-                Ok(done) => return Ok(Some(self.end(done))),
+                Ok(put) => return Ok(Some(put)),
                 Err((_, Fail::Insert(why))) => return Err(why.into()),
                 Err(_) => {}
             }

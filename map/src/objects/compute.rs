@@ -156,22 +156,18 @@ impl<K: Eq, V: Clone, S> ObjectInner<Object<K, V>, S> {
             if !self.is_of_this_generation(&object) {
                 return Published::Outdated(value);
             }
-            let mut offered = Some(object);
-            let put = leader.put(|| self.put_over(hash, offered.take().expect("it is put once"), over, tries));
-            match put {
-                None => {
-                    let written = offered.and_then(|object| self.find(hash, &object.key, tries));
+            let put = |word| leader.put(|| self.put_word(hash, word, over, tries)).unwrap_or(Err(Fail::Detached));
+            match self.offer(hash, object, tries, put) {
+                Ok(_) => return Published::Put(value),
+                Err((object, Fail::Detached)) => {
+                    let written = self.find(hash, &object.key, tries);
                     return written.map_or(Published::Outdated(value), Published::Other);
                 }
-                Some(Ok(done)) => {
-                    self.end(done);
-                    return Published::Put(value);
-                }
-                Some(Err((_, Fail::Insert(fail)))) => {
+                Err((_, Fail::Insert(fail))) => {
                     why = fail.into();
                     break;
                 }
-                Some(Err((back, _))) => object = back,
+                Err((back, _)) => object = back,
             }
         }
         Published::Refused { value, why: self.refused(why) }

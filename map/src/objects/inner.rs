@@ -38,6 +38,8 @@ pub(crate) struct ObjectInner<O: Held, S> {
     pub listener: Option<Listener<O>>,
     pub freed: Option<Freed<O>>,
     pub weights: Option<Weights<O>>,
+    /// How many shards the index has.
+    pub shards: u32,
     pub objects: PhantomData<O>,
 }
 
@@ -55,16 +57,12 @@ impl<O: Held, S> ObjectInner<O, S> {
     /// The deadline of a value that is put now.
     pub fn deadline(&self, life: Option<Duration>) -> u64 {
         let deadline = life.or(self.life).map_or(NEVER, |life| self.clock.deadline(life));
-        if self.notes_uses() {
+        // If uses are noted, no object has the deadline `NEVER`.
+        if self.idle.is_some() {
             deadline.min(FAR)
         } else {
             deadline
         }
-    }
-
-    // Whether objects know of lookups that find them. Then none has the deadline `NEVER`.
-    fn notes_uses(&self) -> bool {
-        self.weights.is_some() || self.idle.is_some()
     }
 
     /// Whether the object has not expired, and its generation goes on.
@@ -89,11 +87,6 @@ impl<O: Held, S> ObjectInner<O, S> {
     pub fn is_live_and_used(&self, object: &O) -> bool {
         match object.deadline() {
             NEVER => self.is_of_this_generation(object),
-            // Its uses are noted, and if not for this time, for a bound on weights.
-            FAR if self.idle.is_none() && self.is_of_this_generation(object) => {
-                object.set_used();
-                true
-            }
             _ => self.note_use(object),
         }
     }
@@ -101,9 +94,6 @@ impl<O: Held, S> ObjectInner<O, S> {
     #[cold]
     fn note_use(&self, object: &O) -> bool {
         let is_live = self.is_live(object);
-        if is_live && self.weights.is_some() {
-            object.set_used();
-        }
         let next = self.idle.filter(|_| is_live).and_then(|idle| self.clock.moved(object.idle(), idle));
         if let Some(next) = next {
             object.move_idle(next);
@@ -122,31 +112,23 @@ impl<O: Held, S> ObjectInner<O, S> {
         self.flights.detach(Print::of_hash(hash));
     }
 
-    /// An object has left the index, by a call that returned its word and its key's hash. The listener hears of it, and it is retired.
-    pub fn left(&self, hash: u64, word: u64, reason: Reason) {
+    /// An object has left the index, by a call that returned its word.
+    pub fn leaving(&self, word: u64) -> Left<'_, O, S> {
         let left = Left { inner: self, word };
-        if let Some(part) = self.part(hash) {
-            part.give_back(left.object().weight());
-            if reason != Reason::Replaced {
-                part.uncount();
-            }
+        if let Some(weights) = &self.weights {
+            weights.give_back(left.object().weight());
         }
-        if let Some(listener) = &self.listener {
-            let object = left.object();
-            let reason = if self.is_live(object) { reason } else { Reason::Expired };
-            let _hearing = Hearing::begin();
-            listener.0(object, reason);
-        }
+        left
     }
 
     /// What the calls of all threads came to, and what waits to be freed.
     pub fn stats(&self) -> Stats {
-        let (mut stats, is_weighed) = (self.slots.stats(), self.weights.as_ref().is_some_and(Weights::has_weigher));
+        let mut stats = self.slots.stats();
         self.epochs.each_waiting(|word| {
             // SAFETY: the word was in this map's index, so it is one of `into_word` of these types. It waits, so no owner is made of it.
             let object = unsafe { &*pointer::<O>(word) };
             stats.waiting += 1;
-            stats.waiting_weight += if is_weighed { object.weight() } else { 0 };
+            stats.waiting_weight += object.weight();
         });
         stats
     }
@@ -172,7 +154,8 @@ impl<K, V, S> ObjectInner<Object<K, V>, S> {
     pub fn object(&self, key: K, value: V, life: Option<Duration>, generation: u64) -> Box<Object<K, V>> {
         let idle = self.idle.map_or(NEVER, |idle| self.clock.deadline(idle));
         let mut object = Object::new(key, value, generation, self.deadline(life), idle);
-        if let Some(weight) = self.weights.as_ref().and_then(|weights| weights.weigh(&object)) {
+        if let Some(weights) = &self.weights {
+            let weight = weights.weigh(&object);
             object.set_weight(weight);
         }
         object
@@ -219,16 +202,25 @@ impl<O: Held, S: BuildHasher> ObjectInner<O, S> {
 }
 
 /// An object that has left the index. It is retired when this is dropped, also by a panic.
-struct Left<'a, O: Held, S> {
+pub(crate) struct Left<'a, O: Held, S> {
     inner: &'a ObjectInner<O, S>,
     word: u64,
 }
 
 impl<O: Held, S> Left<'_, O, S> {
-    fn object(&self) -> &O {
+    pub fn object(&self) -> &O {
         // SAFETY: the word was in this map's index, so it is one of `into_word` of these types. It is not retired before this is dropped, so
         // no owner is made of it.
         unsafe { &*pointer(self.word) }
+    }
+
+    /// Tells the listener why it has left.
+    pub fn tell(self, reason: Reason) {
+        if let Some(listener) = &self.inner.listener {
+            let reason = if self.inner.is_live(self.object()) { reason } else { Reason::Expired };
+            let _hearing = Hearing::begin();
+            listener.0(self.object(), reason);
+        }
     }
 }
 
@@ -245,7 +237,6 @@ impl<O: Held, S> Drop for ObjectInner<O, S> {
         if !self.slots.are_of_this_process() {
             self.epochs.forget();
             self.flights.forget();
-            self.weights.iter_mut().for_each(Weights::forget);
             return;
         }
         let listed = self.slots.in_turn(LISTS, || self.slots.call(Handle::try_entries));

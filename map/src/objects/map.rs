@@ -18,8 +18,7 @@ use std::sync::Arc;
 /// The map owns its keys and values. Each pair is an object on the heap, so a lookup follows a pointer, and a put allocates. A
 /// [`Map`](crate::Map) keeps small values that are `Copy` in its table instead.
 ///
-/// A full map evicts an entry for each new key: one that is new and was not used, or else roughly one that was not used lately
-/// ([`one_queue`](ObjectBuilder::one_queue) says how). If other threads disturb a call, it tries again, a bounded number of times. If all tries failed, a write returns an error and has changed nothing, and a put gives its key and value back.
+/// A full map evicts an entry for each new key: one that is new and was not used, or else roughly one that was not used lately. If other threads disturb a call, it tries again, a bounded number of times. If all tries failed, a write returns an error and has changed nothing, and a put gives its key and value back.
 ///
 /// Keys are compared. Of two keys with the same 64-bit hash the map holds the one that was put last. A lookup of the other is a miss, and a
 /// removal of the other removes nothing.

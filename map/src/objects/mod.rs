@@ -7,13 +7,13 @@ mod change;
 mod compute;
 mod epochs;
 mod error;
+mod evict;
 mod inner;
 mod look;
 mod map;
 mod object;
 mod pinned;
 mod put;
-mod queues;
 mod remove;
 mod sweep;
 mod weights;
@@ -26,11 +26,10 @@ pub use error::{AbsentError, IfError, Refused};
 pub use look::Look;
 pub use map::ObjectMap;
 pub use put::Put;
-pub use queues::{Cursor, Line, Queued, Queues};
 
 #[cfg(test)]
 pub(crate) use epochs::{Epochs, BATCH};
 #[cfg(test)]
-pub(crate) use object::{Held, Object};
+pub(crate) use object::Held;
 #[cfg(test)]
 pub(crate) use pinned::{Over, State};

@@ -1,5 +1,4 @@
 //! What a map has on the heap for a key, and its address as the word of an entry.
-use super::queues::Line;
 use crate::clock::NEVER;
 use crate::generation::NONE;
 use std::borrow::Borrow;
@@ -52,30 +51,6 @@ pub(crate) unsafe trait Held: Sized {
     fn weight(&self) -> u64 {
         0
     }
-
-    /// A lookup has found it.
-    fn set_used(&self) {}
-
-    /// Whether a lookup has found it since this was called last.
-    fn take_used(&self) -> bool {
-        false
-    }
-
-    /// The queue that has its entry, in a map with a bound on the sum of weights.
-    fn line(&self) -> Line {
-        Line::Main
-    }
-
-    /// Notes the queue that gets its entry. None moves from the main queue to the small one.
-    fn set_line(&self, _: Line) {}
-
-    /// In a map with a bound on the number of objects, the moment of the put whose entry in a queue represents it. `None`: not noted so far.
-    fn entry(&self) -> Option<u64> {
-        None
-    }
-
-    /// Notes that, once, and the queue of the entry, and whether it is used. A use that another thread notes meanwhile may be lost.
-    fn set_entry(&self, _: u64, _: Line, _is_used: bool) {}
 }
 
 /// What may have a key of this kind.
@@ -97,27 +72,20 @@ pub(crate) struct Object<K, V> {
     deadline: AtomicU64,
     // When it expires if it is not used. Relaxed: as above.
     idle: AtomicU64,
-    // Its weight, which stays, `USED` and `IN_MAIN`. Relaxed: they say nothing of other memory. If objects are counted, it has the moment of its entry in
-    // place of the weight, or 0 before that is noted.
-    weight: AtomicU64,
+    weight: u64,
     generation: AtomicU64,
     pub value: V,
 }
 
-const USED: u64 = 1 << 63;
-
-// Its entry is in the main queue. The weights of all objects are below it, and so are all moments.
-const IN_MAIN: u64 = 1 << 62;
-
 impl<K, V> Object<K, V> {
     pub fn new(key: K, value: V, generation: u64, deadline: u64, idle: u64) -> Box<Object<K, V>> {
-        let [deadline, idle, weight, generation] = [deadline, idle, 0, generation].map(AtomicU64::new);
-        Box::new(Object { key, deadline, idle, weight, generation, value })
+        let [deadline, idle, generation] = [deadline, idle, generation].map(AtomicU64::new);
+        Box::new(Object { key, deadline, idle, weight: 0, generation, value })
     }
 
     /// Before it is put.
     pub fn set_weight(&mut self, weight: u64) {
-        *self.weight.get_mut() = weight.min(IN_MAIN - 1);
+        self.weight = weight;
     }
 }
 
@@ -163,42 +131,7 @@ unsafe impl<K, V> Held for Object<K, V> {
     }
 
     fn weight(&self) -> u64 {
-        self.weight.load(Relaxed) & (IN_MAIN - 1)
-    }
-
-    // Most lookups find it set, and write nothing that other threads read.
-    fn set_used(&self) {
-        if self.weight.load(Relaxed) & USED == 0 {
-            self.weight.fetch_or(USED, Relaxed);
-        }
-    }
-
-    fn take_used(&self) -> bool {
-        self.weight.fetch_and(!USED, Relaxed) & USED != 0
-    }
-
-    fn line(&self) -> Line {
-        if self.weight.load(Relaxed) & IN_MAIN == 0 {
-            Line::Small
-        } else {
-            Line::Main
-        }
-    }
-
-    fn set_line(&self, line: Line) {
-        if line == Line::Main {
-            self.weight.fetch_or(IN_MAIN, Relaxed);
-        }
-    }
-
-    fn entry(&self) -> Option<u64> {
-        Some(self.weight()).filter(|entry| *entry != 0)
-    }
-
-    fn set_entry(&self, moment: u64, line: Line, is_used: bool) {
-        let line = if line == Line::Main { IN_MAIN } else { 0 };
-        let used = if is_used { USED } else { 0 };
-        self.weight.store(moment | line | used, Relaxed);
+        self.weight
     }
 }
 

@@ -5,12 +5,11 @@ use super::inner::{ObjectInner, HEARING, MOST_HEARING};
 use super::map::ObjectMap;
 use super::object::{Held, Keyed, Object};
 use super::pinned::{Over, Pinned, Seen};
-use super::queues::Queued;
-use super::weights::Place;
+use super::weights::Claim;
 use crate::error::InsertError;
 use crate::generation::NONE;
 use crate::map::Inserted;
-use cefrodil::{Entry, Handle, PutIfAbsentError, PutIfError, Replaced, Swapped, TurnError};
+use cefrodil::{Handle, PutIfAbsentError, PutIfError, Replaced, Swapped, TurnError};
 use std::hash::{BuildHasher, Hash};
 use std::sync::TryLockError;
 use std::time::Duration;
@@ -103,41 +102,22 @@ where
     }
 }
 
-/// A put that was made. `end` must follow, or the object that gave way is never freed.
-#[must_use]
+/// A put that was made.
 pub(crate) struct Done {
-    pub put: Put,
-    old: Option<Gone>,
-    /// Its place in a queue, in a map with a bound on weights.
-    pub queued: Option<Queued<Place>>,
-}
-
-/// What gave way to a put: the hash of its key, and its word.
-#[derive(Clone, Copy)]
-struct Gone {
-    hash: u64,
-    word: u64,
-    reason: Reason,
-}
-
-impl Gone {
-    fn of(old: Entry<1>, reason: Reason) -> Gone {
-        Gone { hash: old.key, word: old.value[0], reason }
-    }
+    put: Put,
+    /// The word of what gave way to it, and why. It is to be retired.
+    old: Option<(u64, Reason)>,
 }
 
 impl Done {
-    /// What the put has replaced: by the call that is pinned, so that it alone can retire it.
-    pub fn replaced<'a, O: Held, S>(&self, pinned: &'a Pinned<'_, O, S>) -> Option<&'a O> {
-        self.old.filter(|old| old.reason == Reason::Replaced).map(|old| pinned.object(old.word))
+    // What the put has replaced: by the call that is pinned, so that it alone can retire it.
+    fn replaced<'a, O: Held, S>(&self, pinned: &'a Pinned<'_, O, S>) -> Option<&'a O> {
+        self.old.filter(|(_, reason)| *reason == Reason::Replaced).map(|(word, _)| pinned.object(word))
     }
 }
 
 /// A put, or the object that comes back.
-pub(crate) type Offered<O> = Result<Done, (<O as Held>::Owner, Fail)>;
-
-/// The same, for this reason.
-type Ended<O, E> = Result<Put, (<O as Held>::Owner, E)>;
+pub(crate) type Offered<O, E = Fail> = Result<Put, (<O as Held>::Owner, E)>;
 
 /// Why no put was made.
 pub(crate) enum Fail {
@@ -150,6 +130,8 @@ pub(crate) enum Fail {
     Changed {
         since: u64,
     },
+    /// A write has detached the flight by which it was made.
+    Detached,
 }
 
 impl Fail {
@@ -169,20 +151,19 @@ impl Fail {
             Fail::Insert(InsertError::Spent) => IfError::Spent,
             Fail::Insert(InsertError::TooHeavy) => IfError::TooHeavy,
             Fail::Insert(InsertError::TooDeep) => IfError::TooDeep,
-            Fail::Insert(_) | Fail::Present => IfError::Held,
+            Fail::Insert(_) | Fail::Present | Fail::Detached => IfError::Held,
         }
     }
 }
 
 impl<O: Held, S> ObjectInner<O, S> {
     /// Puts the object, whatever there is. On failure it comes back: here and below.
-    pub fn put(&self, hash: u64, object: O::Owner) -> Ended<O, InsertError> {
+    pub fn put(&self, hash: u64, object: O::Owner) -> Offered<O, InsertError> {
         self.detach(hash);
-        match self.put_over(hash, object, Over::Any, self.tries) {
-            Ok(done) => Ok(self.end(done)),
-            Err((object, Fail::Insert(why))) => Err((object, why)),
-            Err(_) => unreachable!("this put does not ask what is there"),
-        }
+        self.put_over(hash, object, Over::Any, self.tries).map_err(|(object, why)| match why {
+            Fail::Insert(why) => (object, why),
+            _ => unreachable!("this put does not ask what is there"),
+        })
     }
 
     /// The same, in a map without flights. Then calls `see` with the object, and with the one that it has replaced. Both are pinned.
@@ -193,7 +174,7 @@ impl<O: Held, S> ObjectInner<O, S> {
         see: impl FnOnce(&O, Option<&O>) -> R,
     ) -> Result<(Put, R), (O::Owner, InsertError)> {
         let mut seen = None;
-        let offered = self.offer(hash, object, |word| {
+        let offered = self.offer(hash, object, self.tries, |word| {
             let put = self.in_pinned_turn(self.tries, || self.slots.call(|handle| handle.try_swap(hash, &[word])));
             let (swapped, pinned) = put.map_err(|why| Fail::Insert(InsertError::of(why)))?;
             let done = self.swapped(swapped);
@@ -201,14 +182,14 @@ impl<O: Held, S> ObjectInner<O, S> {
             Ok(done)
         });
         match (offered, seen) {
-            (Ok(done), Some(seen)) => Ok((self.end(done), seen)),
+            (Ok(put), Some(seen)) => Ok((put, seen)),
             (Err((object, Fail::Insert(why))), _) => Err((object, why)),
             _ => unreachable!("this put does not ask what is there"),
         }
     }
 
     /// Puts the object if its key is absent, or has expired.
-    pub fn put_new<Q: ?Sized>(&self, hash: u64, mut object: O::Owner, key: impl Fn(&O::Owner) -> &Q) -> Ended<O, AbsentError>
+    pub fn put_new<Q: ?Sized>(&self, hash: u64, mut object: O::Owner, key: impl Fn(&O::Owner) -> &Q) -> Offered<O, AbsentError>
     where
         O: Keyed<Q>,
     {
@@ -224,7 +205,7 @@ impl<O: Held, S> ObjectInner<O, S> {
             };
             self.detach(hash);
             match self.put_over(hash, object, over, self.tries) {
-                Ok(done) => return Ok(self.end(done)),
+                Ok(put) => return Ok(put),
                 Err((back, Fail::Insert(why))) => return Err((back, why.into())),
                 Err((back, _)) => object = back,
             }
@@ -233,56 +214,70 @@ impl<O: Held, S> ObjectInner<O, S> {
     }
 
     /// Puts the object if its key was put at this moment.
-    pub fn replace(&self, hash: u64, since: u64, object: O::Owner) -> Ended<O, IfError> {
+    pub fn replace(&self, hash: u64, since: u64, object: O::Owner) -> Offered<O, IfError> {
         self.detach(hash);
-        match self.put_over(hash, object, Over::At(since), self.tries) {
-            Ok(done) => Ok(self.end(done)),
-            Err((object, why)) => Err((object, why.of_moment())),
-        }
+        self.put_over(hash, object, Over::At(since), self.tries).map_err(|(object, why)| (object, why.of_moment()))
     }
 
     /// Puts the object over what is there now.
     pub fn put_over(&self, hash: u64, object: O::Owner, over: Over, tries: u32) -> Offered<O> {
-        self.offer(hash, object, |word| match over {
-            Over::Any => self.put_any(hash, word, tries),
-            Over::Absent => self.put_absent(hash, word, tries, None),
-            Over::AbsentIn(generation) => self.put_absent(hash, word, tries, Some(generation)),
-            Over::At(since) => self.put_at(hash, word, since, tries),
-        })
+        self.offer(hash, object, tries, |word| self.put_word(hash, word, over, tries))
     }
 
     /// Like `put_over`, over an object that was seen, whose deadline the new one keeps. The lock keeps renewals from coming between.
-    pub fn put_over_seen(&self, pinned: &Pinned<O, S>, hash: u64, object: O::Owner, seen: Seen<O>) -> Offered<O> {
-        self.offer(hash, object, |word| {
-            let put = self.in_pinned_turn(self.tries, || {
+    pub fn put_over_seen(&self, hash: u64, object: O::Owner, seen: Seen<O>) -> Offered<O> {
+        self.offer(hash, object, self.tries, |word| {
+            let replaced = self.try_to_put(word, self.tries, |object| {
                 self.in_stripe(hash, |handle| {
-                    pinned.object(word).set_deadline(seen.object.deadline());
+                    object.set_deadline(seen.object.deadline());
                     handle.try_swap_if(hash, seen.since, &[word])
                 })
             });
-            let (replaced, pinned) = put.map_err(Fail::of_condition)?;
-            Ok(self.queued(hash, word, self.replaced(replaced), pinned))
+            Ok(self.replaced(replaced.map_err(Fail::of_condition)?))
         })
     }
 
-    // `put` puts the word, as the last that it does with it, unless it fails.
-    fn offer(&self, hash: u64, object: O::Owner, put: impl FnOnce(u64) -> Result<Done, Fail>) -> Offered<O> {
-        if self.listener.is_some() && HEARING.get() >= MOST_HEARING {
-            return Err((object, Fail::Insert(InsertError::TooDeep)));
-        }
-        let (weight, part) = (object.weight(), self.part(hash));
-        if part.is_some_and(|part| !part.take(weight)) {
-            return Err((object, Fail::Insert(InsertError::TooHeavy)));
-        }
+    /// Puts the object by `put`, if there is room for its weight. `put` puts the word, as the last that it does with it, unless it fails.
+    pub fn offer(&self, hash: u64, object: O::Owner, tries: u32, put: impl FnOnce(u64) -> Result<Done, Fail>) -> Offered<O> {
+        let (claim, has_evicted) = match self.admit(hash, &object, tries) {
+            Ok(admitted) => admitted,
+            Err(why) => return Err((object, Fail::Insert(why))),
+        };
         let word = O::into_word(object);
-        put(word).map_err(|why| {
-            if let Some(part) = part {
-                part.give_back(weight);
+        match put(word) {
+            Ok(done) => {
+                claim.keep();
+                Ok(self.end(hash, done, has_evicted, tries))
             }
             // SAFETY: `into_word` made the word of this very object. A call of the index that returns an error has put nothing, and each `put`
             // here fails only if its last call did. So no other thread has seen the word.
-            (unsafe { O::of_word(word) }, why)
-        })
+            Err(why) => Err((unsafe { O::of_word(word) }, why)),
+        }
+    }
+
+    // Counts the weight of an object that is about to be put, and makes room for it. Returns whether others gave way.
+    fn admit(&self, hash: u64, object: &O, tries: u32) -> Result<(Claim<'_, O>, bool), InsertError> {
+        if self.listener.is_some() && HEARING.get() >= MOST_HEARING {
+            return Err(InsertError::TooDeep);
+        }
+        let claim = Claim::of(self.weights.as_ref(), object.weight()).ok_or(InsertError::TooHeavy)?;
+        let has_evicted = self.is_too_heavy() && self.make_room(hash, tries).map_err(InsertError::of_eviction)?;
+        Ok((claim, has_evicted))
+    }
+
+    // Ends a put: what gave way is retired. Others give way if they weigh too much with what was put over an object.
+    fn end(&self, hash: u64, Done { mut put, old }: Done, has_evicted: bool, tries: u32) -> Put {
+        if let Some((word, reason)) = old {
+            self.leaving(word).tell(reason);
+        }
+        if self.is_too_heavy() {
+            // First those of another shard, if there is one: the object may be alone in its own. If there is no turn, the next put does this.
+            let _ = self.evict_to_bound(!hash, tries);
+        }
+        if has_evicted && put.did == Inserted::New {
+            put.did = Inserted::Evicted;
+        }
+        put
     }
 
     // Like `Slots::in_turn`. The try that succeeds was pinned before it, and stays so. It isn't pinned while it waits for the turn.
@@ -297,16 +292,43 @@ impl<O: Held, S> ObjectInner<O, S> {
         })
     }
 
-    fn put_any(&self, hash: u64, word: u64, tries: u32) -> Result<Done, Fail> {
-        let put = self.in_pinned_turn(tries, || self.slots.call(|handle| handle.try_swap(hash, &[word])));
-        let (swapped, pinned) = put.map_err(|why| Fail::Insert(InsertError::of(why)))?;
-        Ok(self.queued(hash, word, self.swapped(swapped), pinned))
+    // Puts an object by `put`. That takes effect now at the latest, so the object gets the generation of now.
+    fn try_to_put<T, E>(
+        &self,
+        word: u64,
+        tries: u32,
+        mut put: impl FnMut(&O) -> Result<T, TurnError<E>>,
+    ) -> Result<T, TurnError<E>> {
+        self.slots.in_turn(tries, || {
+            let pinned = self.pin();
+            let object = pinned.object(word);
+            let put = put(object)?;
+            object.enter(self.generation.now());
+            Ok(put)
+        })
+    }
+
+    /// Puts a word over what is there now.
+    pub fn put_word(&self, hash: u64, word: u64, over: Over, tries: u32) -> Result<Done, Fail> {
+        match over {
+            Over::Any => {
+                let swapped = self.try_to_put(word, tries, |_| self.slots.call(|handle| handle.try_swap(hash, &[word])));
+                Ok(self.swapped(swapped.map_err(|why| Fail::Insert(InsertError::of(why)))?))
+            }
+            Over::Absent => self.put_absent(hash, word, tries, None),
+            Over::AbsentIn(generation) => self.put_absent(hash, word, tries, Some(generation)),
+            Over::At(since) => {
+                let replaced =
+                    self.try_to_put(word, tries, |_| self.slots.call(|handle| handle.try_swap_if(hash, since, &[word])));
+                Ok(self.replaced(replaced.map_err(Fail::of_condition)?))
+            }
+        }
     }
 
     // With the lock, nothing that has ended is taken out meanwhile. So the key has had no object since the look at the generation, or it was evicted.
     fn put_absent(&self, hash: u64, word: u64, tries: u32, made_in: Option<u64>) -> Result<Done, Fail> {
         let swap = |handle: &mut Handle<1>| handle.try_swap_if_absent(hash, &[word]);
-        let put = self.in_pinned_turn(tries, || match made_in {
+        let swapped = self.try_to_put(word, tries, |_| match made_in {
             None => self.slots.call(swap),
             Some(generation) => self.in_stripe(hash, |handle| {
                 if self.generation.now() == generation {
@@ -316,7 +338,7 @@ impl<O: Held, S> ObjectInner<O, S> {
                 }
             }),
         });
-        put.map(|(swapped, pinned)| self.queued(hash, word, self.swapped(swapped), pinned)).map_err(|why| match why {
+        swapped.map(|swapped| self.swapped(swapped)).map_err(|why| match why {
             TurnError::Held => Fail::Insert(InsertError::Held),
             TurnError::Call(PutIfAbsentError::Present { .. }) => Fail::Present,
             TurnError::Call(PutIfAbsentError::Put(why)) => Fail::Insert(InsertError::of(TurnError::Call(why))),
@@ -324,16 +346,10 @@ impl<O: Held, S> ObjectInner<O, S> {
         })
     }
 
-    fn put_at(&self, hash: u64, word: u64, since: u64, tries: u32) -> Result<Done, Fail> {
-        let put = self.in_pinned_turn(tries, || self.slots.call(|handle| handle.try_swap_if(hash, since, &[word])));
-        let (replaced, pinned) = put.map_err(Fail::of_condition)?;
-        Ok(self.queued(hash, word, self.replaced(replaced), pinned))
-    }
-
     fn replaced(&self, Replaced { at, old }: Replaced<1>) -> Done {
         self.slots.count_put(Inserted::Renewed);
         let put = Put { did: Inserted::Renewed, at };
-        Done { put, old: Some(Gone::of(old, Reason::Replaced)), queued: None }
+        Done { put, old: Some((old.value[0], Reason::Replaced)) }
     }
 
     /// Makes a call while no other thread makes one for a key of the same stripe.
@@ -355,23 +371,7 @@ impl<O: Held, S> ObjectInner<O, S> {
         let (at, did) = (put.at(), Inserted::of(put));
         self.slots.count_put(did);
         let reason = if let Inserted::Evicted = did { Reason::Evicted } else { Reason::Replaced };
-        Done { put: Put { did, at }, old: old.map(|old| Gone::of(old, reason)), queued: None }
-    }
-
-    /// Ends a put: what gave way is retired. Others give way if there are too many, or if all weigh too much.
-    pub fn end(&self, Done { mut put, old, queued }: Done) -> Put {
-        // First: the listener may panic.
-        if let Some(queued) = queued {
-            self.enqueue(queued);
-        }
-        if let Some(Gone { hash, word, reason }) = old {
-            self.left(hash, word, reason);
-        }
-        let has_evicted = queued.is_some_and(|queued| self.evict_to_bound(queued.entry));
-        if has_evicted && put.did == Inserted::New {
-            put.did = Inserted::Evicted;
-        }
-        put
+        Done { put: Put { did, at }, old: old.map(|old| (old.value[0], reason)) }
     }
 }
 

@@ -99,8 +99,8 @@ impl<O: Held, S> ObjectInner<O, S> {
             Reason::Expired => self.in_stripe(hash, take),
             _ => self.slots.call(take),
         })?;
-        self.slots.count(if reason == Reason::Evicted { Kind::Evicted } else { Kind::Removed });
-        self.left(hash, taken.old.value[0], reason);
+        self.slots.count(Kind::Removed);
+        self.leaving(taken.old.value[0]).tell(reason);
         Ok(taken.at)
     }
 

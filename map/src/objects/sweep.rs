@@ -1,6 +1,8 @@
 //! Calls for all objects.
 use super::builder::Reason;
+use super::inner::ObjectInner;
 use super::map::ObjectMap;
+use super::object::Held;
 use crate::error::ClearError;
 use crate::stats::Kind;
 use crate::wait::LISTS;
@@ -72,7 +74,7 @@ impl<K, V, S> ObjectMap<K, V, S> {
     /// [`ClearError`]: `look` was not called.
     pub fn for_each(&self, mut look: impl FnMut(&K, &V)) -> Result<(), ClearError> {
         let pinned = self.inner.pin();
-        let entries = self.list()?;
+        let entries = self.inner.list()?;
         entries.iter().filter_map(|(_, [word])| pinned.live_object(*word)).for_each(|object| look(&object.key, &object.value));
         Ok(())
     }
@@ -80,11 +82,11 @@ impl<K, V, S> ObjectMap<K, V, S> {
     fn clear_all(&self) -> Result<(), ClearError> {
         let inner = &self.inner;
         inner.flights.detach_all();
-        for (hash, _) in self.list()? {
+        for (hash, _) in inner.list()? {
             let taken = inner.slots.in_turn(inner.tries, || inner.slots.call(|handle| handle.try_take(hash)));
             if let Take::Taken { old, .. } = taken.map_err(ClearError::of_removal)? {
                 inner.slots.count(Kind::Removed);
-                inner.left(hash, old.value[0], Reason::Removed);
+                inner.leaving(old.value[0]).tell(Reason::Removed);
             }
         }
         Ok(())
@@ -94,7 +96,7 @@ impl<K, V, S> ObjectMap<K, V, S> {
         let inner = &self.inner;
         let pinned = inner.pin();
         let mut removed = 0;
-        for (hash, [word]) in self.list()? {
+        for (hash, [word]) in inner.list()? {
             if !pinned.has_expired(word) {
                 continue;
             }
@@ -112,8 +114,11 @@ impl<K, V, S> ObjectMap<K, V, S> {
         }
         Ok(removed)
     }
+}
 
-    fn list(&self) -> Result<Vec<(u64, [u64; 1])>, ClearError> {
-        self.inner.slots.in_turn(LISTS, || self.inner.slots.call(Handle::try_entries)).map_err(ClearError::of_list)
+impl<O: Held, S> ObjectInner<O, S> {
+    /// The hashes and words of all entries.
+    pub fn list(&self) -> Result<Vec<(u64, [u64; 1])>, ClearError> {
+        self.slots.in_turn(LISTS, || self.slots.call(Handle::try_entries)).map_err(ClearError::of_list)
     }
 }

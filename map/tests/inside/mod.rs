@@ -41,12 +41,12 @@ mod waiting;
 mod waits;
 
 use crate::slots::Slots;
-use cefrodil::{Handle, Policy, Shape, Writing};
+use cefrodil::{Handle, Shape, Writing};
 use std::sync::Arc;
 
 // The shape of a map of one shard with places for so many entries.
 fn one_shard(items: u32) -> Shape {
-    Shape { policy: Policy::Clock, ..Shape::for_items(items, 1).unwrap() }
+    Shape::for_items(items, 1).unwrap()
 }
 
 // Holds every turn, as another thread's handle does, until it is dropped.

@@ -1,6 +1,6 @@
 //! What a shard is opened with.
 use crate::settings::Settings;
-use cefrodil::{Mix, Policy, Shape};
+use cefrodil::{Mix, Shape};
 use std::collections::hash_map::RandomState;
 
 #[test]
@@ -43,31 +43,10 @@ fn small_shards_have_more_buckets() {
     }
 }
 
-#[test]
-fn both_tables_go_by_clock() {
-    let settings = Settings::new(5_000);
-    let policies = [settings.shape(), settings.small_shape()].map(|made| made.unwrap().0.policy);
-    assert_eq!(policies, [Policy::Clock; 2]);
-}
-
 // The index mixes the bits of a hasher of the user's alone.
 #[test]
 fn a_hasher_of_the_users_changes_the_mix_alone() {
     let (plain, shards) = Settings::new(5_000).shape().unwrap();
     let (mixed, same) = Settings::new(5_000).hasher(RandomState::new()).shape().unwrap();
     assert_eq!((plain.mix, mixed, same), (Mix::None, Shape { mix: Mix::Full, ..plain }, shards));
-}
-
-#[cfg(feature = "objects")]
-#[test]
-fn there_is_room_for_puts_that_run_unless_the_map_would_be_too_large() {
-    let items = |capacity, room: bool| {
-        let mut settings = Settings::new(capacity);
-        (settings.shards, settings.threads) = (Some(1), 9);
-        let shape = if room { settings.shape_with_room() } else { settings.shape() };
-        shape.map(|(shape, _)| shape.items)
-    };
-    assert_eq!((items(1_000, true), items(1_000, false)), (Ok(1_010), Ok(1_000)));
-    assert_eq!((items(3_774_873, true), items(3_774_873, false)), (Ok(3_774_873), Ok(3_774_873)));
-    assert!(items(0, true).is_err() && items(3_774_874, true).is_err());
 }

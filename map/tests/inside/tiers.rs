@@ -1,9 +1,9 @@
 //! A small table before the main one: which keys go where, and what both tables have.
-use super::one_shard;
 use super::turns::{before_calls, calls, Turn};
 use crate::handle::AnyHandle;
 use crate::small_handle::SmallHandle;
 use crate::{InsertError, Inserted, Map, RemoveError, UpdateError};
+use cefrodil::{Policy, Shape};
 use std::collections::HashMap;
 use std::hash::{BuildHasherDefault, Hasher};
 use std::ptr;
@@ -25,7 +25,8 @@ fn open() -> Numbers {
 // As `open`, with a handle of their own for so many threads.
 pub fn open_for(threads: usize) -> Numbers {
     let map = Map::builder(40).time_to_live(Duration::MAX).threads(threads);
-    let map = map.open_shaped(&one_shard(36), 1, TRIES).unwrap();
+    let shape = Shape { policy: Policy::Clock, ..Shape::for_items(36, 1).unwrap() };
+    let map = map.open_shaped(&shape, 1, TRIES).unwrap();
     (1_000..1_037).for_each(|key| _ = map.insert(&key, 0).unwrap());
     assert_eq!((map.len(), map.stats().evicted), (36, 1));
     map

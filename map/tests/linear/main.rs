@@ -25,13 +25,12 @@ fn calls_at_once_come_to_what_an_order_of_them_does() {
     let values = || Map::<u64, u64>::builder(1_000);
     let small = || Map::<u64, u64>::builder(100).shards(4);
     let objects = || ObjectMap::<u64, u64>::builder(1_000);
-    let kinds: [(&str, &dyn Calls); 7] = [
+    let kinds: [(&str, &dyn Calls); 6] = [
         ("values in one table", &values::plain(values().one_table().open().unwrap())),
         ("values with lives in one table", &values::timed(values().one_table().time_to_live(whole).open().unwrap())),
         ("values in two tables", &values::full(small().open().unwrap())),
         ("values with lives in two tables", &values::full_timed(small().time_to_live(whole).time_to_idle(whole).open().unwrap())),
         ("objects", &objects::plain(objects().open().unwrap())),
-        ("objects in one queue", &objects::plain(objects().one_queue().open().unwrap())),
         (
             "objects with lives and weights",
             &objects::timed(objects().time_to_live(whole).max_weight(1_000, |_, _| 1).open().unwrap()),

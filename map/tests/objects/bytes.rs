@@ -211,6 +211,63 @@ fn a_block_that_is_evicted_is_not_replaced() {
 }
 
 #[test]
+fn an_eviction_shows_the_block_that_gives_way() {
+    let heard = Arc::new(AtomicU64::new(0));
+    let hears = Arc::clone(&heard);
+    let map = BytesMap::<Counted>::builder(1_000)
+        .shards(8)
+        .threads(1)
+        .listener(move |bytes, reason| {
+            assert_eq!(reason, Reason::Evicted);
+            hears.fetch_add(bytes.number, SeqCst);
+        })
+        .open()
+        .unwrap();
+    assert!(map.evict(7, |_, _| ()).unwrap().is_none());
+    let since = map.put(make(1, 10)).unwrap().at;
+    let seen = map.evict(0, |block, at| {
+        // It has left the map, and is not freed.
+        map.look(b"1", |look| assert!(matches!(look, Ok(Look::Absent { .. }))));
+        (2..50).for_each(|key| done(map.put(make(key, 0)).unwrap()));
+        assert!(heard.load(SeqCst) == 0 && map.free_unused() == 0);
+        check(1, block);
+        (block.number, at)
+    });
+    assert_eq!((seen, heard.load(SeqCst), map.len(), map.stats().evicted), (Ok(Some((10, since + 1))), 10, 48, 1));
+    assert_eq!(map.free_unused(), 0);
+    // Those that are used stay longest, whatever shard the hash is of.
+    (2..10).for_each(|key| map.look(key.to_string().as_bytes(), |look| assert!(look.is_ok())));
+    let mut left = (0..48).map(|_| map.evict(1, |block, _| block.key().to_vec()).unwrap().unwrap()).collect::<Vec<_>>();
+    assert!(map.is_empty() && map.evict(1, |_, _| ()).unwrap().is_none());
+    left.sort();
+    left.dedup();
+    assert_eq!(left.len(), 48);
+}
+
+#[test]
+fn a_full_shard_evicts_what_was_not_used() {
+    let map = BytesMap::<Counted>::builder(100).shards(1).threads(1).open().unwrap();
+    (0..50).for_each(|key| done(map.put(make(key, 0)).unwrap()));
+    (0..40).for_each(|key: u64| map.look(key.to_string().as_bytes(), |look| assert!(look.is_ok())));
+    let mut left: Vec<_> = (0..10).map(|_| map.evict(0, |block, _| block.key().to_vec()).unwrap().unwrap()).collect();
+    left.sort();
+    assert_eq!(left, (40..50).map(|key| key.to_string().into_bytes()).collect::<Vec<_>>());
+}
+
+#[test]
+fn all_hashes_are_listed() {
+    let map = BytesMap::<Counted>::builder(1_000).shards(4).threads(1).open().unwrap();
+    assert_eq!(map.hashes(), Ok(vec![]));
+    let mut expected: Vec<u64> = (0..300).map(|key: u64| map.hash_of(key.to_string().as_bytes())).collect();
+    (0..300).for_each(|key| done(map.put(make(key, 0)).unwrap()));
+    let mut listed = map.hashes().unwrap();
+    assert!(listed.capacity() == 300);
+    expected.sort_unstable();
+    listed.sort_unstable();
+    assert_eq!(listed, expected);
+}
+
+#[test]
 fn a_key_is_not_taken_for_another_one_with_its_hash() {
     let map = BytesMap::<Counted>::builder(100).threads(1).hasher(BuildHasherDefault::<Same>::default()).open().unwrap();
     let at = map.put(make(1, 10)).unwrap().at;

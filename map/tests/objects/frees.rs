@@ -69,21 +69,13 @@ fn leave(map: &Values, ledger: &'static Ledger, way: usize) {
     }
 }
 
-const WAYS: usize = 10;
-
-// In the last way the index evicts it, and before that the queues.
-fn open_for(threads: usize, way: usize) -> Values {
-    if way + 1 < WAYS {
-        return open(threads);
-    }
-    ObjectMap::builder(100).shards(1).threads(threads).one_queue().open().unwrap()
-}
+const WAYS: usize = 9;
 
 #[test]
 fn an_object_stays_while_the_same_thread_uses_it() {
     for threads in [0, 1] {
         for way in 0..WAYS {
-            let (map, ledger) = (open_for(threads, way), Ledger::new(2_000));
+            let (map, ledger) = (open(threads), Ledger::new(2_000));
             map.insert(1, ledger.make(1)).unwrap();
             map.get_with(&1, |value| {
                 leave(&map, ledger, way);
@@ -104,7 +96,7 @@ fn an_object_stays_while_the_same_thread_uses_it() {
 fn an_object_stays_while_another_thread_uses_it() {
     for threads in [0, 1, 2] {
         for way in 0..WAYS {
-            let (map, ledger) = (open_for(threads, way), Ledger::new(2_000));
+            let (map, ledger) = (open(threads), Ledger::new(2_000));
             map.insert(1, ledger.make(1)).unwrap();
             let holder = Holder::begin(&map, 1);
             leave(&map, ledger, way);

@@ -17,9 +17,8 @@ fn maps() -> Vec<Numbers> {
     let builder = || Numbers::builder(1_000);
     vec![
         builder().open().unwrap(),
-        builder().one_queue().open().unwrap(),
         builder().max_weight(1_000, |_, _| 1).open().unwrap(),
-        builder().one_queue().time_to_live(Duration::MAX).open().unwrap(),
+        builder().time_to_live(Duration::MAX).open().unwrap(),
         builder().time_to_live(Duration::from_secs(1_000)).time_to_idle(Duration::from_secs(1_000)).open().unwrap(),
     ]
 }
@@ -79,18 +78,6 @@ fn a_token_of_before_replaces_nothing() {
         let since = map.put(1, 12, None).unwrap().at;
         assert!(map.replace_if(1, since, 13, None).is_ok());
         assert_eq!(map.get(&1), Some(13));
-    }
-}
-
-// Also if they were used.
-#[test]
-fn older_objects_give_way_first() {
-    let builder = || Numbers::builder(KEYS as usize).shards(1);
-    for map in [builder().open().unwrap(), builder().max_weight(KEYS, |_, _| 1).open().unwrap()] {
-        (0..KEYS / 2).for_each(|key| assert!(map.insert(key, key).is_ok() && map.contains_key(&key)));
-        map.invalidate_all();
-        (KEYS / 2..KEYS + 5).for_each(|key| assert!(map.insert(key, key).is_ok()));
-        assert!((KEYS / 2..KEYS + 5).all(|key| map.peek(&key) == Ok(Some(key))));
     }
 }
 

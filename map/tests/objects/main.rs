@@ -2,7 +2,6 @@
 mod boards;
 mod bytes;
 mod collisions;
-mod counted;
 mod each;
 #[path = "../ends/mod.rs"]
 mod ends;
@@ -10,6 +9,7 @@ mod ends;
 mod executor;
 mod fills;
 mod frees;
+mod full;
 mod generations;
 mod handles;
 mod ledger;
@@ -19,8 +19,6 @@ mod loads;
 mod model;
 mod panics;
 mod published;
-mod queues;
-mod small_queue;
 mod stamps;
 mod texts;
 mod threads;

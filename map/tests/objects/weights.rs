@@ -1,6 +1,9 @@
 //! A bound on the sum of what the entries weigh.
 use crate::ends::ends;
+use crate::ledger::done;
 use cefrodil_map::{AbsentError, IfError, InsertError, Inserted, ObjectMap, Reason, UpdateError};
+use std::hash::{BuildHasher, RandomState};
+use std::ops::Range;
 use std::panic::{catch_unwind, AssertUnwindSafe};
 use std::sync::atomic::{AtomicBool, AtomicU64, Ordering::SeqCst};
 use std::sync::{Arc, Mutex};
@@ -13,7 +16,7 @@ const MOST: u64 = 100;
 
 // A value is its weight.
 fn open() -> Numbers {
-    ObjectMap::builder(1_000).max_weight(MOST, |_, value| *value).open().unwrap()
+    ObjectMap::builder(1_000).shards(1).max_weight(MOST, |_, value| *value).open().unwrap()
 }
 
 fn sum(map: &Numbers) -> u64 {
@@ -28,10 +31,6 @@ fn put_all(map: &Numbers, keys: impl Iterator<Item = u64>, weight: u64) {
     }
 }
 
-fn use_all(map: &Numbers) {
-    keys(map).iter().for_each(|key| assert!(map.get(key).is_some()));
-}
-
 fn keys(map: &Numbers) -> Vec<u64> {
     let mut keys = Vec::new();
     map.for_each(|key, _| keys.push(*key)).unwrap();
@@ -40,34 +39,99 @@ fn keys(map: &Numbers) -> Vec<u64> {
 }
 
 #[test]
-fn those_give_way_that_were_put_first_and_not_used() {
+fn those_give_way_that_were_not_used() {
     let map = open();
     for key in 0..10 {
         assert_eq!(map.insert(key, 10).unwrap(), Inserted::New);
     }
     assert_eq!((map.weight(), map.len(), map.stats().evicted), (100, 10, 0));
-    assert_eq!((map.get(&0), map.get(&2), map.peek(&1)), (Some(10), Some(10), Ok(Some(10))));
-    map.insert(10, 1).unwrap();
-    assert_eq!((keys(&map), map.weight()), (vec![0, 2, 3, 4, 5, 6, 7, 8, 9, 10], 91));
-    map.insert(11, 10).unwrap();
-    assert_eq!((keys(&map), map.weight()), (vec![0, 2, 4, 5, 6, 7, 8, 9, 10, 11], 91));
+    assert!((0..8).all(|key| map.get(&key) == Some(10)) && map.peek(&8) == Ok(Some(10)));
+    assert_eq!(map.insert(10, 15).unwrap(), Inserted::Evicted);
+    assert_eq!((keys(&map), map.weight()), (vec![0, 1, 2, 3, 4, 5, 6, 7, 10], 95));
+    assert_eq!((map.insert(11, 5).unwrap(), map.weight()), (Inserted::New, 100));
+    assert!(map.contains_key(&10) && map.contains_key(&11));
     // All that others leave, even if they were used.
-    use_all(&map);
     map.insert(12, 100).unwrap();
     assert_eq!((keys(&map), map.weight(), map.len()), (vec![12], 100, 1));
     let stats = map.stats();
     assert_eq!((stats.added, stats.evicted, stats.removed, stats.refused), (13, 12, 0, 0));
 }
 
+/// Popular keys, and scans of others.
+const POPULAR: Range<u64> = 0..50;
+
 #[test]
-fn a_use_counts_once() {
-    let map = ObjectMap::builder(1_000).max_weight(MOST, |_, value| *value).one_queue().open().unwrap();
-    put_all(&map, 0..10, 10);
-    assert_eq!(map.get(&0), Some(10));
-    // This takes the use of the first one, and evicts the second.
-    map.insert(10, 10).unwrap();
-    put_all(&map, 11..21, 10);
-    assert_eq!((keys(&map), map.weight()), ((11..21).collect(), 100));
+fn scans_evict_no_key_that_is_used_between() {
+    let map: Numbers = ObjectMap::builder(200).max_weight(200, |_, _| 1).open().unwrap();
+    put_all(&map, POPULAR, 1);
+    for scan in 1..20 {
+        assert!(POPULAR.clone().all(|key| map.contains_key(&key)), "before scan {scan}");
+        put_all(&map, scan * 1_000..scan * 1_000 + 400, 1);
+        assert_eq!(map.weight(), 200);
+    }
+}
+
+#[test]
+fn what_was_just_put_does_not_give_way_while_others_are_there() {
+    let map = open();
+    put_all(&map, [1, 2].into_iter(), 50);
+    assert!(map.contains_key(&1) && map.contains_key(&2));
+    map.insert(3, 15).unwrap();
+    assert_eq!((map.peek(&3), map.len(), map.weight()), (Ok(Some(15)), 2, 65));
+    map.insert(4, 60).unwrap();
+    assert_eq!((map.peek(&3), map.peek(&4), map.weight()), (Ok(None), Ok(Some(60)), 60));
+    // It is over the bound by itself for a moment, and no other has to give way.
+    map.insert(5, 40).unwrap();
+    map.insert(4, 55).unwrap();
+    assert_eq!((map.peek(&4), map.peek(&5)), (Ok(Some(55)), Ok(Some(40))));
+    map.insert(4, 65).unwrap();
+    assert_eq!((map.peek(&4), map.peek(&5), map.weight()), (Ok(Some(65)), Ok(None), 65));
+}
+
+// Each shard has an object at most. The object of another one gives way.
+#[test]
+fn an_object_gives_way_whatever_its_shard_is() {
+    for (shards, hashed) in [(1, false), (16, false), (256, false), (16, true), (256, true)] {
+        let builder = ObjectMap::<u64, u64>::builder(4_000).max_weight(MOST, |_, value| *value).shards(shards);
+        if hashed {
+            one_heavy_after_the_other(&builder.hasher(RandomState::new()).open().unwrap());
+        } else {
+            one_heavy_after_the_other(&builder.open().unwrap());
+        }
+    }
+}
+
+fn one_heavy_after_the_other<S: BuildHasher>(map: &ObjectMap<u64, u64, S>) {
+    for key in 0..300 {
+        map.insert(key, 60).unwrap();
+        assert_eq!((map.get(&key), map.len(), map.weight()), (Some(60), 1, 60));
+        map.update(key, |old| old.unwrap() + 30).unwrap();
+        assert_eq!((map.get(&key), map.len(), map.weight()), (Some(90), 1, 90));
+    }
+}
+
+#[test]
+fn a_bound_of_zero_holds_what_weighs_nothing() {
+    let map: Numbers = ObjectMap::builder(10).max_weight(0, |_, value| *value).open().unwrap();
+    assert_eq!(map.insert(1, 1).unwrap_err().why, InsertError::TooHeavy);
+    assert_eq!((map.insert(1, 0).unwrap(), map.get(&1), map.weight()), (Inserted::New, Some(0), 0));
+}
+
+#[test]
+fn weights_of_all_sizes_stay_within_the_bound() {
+    let map: Numbers = ObjectMap::builder(1_000).max_weight(200, |_, value| *value).open().unwrap();
+    let mut state = 1u64;
+    for _ in 0..50_000 {
+        state = state.wrapping_mul(6364136223846793005).wrapping_add(1442695040888963407);
+        let (key, weight) = (state >> 33 & 127, (state >> 40) % 60);
+        match state >> 61 {
+            0..=3 => done(map.insert(key, weight).unwrap()),
+            4 => done(map.remove(&key).unwrap()),
+            _ => done(map.get(&key)),
+        }
+        assert!(map.weight() <= 200);
+    }
+    assert_eq!(map.weight(), sum(&map));
 }
 
 #[test]
@@ -79,7 +143,8 @@ fn the_listener_hears_what_gives_way() {
         .listener(move |key, _, reason| hears.lock().unwrap().push((*key, reason)))
         .open()
         .unwrap();
-    for (key, weight) in [(1, 60), (2, 40), (2, 30), (3, 50)] {
+    map.insert(1, 60).unwrap();
+    for (key, weight) in [(2, 40), (2, 30), (3, 50)] {
         map.insert(key, weight).unwrap();
     }
     assert_eq!(*heard.lock().unwrap(), [(2, Reason::Replaced), (1, Reason::Evicted)]);
@@ -142,16 +207,22 @@ fn a_full_shard_evicts_as_well() {
     assert_eq!(map.weight(), sum(&map));
 }
 
+// The listener hears of what made room before the put, or of what the put has replaced.
 #[test]
-fn an_object_whose_put_woke_a_panic_gives_way_later() {
+fn a_put_that_woke_a_panic_leaves_the_sum_right() {
     let panics = Arc::new(AtomicBool::new(false));
     let is_to_panic = Arc::clone(&panics);
     let listener = move |_: &u64, _: &u64, _| assert!(!is_to_panic.swap(false, SeqCst), "as the test wants");
     let map = ObjectMap::builder(100).max_weight(MOST, |_: &u64, value: &u64| *value).listener(listener).open().unwrap();
     map.insert(1, 1).unwrap();
-    panics.store(true, SeqCst);
-    assert!(catch_unwind(AssertUnwindSafe(|| map.insert(1, 60))).is_err());
+    let put = |key, weight| {
+        panics.store(true, SeqCst);
+        assert!(catch_unwind(AssertUnwindSafe(|| map.insert(key, weight))).is_err());
+    };
+    put(1, 60);
     assert_eq!((map.get(&1), map.weight()), (Some(60), 60));
+    put(2, 50);
+    assert_eq!((keys(&map), map.weight()), (vec![], 0));
     map.insert(2, 100).unwrap();
     assert_eq!((keys(&map), map.weight()), (vec![2], 100));
 }

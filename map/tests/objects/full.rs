@@ -1,15 +1,13 @@
-//! The small queue of new keys in a map that bounds the number of its entries.
-use crate::ends::ends;
+//! A map of objects that is full.
 use crate::ledger::done;
 use cefrodil_map::{Inserted, ObjectBuilder, ObjectMap, Reason};
 use std::hash::{BuildHasherDefault, DefaultHasher};
 use std::ops::Range;
 use std::sync::atomic::{AtomicUsize, Ordering::SeqCst};
 use std::sync::Arc;
-use std::thread;
 use std::time::Duration;
 
-// The map forgets some keys that left, and takes some for others. With one hash for all runs these are always the same.
+// Which keys share a shard and a bucket depends on the hash. With one for all runs they are always the same.
 type Hashes = BuildHasherDefault<DefaultHasher>;
 
 type Numbers = ObjectMap<u64, u64, Hashes>;
@@ -43,21 +41,19 @@ fn after_scans(map: &Numbers) -> usize {
 #[test]
 fn scans_evict_no_key_that_is_used_between() {
     for shards in [1, 8] {
-        let builder = || builder(ENTRIES).shards(shards);
-        assert_eq!(after_scans(&builder().open().unwrap()), POPULAR.count());
-        assert!(after_scans(&builder().one_queue().open().unwrap()) < POPULAR.count() / 10);
+        assert_eq!(after_scans(&builder(ENTRIES).shards(shards).open().unwrap()), POPULAR.count());
     }
 }
 
 #[test]
-fn a_full_map_has_as_many_entries_as_were_asked_for() {
-    for (entries, shards, capacity) in [(1, 1, 1), (100, 1, 100), (1_000, 1, 1_000), (1_000, 8, 1_000), (1_003, 8, 1_008)] {
+fn a_full_map_has_as_many_entries_as_were_asked_for_or_more() {
+    for (entries, shards) in [(1, 1), (100, 1), (1_000, 1), (1_000, 8)] {
         let map = builder(entries).shards(shards).open().unwrap();
-        assert_eq!(map.capacity(), capacity);
+        assert!(map.capacity() == entries || map.capacity() > entries && shards > 1);
         put_all(&map, 0..entries as u64 / 2);
         assert_eq!((map.len(), map.stats().evicted), (entries / 2, 0));
         put_all(&map, 0..20 * entries as u64);
-        assert_eq!((map.len(), map.weight()), (capacity, 0));
+        assert_eq!((map.len(), map.weight()), (map.capacity(), 0));
     }
 }
 
@@ -66,6 +62,7 @@ fn an_insert_says_whether_another_key_was_evicted() {
     let evicted = Arc::new(AtomicUsize::new(0));
     let counts = Arc::clone(&evicted);
     let map = builder(100)
+        .shards(1)
         .listener(move |_, _, reason| {
             if reason == Reason::Evicted {
                 counts.fetch_add(1, SeqCst);
@@ -95,63 +92,8 @@ fn a_put_over_a_value_is_a_use() {
 }
 
 #[test]
-fn a_key_that_was_removed_and_put_again_is_new() {
-    let map = builder(100).shards(1).open().unwrap();
-    put_all(&map, 1_000..1_200);
-    // The older entry of each comes to the head of its queue before the newer one.
-    put_all(&map, 0..5);
-    (0..5).for_each(|key| done(map.remove(&key).unwrap().unwrap()));
-    put_all(&map, 2_000..2_010);
-    put_all(&map, 0..5);
-    put_all(&map, 3_000..3_004);
-    assert!((0..5).all(|key| map.peek(&key) == Ok(Some(key))));
-    put_all(&map, 4_000..4_020);
-    assert_eq!(((0..5).filter(|key| map.contains_key(key)).count(), map.len()), (0, 100));
-}
-
-const THREADS: u64 = 4;
-
-#[test]
-fn the_number_is_right_beside_other_threads() {
-    ends(put_and_remove);
-}
-
-// There may be an entry more for each put that runs, and never once all have returned.
-fn put_and_remove() {
-    let map = builder(200).shards(4).threads(THREADS as usize).open().unwrap();
-    thread::scope(|threads| {
-        for thread in 0..THREADS {
-            let map = &map;
-            threads.spawn(move || {
-                let mut state = thread + 1;
-                for _ in 0..10_000 {
-                    state = state.wrapping_mul(6364136223846793005).wrapping_add(1442695040888963407);
-                    let key = state >> 33 & 511;
-                    match state >> 61 {
-                        0 => done(map.remove(&key).unwrap()),
-                        1 => done(map.get(&key)),
-                        2 => done(map.update(key, |_| key).unwrap()),
-                        _ => done(map.insert(key, key).unwrap()),
-                    }
-                }
-            });
-        }
-    });
-    let mut there = 0;
-    map.for_each(|_, _| there += 1).unwrap();
-    assert_eq!((map.len(), there <= 200), (there, true), "{there}");
-    // Each object has an entry in a queue. So all of them give way to others that are used.
-    for key in 10_000..14_000 {
-        map.insert(key, key).unwrap();
-        assert_eq!(map.get(&key), Some(key));
-    }
-    let left = (0..512).filter(|key| map.contains_key(key)).count();
-    assert_eq!((left, map.len()), (0, 200));
-}
-
-#[test]
 fn what_had_expired_and_is_removed_makes_room() {
-    let map = ObjectMap::<u64, u64>::new(100).unwrap();
+    let map = builder(100).shards(1).open().unwrap();
     (0..80).for_each(|key| assert!(map.insert_for(key, 0, Duration::ZERO).is_ok()));
     assert_eq!(map.remove_expired(), Ok(80));
     (1_000..1_060).for_each(|key| assert!(map.insert(key, 1).is_ok()));
