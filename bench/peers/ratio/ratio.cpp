@@ -1,4 +1,4 @@
-// How many lookups find their key in a map of C++, for `bench/small_table.py`: the same work as in src/main.rs.
+// How many lookups find their key in a map of C++, for `bench/map_hits.py`: the same work as in src/main.rs.
 //
 // usage: ratio CAPACITY CACHE     CACHE: map; objects by their number; or weights by their weight. It prints a line of 0 and 1: which lookups hit.
 #include "cefrodil_object_map.hpp"
