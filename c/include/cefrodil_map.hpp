@@ -15,7 +15,7 @@
 // Entries that end after a time are for cefrodil_timed_map.hpp, and values of any type and size for cefrodil_object_map.hpp.
 //
 // Values are trivially copyable, without padding, up to 56 bytes. Keys that need no hash of yours are strings, integers, enums, pointers, and structs
-// without padding whose bytes are their value; cefrodil_hash.hpp says more. std::pair and std::tuple are not among them: write a struct.
+// without padding whose bytes are their value; cefrodil/inside/hash.hpp says more. std::pair and std::tuple are not among them: write a struct.
 //
 // This header is plain C++ and is not proved. The index below it is: a lookup of a 64-bit number returns what was put under it last, at one moment
 // of the call, and never parts of two values.
@@ -42,10 +42,10 @@
 #define CEFRODIL_MAP_HPP
 
 #include "cefrodil.hpp"
-#include "cefrodil_flights.hpp"
-#include "cefrodil_forks.hpp"
-#include "cefrodil_hash.hpp"
-#include "cefrodil_table.hpp"
+#include "cefrodil/inside/flights.hpp"
+#include "cefrodil/inside/forks.hpp"
+#include "cefrodil/inside/hash.hpp"
+#include "cefrodil/inside/table.hpp"
 #include <algorithm>
 #include <memory>
 #include <optional>
@@ -65,7 +65,7 @@ struct MapOptions {
                             // 1,000 times at most, which takes over a tenth of a second.
 };
 
-// The answers of lookups, updates and puts are `Found` and `Stored`, in cefrodil_table.hpp.
+// The answers of lookups, updates and puts are `Found` and `Stored`, in cefrodil/inside/table.hpp.
 
 // The answer of find_or_compute. `value` is always there. If the status is not ok, it says why the value was not put.
 template <class V> struct Computed {
@@ -294,7 +294,7 @@ template <class K, class V, class Hash = SipHash<K>, class Times = inside::Timel
     static_assert(!std::is_trivially_copyable_v<V> || is_small, "a map's value has up to 56 bytes");
     static_assert(!std::is_trivially_copyable_v<V> || !is_small || is_plain, "a timed_map's value has up to 40 bytes");
     static_assert(!is_plain || has_no_padding<V>,
-                  "a map's value has no padding: make the padding a member, or see has_no_padding in cefrodil_values.hpp");
+                  "a map's value has no padding: make the padding a member, or see has_no_padding in cefrodil/inside/values.hpp");
     static_assert(!is_plain || std::is_default_constructible_v<V>, "a map's value is default-constructible");
     static_assert(!is_plain || !std::is_default_constructible_v<V> || !has_no_padding<V> || is_map_value<V>,
                   "a map's value can be copied and assigned: it is no array, but may be a std::array, and is not const");

@@ -55,7 +55,7 @@
 #ifndef CEFRODIL_OBJECT_MAP_HPP
 #define CEFRODIL_OBJECT_MAP_HPP
 
-#include "cefrodil_keyed_objects.hpp"
+#include "cefrodil/inside/keyed_objects.hpp"
 #include "cefrodil_map.hpp"
 #include <algorithm>
 #include <array>

@@ -21,7 +21,7 @@
 #ifndef CEFRODIL_TIMED_MAP_HPP
 #define CEFRODIL_TIMED_MAP_HPP
 
-#include "cefrodil_lives.hpp"
+#include "cefrodil/inside/lives.hpp"
 #include "cefrodil_map.hpp"
 #include <algorithm>
 #include <array>
@@ -35,7 +35,7 @@ namespace cefrodil {
 
 namespace inside {
 
-// Entries end. This is what Timeless of cefrodil_times.hpp is for a map whose entries don't.
+// Entries end. This is what Timeless of cefrodil/inside/times.hpp is for a map whose entries don't.
 class Timed {
   public:
     static constexpr size_t moments = 2;

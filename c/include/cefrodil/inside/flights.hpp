@@ -1,11 +1,11 @@
 // Computations under way, for cefrodil_map.hpp: of several callers that miss a key, one computes its value, and the others wait for it. If the
 // key is changed meanwhile, the value may be older than the change, and is not put.
-#ifndef CEFRODIL_FLIGHTS_HPP
-#define CEFRODIL_FLIGHTS_HPP
+#ifndef CEFRODIL_INSIDE_FLIGHTS_HPP
+#define CEFRODIL_INSIDE_FLIGHTS_HPP
 
-#include "cefrodil_handle.hpp"
-#include "cefrodil_hash.hpp"
-#include "cefrodil_threads.hpp"
+#include "handle.hpp"
+#include "hash.hpp"
+#include "threads.hpp"
 #include <cstddef>
 #include <mutex>
 

@@ -1,10 +1,10 @@
 // The objects of a map by their keys, for cefrodil_object_map.hpp.
-#ifndef CEFRODIL_KEYED_OBJECTS_HPP
-#define CEFRODIL_KEYED_OBJECTS_HPP
+#ifndef CEFRODIL_INSIDE_KEYED_OBJECTS_HPP
+#define CEFRODIL_INSIDE_KEYED_OBJECTS_HPP
 
-#include "cefrodil_flights.hpp"
-#include "cefrodil_hash.hpp"
-#include "cefrodil_objects.hpp"
+#include "flights.hpp"
+#include "hash.hpp"
+#include "objects.hpp"
 #include <algorithm>
 #include <array>
 #include <chrono>

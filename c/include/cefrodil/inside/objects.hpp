@@ -1,11 +1,11 @@
 // The entries of a map of objects, for cefrodil_object_map.hpp: what the index has, and what has left it.
-#ifndef CEFRODIL_OBJECTS_HPP
-#define CEFRODIL_OBJECTS_HPP
+#ifndef CEFRODIL_INSIDE_OBJECTS_HPP
+#define CEFRODIL_INSIDE_OBJECTS_HPP
 
-#include "cefrodil_generations.hpp"
-#include "cefrodil_map.hpp"
-#include "cefrodil_object.hpp"
-#include "cefrodil_weights.hpp"
+#include "generations.hpp"
+#include "../../cefrodil_map.hpp"
+#include "object.hpp"
+#include "weights.hpp"
 #include <algorithm>
 #include <array>
 #include <atomic>

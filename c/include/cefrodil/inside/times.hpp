@@ -1,6 +1,6 @@
 // What a map whose entries don't end says of their times, for cefrodil_map.hpp. cefrodil_timed_map.hpp has the same for the other map.
-#ifndef CEFRODIL_TIMES_HPP
-#define CEFRODIL_TIMES_HPP
+#ifndef CEFRODIL_INSIDE_TIMES_HPP
+#define CEFRODIL_INSIDE_TIMES_HPP
 
 #include <array>
 #include <cstddef>
