@@ -1,4 +1,4 @@
-// How many lookups find their key in a map of C++, for `bench/small_table.py`: the same work as in src/main.rs.
+// How many lookups find their key in a map of C++, for `bench/map_hits.py`: the same work as in src/main.rs.
 //
 // usage: ratio CAPACITY CACHE     CACHE: map, or map+ with a small table; objects by their number with the index alone, or objects+; weights by their
 // weight with one ring, or weights+. It prints a line of 0 and 1: which lookups hit.

@@ -92,7 +92,7 @@ impl<O: Held, S> ObjectInner<O, S> {
     }
 
     /// Takes out the object under this hash if it was put at the moment `since`, and retires it. Returns the moment of the removal. What has expired
-    /// detaches no flight, so it is taken out with the lock of its stripe.
+    /// detaches no flight, so it is taken out with its key's lock.
     pub fn take_if(&self, hash: u64, since: u64, reason: Reason) -> Result<u64, TurnError<PutIfError>> {
         let take = |handle: &mut Handle<1>| handle.try_take_if(hash, since);
         let taken = self.core.slots.in_turn(self.core.tries, || match reason {

@@ -1,8 +1,8 @@
-//! How many lookups find their key in a cache, for `bench/small_table.py`. Standard input has the keys, as words of 64 bits. Each that is missed is
+//! How many lookups find their key in a cache, for `bench/map_hits.py`. Standard input has the keys, as words of 64 bits. Each that is missed is
 //! put.
 //!
-//! usage: ratio CAPACITY CACHE     CACHE: map; number, objects by their number; objects, by their weight; server with one queue, or server+. It prints a
-//! line of 0 and 1: which lookups hit.
+//! usage: ratio CAPACITY CACHE     CACHE: map; number, objects by their number; objects, by their weight; server. It prints a line of 0 and 1: which
+//! lookups hit.
 mod server;
 
 use cefrodil_map::{Map, ObjectMap};
@@ -59,12 +59,12 @@ fn objects(capacity: usize) -> Result<Box<dyn Cache>, Failure> {
 fn main() -> Result<(), Failure> {
     let words: Vec<_> = args().skip(1).collect();
     let [capacity, name] = &words[..] else { return Err("usage: ratio CAPACITY CACHE".into()) };
-    let (capacity, is_small) = (capacity.parse()?, name.ends_with('+'));
-    let mut cache = match name.trim_end_matches('+') {
+    let capacity = capacity.parse()?;
+    let mut cache = match name.as_str() {
         "map" => map(capacity)?,
         "number" => number(capacity)?,
         "objects" => objects(capacity)?,
-        "server" => server::open(capacity, is_small)?,
+        "server" => server::open(capacity)?,
         _ => return Err(format!("there is no cache {name}").into()),
     };
     let mut bytes = Vec::new();

@@ -38,9 +38,8 @@ impl Cache for Client {
 }
 
 /// A server that has room for so many items. Its index has room for more.
-pub fn open(capacity: usize, is_small: bool) -> Result<Box<dyn Cache>, Failure> {
-    let queues = if is_small { "" } else { " --one-queue" };
-    let words = format!("-t1 -n{}{queues}", 2 * capacity);
+pub fn open(capacity: usize) -> Result<Box<dyn Cache>, Failure> {
+    let words = format!("-t1 -n{}", 2 * capacity);
     let Asked::Serve(options) = parse(words.split(' ').map(str::to_owned))? else { return Err("no options".into()) };
     let room = Arc::new(Room::new(capacity as u64 * cost(BYTES, BYTES)));
     let index = Objects::open(options.items, 1, &room, None)?;
