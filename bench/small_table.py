@@ -22,9 +22,7 @@ from traces import cases, of_model, of_program
 
 # What each program calls its caches, and the table's heads.
 CACHES = {
-    'Rust': {'map': '`Map`', 'map+': '`Map`, small table', 'number': '`ObjectMap`, `one_queue`', 'number+': '`ObjectMap`',
-             'objects': 'by weights, `one_queue`', 'objects+': 'by weights',
-             'server': 'server, one queue', 'server+': 'server'},
+    'Rust': {'map': '`Map`', 'map+': '`Map`, small table', 'number': '`ObjectMap`', 'objects': 'by weights', 'server': 'server'},
     'C++': {'map': '`cefrodil::map`', 'map+': '`cefrodil::map`, small table', 'objects': '`object_map`, the index alone', 'objects+': '`object_map`',
             'weights': '`object_map` by weight, one ring', 'weights+': '`object_map` by weight'},
 }

@@ -183,7 +183,7 @@ impl Dialogue {
         let refuses = mem::take(&mut self.refuses_block) && input.len() < whole;
         if length > store.options.longest || refuses {
             let (count, why) = if refuses { (Count::NoMemory, Fault::NoRoom) } else { (Count::TooLarge, Fault::TooLong) };
-            store.counts.add(count);
+            store.books.counts.add(count);
             self.refuse(Refusal { text: store.refuse(order, why).text(), block: whole }, is_quiet, out);
             return Step(0, None);
         }
@@ -231,7 +231,7 @@ impl Dialogue {
             !out.is_full()
         };
         let looked = match keys.expiry {
-            Some(expiry) => store.look_and_touch(found, store.clock.deadline(expiry), each),
+            Some(expiry) => store.look_and_touch(found, store.books.clock.deadline(expiry), each),
             None => store.look(found, each),
         };
         if looked < batch.count {

@@ -28,12 +28,12 @@ impl Store {
     /// Looks at the next items, and removes those that are not live. If another worker is doing that, it does nothing.
     pub fn expire(&self) {
         let Ok(mut round) = self.round.try_lock() else { return };
-        let (now, mut looked, mut dead) = (self.clock.now(), 0, Vec::new());
+        let (now, mut looked, mut dead) = (self.books.clock.now(), 0, Vec::new());
         while looked < LOOKED_AT {
             looked += 1;
             let next = walk::look(round.position, |item| {
                 looked += 1;
-                if item.is_live(now, &self.flushes) {
+                if item.is_live(now, &self.books.flushes) {
                     round.oldest = Some(item.born().min(round.oldest.unwrap_or(u64::MAX)));
                 } else {
                     dead.push(self.index.hash_of(item.key()));
@@ -55,12 +55,16 @@ impl Store {
         let _lock = self.key_locks.lock(hash);
         let mut dead = None;
         self.index.peek(hash, &mut |seen| {
-            dead = seen.ok().flatten().map(|(item, token)| (token, self.leaving(item))).filter(|(_, leaving)| !leaving.is_live);
+            dead = seen
+                .ok()
+                .flatten()
+                .map(|(item, token)| (token, self.books.leaving(item)))
+                .filter(|(_, leaving)| !leaving.is_live);
         });
         let Some((token, leaving)) = dead else { return };
         if self.index.remove(hash, token).is_ok() {
-            self.counts.add(Count::Expired);
-            self.room.count_unfetched(leaving);
+            self.books.counts.add(Count::Expired);
+            self.books.count_unfetched(leaving);
         }
     }
 
@@ -72,10 +76,7 @@ impl Store {
     /// What a worker does each second, beside answering clients.
     pub fn tidy_up(&self) {
         self.expire();
-        self.tidy();
         self.seats.look();
-        if let Some(ceiling) = &self.ceiling {
-            ceiling.look(&self.room, self.seats.bytes(), 0);
-        }
+        self.books.budget.look(0);
     }
 }

@@ -60,17 +60,11 @@ pub trait Index: Send + Sync {
     /// Looks the keys up in order, and calls `each` with the position of each.
     fn look(&self, keys: &[&[u8]], each: &mut dyn FnMut(usize, Seen<'_>));
 
-    /// Looks up the item with this hash.
-    fn look_hash(&self, hash: u64, see: &mut dyn FnMut(Seen<'_>));
-
-    /// Looks up the items with these hashes in order, and calls `each` with the position of each.
-    fn look_hashes(&self, hashes: &[u64], each: &mut dyn FnMut(usize, Seen<'_>));
-
-    /// Looks up the item with this hash, for tidying: the index does not take it for a use of the item.
+    /// Looks up the item with this hash. The index does not take it for a use of the item.
     fn peek(&self, hash: u64, see: &mut dyn FnMut(Seen<'_>));
 
-    /// Puts the item, whatever its key has, which has this hash. Then calls `see` with it, and with the one that it has replaced.
-    fn put(&self, hash: u64, item: NewItem, see: &mut dyn FnMut(&Item, Option<&Item>)) -> Result<Token, Refused>;
+    /// Puts the item, whatever its key has, which has this hash.
+    fn put(&self, hash: u64, item: NewItem) -> Result<Token, Refused>;
 
     /// Puts the item if its key is absent.
     fn put_new(&self, item: NewItem) -> Result<Token, Refused>;
@@ -80,6 +74,13 @@ pub trait Index: Send + Sync {
 
     /// Removes the item with this hash if it has this token.
     fn remove(&self, hash: u64, token: Token) -> Result<Token, Refused>;
+
+    /// Removes the item that is to give way next, and calls `see` with it: one whose hash is in the same shard as this one, if that has one. Returns
+    /// whether it has removed one.
+    fn evict(&self, near: u64, see: &mut dyn FnMut(&Item)) -> bool;
+
+    /// How many items there are.
+    fn len(&self) -> usize;
 
     /// For how long calls have given up, since a thread stopped within a change of the index. Zero unless one did lately.
     fn stalled(&self) -> Duration;

@@ -71,7 +71,7 @@ impl Items {
             store.index.peek(hash, &mut |seen| {
                 // Another item of this key, or one of another index, is not what was found.
                 if let Some((item, token)) = seen.ok().flatten().filter(|(item, _)| address_of(item) == address) {
-                    if store.is_live(item) {
+                    if store.books.is_live(item) {
                         self.most -= 1;
                         (self.write)(store, item, token, out);
                     }
@@ -85,7 +85,7 @@ impl Items {
 fn write_cached(store: &Store, item: &Item, _: Token, out: &mut Output) {
     out.extend_from_slice(b"ITEM ");
     out.extend_from_slice(item.key());
-    text!(out, " [{} b; {} s]\r\n", item.value().len(), store.clock.unix_end(item.deadline()));
+    text!(out, " [{} b; {} s]\r\n", item.value().len(), store.books.clock.unix_end(item.deadline()));
 }
 
 fn write_crawled(store: &Store, item: &Item, token: Token, out: &mut Output) {
@@ -96,8 +96,8 @@ fn write_crawled(store: &Store, item: &Item, token: Token, out: &mut Output) {
             _ => text!(out, "%{byte:02X}"),
         }
     }
-    let end = Some(store.clock.unix_end(item.deadline())).filter(|end| *end > 0).map_or(-1, |end| end as i64);
-    let (born, fetched) = (store.clock.unix_time_of(item.born()), if item.was_fetched() { "yes" } else { "no" });
+    let end = Some(store.books.clock.unix_end(item.deadline())).filter(|end| *end > 0).map_or(-1, |end| end as i64);
+    let (born, fetched) = (store.books.clock.unix_time_of(item.born()), if item.was_fetched() { "yes" } else { "no" });
     text!(out, " exp={end} la={born} cas={token} fetch={fetched} cls={CLASS} size={}\n", item.size());
 }
 
@@ -107,7 +107,7 @@ fn list_client(store: &Store, place: &mut usize, out: &mut Output) -> bool {
     if let Some(file) = listeners.get(*place) {
         *place += 1;
         write_address(out, *file, "addr", true);
-        text!(out, "STAT {file}:state conn_listening\r\nSTAT {file}:secs_since_last_cmd {}\r\n", store.clock.uptime());
+        text!(out, "STAT {file}:state conn_listening\r\nSTAT {file}:secs_since_last_cmd {}\r\n", store.books.clock.uptime());
         return true;
     }
     let Some((index, Seen { file, turn, state })) = store.seats.seen_from(*place - listeners.len()) else { return false };
@@ -120,7 +120,7 @@ fn list_client(store: &Store, place: &mut usize, out: &mut Output) -> bool {
         State::Skipped => "conn_swallow",
         State::Sent => "conn_mwrite",
     };
-    let silent = store.clock.uptime().saturating_sub(turn.into());
+    let silent = store.books.clock.uptime().saturating_sub(turn.into());
     text!(out, "STAT {file}:state {state}\r\nSTAT {file}:secs_since_last_cmd {silent}\r\n");
     true
 }

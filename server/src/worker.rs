@@ -138,12 +138,12 @@ impl Worker {
         let Some(most) = self.store.options.idle_timeout else { return };
         let (now, before) = (self.second(), self.connections.len());
         self.connections.retain(|_, client| now.saturating_sub(client.last_turn()) <= most);
-        self.store.counts.add_many(Count::IdleKicks, (before - self.connections.len()) as u64);
+        self.store.books.counts.add_many(Count::IdleKicks, (before - self.connections.len()) as u64);
     }
 
     /// When it woke, in seconds since the server started.
     fn second(&self) -> u32 {
-        self.store.clock.second_of(self.woke)
+        self.store.books.clock.second_of(self.woke)
     }
 
     fn has_ended(&self) -> bool {

@@ -3,9 +3,10 @@
 pub mod client;
 pub mod draw;
 
+use cefrodil_map::Reason;
+use cefrodild::books::Books;
 use cefrodild::index::{Index, Refused, Seen, Token};
 use cefrodild::item::{Item, NewItem};
-use cefrodild::room::{cost, Room};
 use std::collections::HashMap;
 use std::hash::{BuildHasher, BuildHasherDefault, DefaultHasher};
 use std::sync::atomic::{AtomicBool, AtomicU64, AtomicUsize, Ordering::SeqCst};
@@ -28,13 +29,10 @@ pub struct Control {
     pub sweeps: AtomicUsize,
     /// What is about to be found by a peek never expires from then on: another thread has found it before, and gives it a new time to live now.
     pub touches_before_peek: AtomicBool,
-    /// How many hashes were looked up together, at most.
-    pub most_together: AtomicUsize,
 }
 
 /// What is under the hash of a key.
 struct Entry {
-    cost: u64,
     item: NewItem,
     token: Token,
 }
@@ -45,21 +43,16 @@ type Items = (HashMap<u64, Entry>, Token);
 /// A map under a mutex.
 pub struct Plain {
     items: Mutex<Items>,
-    room: Arc<Room>,
+    books: Arc<Books>,
     control: Arc<Control>,
 }
 
 impl Plain {
-    pub fn new(room: &Arc<Room>, control: &Arc<Control>) -> Plain {
-        Plain { items: Mutex::default(), room: Arc::clone(room), control: Arc::clone(control) }
+    pub fn new(books: &Arc<Books>, control: &Arc<Control>) -> Plain {
+        Plain { items: Mutex::default(), books: Arc::clone(books), control: Arc::clone(control) }
     }
 
-    fn put_as(
-        &self,
-        item: NewItem,
-        meant: impl FnOnce(Option<Token>) -> bool,
-        see: &mut dyn FnMut(&Item, Option<&Item>),
-    ) -> Result<Token, Refused> {
+    fn put_as(&self, item: NewItem, meant: impl FnOnce(Option<Token>) -> bool) -> Result<Token, Refused> {
         if self.control.refuses_puts.load(SeqCst) {
             return Err(Refused::Full);
         }
@@ -70,13 +63,20 @@ impl Plain {
             return Err(token.map_or(Refused::Absent, |_| Refused::Changed));
         }
         *last += 1;
-        see(&item, items.get(&hash).map(|entry| &*entry.item));
-        let entry = Entry { cost: cost(item.key().len(), item.value().len()), item, token: *last };
-        match items.insert(hash, entry) {
-            Some(old) => self.room.give_back(old.cost),
-            None => self.room.add_item(),
+        if let Some(old) = items.insert(hash, Entry { item, token: *last }) {
+            self.left(&old, Reason::Replaced);
         }
         Ok(*last)
+    }
+
+    fn left(&self, entry: &Entry, reason: Reason) {
+        self.books.left(&entry.item, reason);
+        self.books.freed(&entry.item);
+    }
+
+    fn refuses_removal(&self) -> bool {
+        let one_less = self.control.removals_to_refuse.fetch_update(SeqCst, SeqCst, |left| left.checked_sub(1));
+        self.control.refuses_removals.load(SeqCst) || one_less.is_ok()
     }
 
     fn let_others_act(&self) {
@@ -103,15 +103,6 @@ impl Index for Plain {
         }
     }
 
-    fn look_hash(&self, hash: u64, see: &mut dyn FnMut(Seen<'_>)) {
-        self.peek(hash, see);
-    }
-
-    fn look_hashes(&self, hashes: &[u64], each: &mut dyn FnMut(usize, Seen<'_>)) {
-        self.control.most_together.fetch_max(hashes.len(), SeqCst);
-        hashes.iter().enumerate().for_each(|(position, hash)| self.peek(*hash, &mut |seen| each(position, seen)));
-    }
-
     fn peek(&self, hash: u64, see: &mut dyn FnMut(Seen<'_>)) {
         if self.control.refuses_looks.load(SeqCst) {
             return see(Err(Refused::Held));
@@ -124,24 +115,23 @@ impl Index for Plain {
         see(Ok(entry.map(|entry| (&*entry.item, entry.token))));
     }
 
-    fn put(&self, _: u64, item: NewItem, see: &mut dyn FnMut(&Item, Option<&Item>)) -> Result<Token, Refused> {
-        self.put_as(item, |_| true, see)
+    fn put(&self, _: u64, item: NewItem) -> Result<Token, Refused> {
+        self.put_as(item, |_| true)
     }
 
     fn put_new(&self, item: NewItem) -> Result<Token, Refused> {
         self.let_others_act();
-        self.put_as(item, |token| token.is_none(), &mut |_, _| {})
+        self.put_as(item, |token| token.is_none())
     }
 
     fn put_if(&self, token: Token, item: NewItem) -> Result<Token, Refused> {
         self.let_others_act();
-        self.put_as(item, |found| found == Some(token), &mut |_, _| {})
+        self.put_as(item, |found| found == Some(token))
     }
 
     fn remove(&self, hash: u64, token: Token) -> Result<Token, Refused> {
         self.let_others_act();
-        let one_less = self.control.removals_to_refuse.fetch_update(SeqCst, SeqCst, |left| left.checked_sub(1));
-        if self.control.refuses_removals.load(SeqCst) || one_less.is_ok() {
+        if self.refuses_removal() {
             return Err(Refused::Held);
         }
         let (items, last) = &mut *self.items.lock().unwrap();
@@ -149,13 +139,26 @@ impl Index for Plain {
             None => Err(Refused::Absent),
             Some(entry) if entry.token != token => Err(Refused::Changed),
             Some(entry) => {
-                self.room.give_back(entry.cost);
-                self.room.subtract_item();
+                self.left(entry, Reason::Removed);
                 items.remove(&hash);
                 *last += 1;
                 Ok(*last)
             }
         }
+    }
+
+    /// The item that was stored longest ago.
+    fn evict(&self, _: u64, see: &mut dyn FnMut(&Item)) -> bool {
+        let (items, _) = &mut *self.items.lock().unwrap();
+        let oldest = items.iter().min_by_key(|(_, entry)| entry.token).map(|(hash, _)| *hash);
+        let Some(entry) = oldest.filter(|_| !self.refuses_removal()).and_then(|hash| items.remove(&hash)) else { return false };
+        see(&entry.item);
+        self.left(&entry, Reason::Evicted);
+        true
+    }
+
+    fn len(&self) -> usize {
+        self.items.lock().unwrap().0.len()
     }
 
     fn stalled(&self) -> Duration {

@@ -1,8 +1,8 @@
 //! How many lookups find their key in a cache, for `bench/small_table.py`. Standard input has the keys, as words of 64 bits. Each that is missed is
 //! put.
 //!
-//! usage: ratio CAPACITY CACHE     CACHE: map, or map+ with a small table; number, objects by their number without queues, or number+; objects by their
-//! weight with one queue, or objects+; server with one queue, or server+. It prints a line of 0 and 1: which lookups hit.
+//! usage: ratio CAPACITY CACHE     CACHE: map, or map+ with a small table; number, objects by their number; objects by their weight; or server. It prints
+//! a line of 0 and 1: which lookups hit.
 mod server;
 
 use cefrodil_map::{Map, ObjectMap};
@@ -49,17 +49,13 @@ fn map(capacity: usize, is_small: bool) -> Result<Box<dyn Cache>, Failure> {
 }
 
 /// Bounded by weight alone: its index has room for more.
-fn objects(capacity: usize, is_small: bool) -> Result<Box<dyn Cache>, Failure> {
-    let builder = ObjectMap::<u64, u64>::builder(2 * capacity).threads(1).max_weight(capacity as u64, |_, _| 1);
-    Ok(Box::new(if is_small { builder.open()? } else { builder.one_queue().open()? }))
+fn objects(capacity: usize) -> Result<Box<dyn Cache>, Failure> {
+    Ok(Box::new(ObjectMap::<u64, u64>::builder(2 * capacity).threads(1).max_weight(capacity as u64, |_, _| 1).open()?))
 }
 
 /// Bounded by their number.
-fn number(capacity: usize, is_small: bool) -> Result<Box<dyn Cache>, Failure> {
-    let builder = ObjectMap::<u64, u64>::builder(capacity).threads(1);
-    let map = if is_small { builder.open()? } else { builder.shards(1).one_queue().open()? };
-    assert!(map.capacity() < capacity + 16);
-    Ok(Box::new(map))
+fn number(capacity: usize) -> Result<Box<dyn Cache>, Failure> {
+    Ok(Box::new(ObjectMap::<u64, u64>::builder(capacity).shards(1).threads(1).open()?))
 }
 
 fn main() -> Result<(), Failure> {
@@ -68,9 +64,9 @@ fn main() -> Result<(), Failure> {
     let (capacity, is_small) = (capacity.parse()?, name.ends_with('+'));
     let mut cache = match name.trim_end_matches('+') {
         "map" => map(capacity, is_small)?,
-        "number" => number(capacity, is_small)?,
-        "objects" => objects(capacity, is_small)?,
-        "server" => server::open(capacity, is_small)?,
+        "number" => number(capacity)?,
+        "objects" => objects(capacity)?,
+        "server" => server::open(capacity)?,
         _ => return Err(format!("there is no cache {name}").into()),
     };
     let mut bytes = Vec::new();

@@ -1,8 +1,8 @@
 //! The index of items: a map of objects over Cefrodil's index.
 use crate::audit::{digest, Audit};
+use crate::books::Books;
 use crate::index::{Index, Refused, Seen, Token};
 use crate::item::{About, Item, NewItem};
-use crate::room::{cost, Leaving, Room};
 use cefrodil_map::{BytesMap, GetError, IfError, Inserted, Look, OpenError, Put, Reason};
 use std::cell::Cell;
 use std::hash::{BuildHasher, RandomState};
@@ -14,9 +14,8 @@ pub const BYTES_OF_AN_ENTRY: usize = 56;
 
 /// The map, and its log if there is one.
 #[derive(Debug)]
-pub struct Objects {
+pub struct MapIndex {
     map: BytesMap<About>,
-    room: Arc<Room>,
     audit: Option<Arc<Audit>>,
 }
 
@@ -56,24 +55,15 @@ fn seen(found: Result<Look<&Item>, GetError>) -> Seen<'_> {
     }
 }
 
-/// The bytes of an item.
-fn cost_of(item: &Item) -> u64 {
-    cost(item.key().len(), item.value().len())
-}
-
-impl Objects {
-    /// Opens an index for at least so many items. `room` hears of each item, and of the bytes of what leaves it, and again when they are freed.
-    pub fn open(items: usize, threads: usize, room: &Arc<Room>, audit: Option<Arc<Audit>>) -> Result<Objects, OpenError> {
-        let ([freeing, leaving], is_logged) = ([Arc::clone(room), Arc::clone(room)], audit.is_some());
-        let (hasher, freed) = (RandomState::new(), move |item: &Item| freeing.free(cost_of(item)));
+impl MapIndex {
+    /// Opens an index for at least so many items. `books` hears of each item that leaves it, and again when that is freed.
+    pub fn open(items: usize, threads: usize, books: &Arc<Books>, audit: Option<Arc<Audit>>) -> Result<MapIndex, OpenError> {
+        let ([freeing, leaving], is_logged) = ([Arc::clone(books), Arc::clone(books)], audit.is_some());
+        let (hasher, freed) = (RandomState::new(), move |item: &Item| freeing.freed(item));
         let hash_of = hasher.clone();
         let listener = move |item: &Item, reason| {
-            leaving.leave(cost_of(item));
-            if reason != Reason::Replaced {
-                leaving.subtract_item();
-            }
+            leaving.left(item, reason);
             if reason == Reason::Evicted {
-                leaving.count_gone(Leaving { is_live: true, was_fetched: item.was_fetched() });
                 EVICTED.set(is_logged.then(|| hash_of.hash_one(item.key())));
             }
         };
@@ -84,7 +74,7 @@ impl Objects {
         } else if let Some(shards) = shards_for(items) {
             builder = builder.shards(shards);
         }
-        Ok(Objects { map: builder.open()?, room: Arc::clone(room), audit })
+        Ok(MapIndex { map: builder.open()?, audit })
     }
 
     /// The most items that it holds.
@@ -100,13 +90,6 @@ impl Objects {
             Look::Absent { at } => audit.line(format_args!("absent {at} {hash}")),
             _ => {}
         }
-    }
-
-    fn note_put(&self, logged: Option<(u64, u64)>, put: Put) {
-        if put.did != Inserted::Renewed {
-            self.room.add_item();
-        }
-        self.log_put(logged, put);
     }
 
     fn log_put(&self, logged: Option<(u64, u64)>, put: Put) {
@@ -136,7 +119,7 @@ impl Objects {
     }
 }
 
-impl Index for Objects {
+impl Index for MapIndex {
     fn hash_of(&self, key: &[u8]) -> u64 {
         self.map.hash_of(key)
     }
@@ -154,46 +137,28 @@ impl Index for Objects {
         }
     }
 
-    fn look_hash(&self, hash: u64, see: &mut dyn FnMut(Seen<'_>)) {
-        self.map.look_hash(hash, |found| {
-            if let Ok(found) = found {
-                self.log_look(|| hash, found);
-            }
-            see(seen(found));
-        });
-    }
-
-    fn look_hashes(&self, hashes: &[u64], each: &mut dyn FnMut(usize, Seen<'_>)) {
-        self.map.look_hashes(hashes, |position, found| {
-            if let Ok(found) = found {
-                self.log_look(|| hashes[position], found);
-            }
-            each(position, seen(found));
-        });
-    }
-
     fn peek(&self, hash: u64, see: &mut dyn FnMut(Seen<'_>)) {
         self.map.peek_hash(hash, |found| see(seen(found)));
     }
 
-    fn put(&self, hash: u64, item: NewItem, see: &mut dyn FnMut(&Item, Option<&Item>)) -> Result<Token, Refused> {
+    fn put(&self, hash: u64, item: NewItem) -> Result<Token, Refused> {
         let logged = self.logged(&item);
-        let (put, ()) = self.map.put_seen(hash, item, see)?;
-        self.note_put(logged, put);
+        let (put, ()) = self.map.put_seen(hash, item, |_, _| ())?;
+        self.log_put(logged, put);
         Ok(put.at)
     }
 
     fn put_new(&self, item: NewItem) -> Result<Token, Refused> {
         let logged = self.logged(&item);
         let put = self.map.put_if_absent(item)?;
-        self.note_put(logged, put);
+        self.log_put(logged, put);
         Ok(put.at)
     }
 
     fn put_if(&self, token: Token, item: NewItem) -> Result<Token, Refused> {
         let (logged, hash) = (self.logged(&item), self.hash_of(item.key()));
         let put = self.map.replace_if(token, item).map_err(|why| self.failed(hash, why))?;
-        self.note_put(logged, put);
+        self.log_put(logged, put);
         Ok(put.at)
     }
 
@@ -201,6 +166,18 @@ impl Index for Objects {
         let at = self.map.remove_stamped(hash, token).map_err(|why| self.failed(hash, why))?;
         self.log_change("remove", at, || hash);
         Ok(at)
+    }
+
+    fn evict(&self, near: u64, see: &mut dyn FnMut(&Item)) -> bool {
+        let evicted = self.map.evict(near, |item, at| {
+            self.log_change("evict", at, || self.hash_of(item.key()));
+            see(item);
+        });
+        evicted.is_ok_and(|evicted| evicted.is_some())
+    }
+
+    fn len(&self) -> usize {
+        self.map.len()
     }
 
     fn stalled(&self) -> Duration {
