@@ -30,8 +30,6 @@ SHOWN.update(MAPS | POLICIES)
 WRITERS = ('door', 'cefrodil', 'libcuckoo', 'tbb', 'dashmap', 'locked', 'lru')
 # From C all threads write to 64 shards, each until it has the turn.
 IN_SHARDS = (('door', 'door_shards'),)
-# The maps of this library without a small table.
-ONE_TABLE = (('rust_cefrodil', 'rust_one_table'), ('cpp_cefrodil', 'cpp_one_table'))
 EVICTORS = ('door', 'cefrodil', 'lru', 'twin')
 # Those that time each lookup.
 TIMED = ('door', 'libcuckoo', 'tbb', 'urcu', 'ck', 'dashmap', 'locked', 'lru')
@@ -52,7 +50,7 @@ PROGRAMS = {'cefrodil': ('mcbench',), 'many': ('mcbench', '--many', str(MANY)), 
             'shards64': ('mcbench', '--shards', '64'), 'door_many': ('door', '--many', str(MANY)), 'twin': ('contest', 'twin'),
             'scan_resistant': ('door_shards',), 'clock': ('door_shards', '--clock', '1'),
             'dashmap': ('contest', 'dashmap'), 'locked': ('contest', 'locked'), 'lru': ('contest', 'lru'),
-            **{name: ('maps_' + name.split('_')[0], name.split('_', 1)[1]) for name in (*MAPS, *dict(ONE_TABLE).values())}}
+            **{name: ('maps_' + name.split('_')[0], name.split('_', 1)[1]) for name in MAPS}}
 # The figures: their units, and how they are shown.
 UNITS = {'ns_lookup': ', ns', 'lookups_s': ', M/s', 'writes_s': ', M/s', 'load_factor': '', 'bytes_key': '', 'ns_call': ', ns',
          'calls_s': ', M/s', 'hit_ratio': '', 'busy_percent': ', %', 'ns_each': ', ns', 'empty_ns': ', ns', **dict.fromkeys(PERCENTILES, ', ns')}
@@ -168,7 +166,7 @@ def maps():
     full = [calls('full cache of 100,000 keys', '--workload cache --keys 200000 --capacity 100000', n) for n in (1, 4)]
     full.append(full[-1]._replace(label='the same: hit ratio', figure='hit_ratio'))
     full = [row._replace(names=('rust_cefrodil', 'rust_lru', 'cpp_cefrodil')) for row in full]
-    return rows + full + [row._replace(label=f'{row.label}, one table', names=('rust_cefrodil', 'cpp_cefrodil'), by=ONE_TABLE) for row in full]
+    return rows + full
 
 
 def calls(label, run, threads, role='--readers'):

@@ -35,10 +35,8 @@ row() {
 }
 echo '||hit|miss|miss, full|put over a value|the same, full|put of a new key, full|'
 echo '|---|---|---|---|---|---|---|'
-row 'Rust, one table' rust 1
-row 'Rust, with a small table' rust 2
-row 'Rust, `ObjectMap`, `one_queue`' rust objects
-row 'Rust, `ObjectMap`' rust objects+
+row 'Rust, `Map`' rust map
+row 'Rust, `ObjectMap`' rust objects
 row 'C++, one table' cpp 1
 row 'C++, with a small table' cpp 2
 row 'C++, `object_map`, the index alone' cpp objects

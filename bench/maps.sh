@@ -6,7 +6,7 @@
 # bench/contests.py says how the contestants run and what a cell is.
 #
 # A full cache holds half of the keys that are drawn. Each key that is missed is put. The table has the share of hits, since cefrodil-map and
-# cefrodil::map hold some more keys than they are asked to. Both have a small table for new keys there, and none in the rows of one table.
+# cefrodil::map hold some more keys than they are asked to.
 #
 # usage: [ROUNDS=N] [SECONDS_EACH=T] [CEFRODIL_LIB=LIB] bench/maps.sh FOLDER
 #        FOLDER: where the programs are built, and where the results lie unless RESULTS names another folder

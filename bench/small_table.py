@@ -9,7 +9,7 @@ bench/policies.py. A key that is absent is put. It prints a table.
 usage: bench/small_table.py [LOOKUPS]     LOOKUPS: 600,000 unless it says otherwise
 
 CEFRODIL_LIB names the folder of libcefrodil.a; none: that of the release, and nothing of C++. It takes some eight minutes. It needs cargo and g++
-and, of Debian, the server's crates: see server/README.md.
+and, of Debian: apt-get install librust-mio-dev.
 """
 import os
 import subprocess
@@ -22,7 +22,7 @@ from traces import cases, of_model, of_program
 
 # What each program calls its caches, and the table's heads.
 CACHES = {
-    'Rust': {'map': '`Map`', 'map+': '`Map`, small table', 'number': '`ObjectMap`', 'objects': 'by weights', 'server': 'server'},
+    'Rust': {'map': '`Map`', 'number': '`ObjectMap`', 'objects': 'by weights', 'server': 'server'},
     'C++': {'map': '`cefrodil::map`', 'map+': '`cefrodil::map`, small table', 'objects': '`object_map`, the index alone', 'objects+': '`object_map`',
             'weights': '`object_map` by weight, one ring', 'weights+': '`object_map` by weight'},
 }

@@ -13,7 +13,6 @@
 #include "rust_flights.hpp"
 #include "rust_object_generations.hpp"
 #include "rust_slots.hpp"
-#include "rust_tiers.hpp"
 #include <cstdio>
 #include <cstdlib>
 #include <string>
@@ -60,7 +59,6 @@ int main(int argc, char **argv) {
     explore<RustFlights>("Rust flights", schedules);
     explore<RustSlots>("Rust slots", schedules);
     explore<RustEpochs>("Rust epochs", schedules);
-    explore<RustTiers>("Rust tiers", schedules);
     explore<RustGenerations>("Rust generations", schedules);
     explore<RustObjectGenerations>("Rust generations of objects", schedules);
     return faults == 0 ? 0 : 1;

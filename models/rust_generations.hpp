@@ -30,15 +30,15 @@ struct RustGenerations : rl::test_suite<RustGenerations, 3> {
     bool put(int there, int in, int value) {
         const explored::Mutex::Off off("lock of an update");
         const Guard guard(key_lock);                                      //| in map/src/update.rs
-                                                                          //| None => self.in_lock(print.key, |handle| handle.put_if(print.key, since, words)),
+                                                                          //| match self.slots.in_turn(tries, || self.in_lock(print.key, |handle| handle.put_if(print.key, since, words))) {
         return entry.compare_exchange(there, in * values + value, std::memory_order_acq_rel);
     }
     void insert() {
         const int early = now();
         const explored::Mutex::Off off("lock of an insert");
         const Guard guard(key_lock);                                      //| in map/src/inner.rs
-                                                                          //| self.in_lock(print.key, put).map(Inserted::of)
-        const int in = explored::without("generation under the lock") ? early : now(); //| date(&mut words);
+                                                                          //| self.in_lock(print.key, |handle| {
+        const int in = explored::without("generation under the lock") ? early : now(); //| set_check(&mut words, print.dated(self.generation.now()).check);
         entry.exchange(in * values + inserted, std::memory_order_acq_rel);
     }
     int find() const {

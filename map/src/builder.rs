@@ -10,10 +10,9 @@ use crate::map::Map;
 use crate::print::Printer;
 use crate::settings::Settings;
 use crate::slots::Slots;
-use crate::tiers::Tiers;
 use crate::wait::TRIES;
 use crate::words::{Layout, MOST};
-use cefrodil::{Policy, Shape};
+use cefrodil::Shape;
 use std::collections::hash_map::RandomState;
 use std::fmt::{self, Debug, Formatter};
 use std::hash::BuildHasher;
@@ -48,7 +47,7 @@ impl<K: ?Sized, V> Builder<K, V> {
 impl<K: ?Sized, V, S> Builder<K, V, S> {
     /// How many shards: a power of two, 1 to 256. Threads that write to different shards don't wait for each other. Each shard evicts for
     /// itself, and several shards together have more room than was asked for. The default is one for each 64 entries, 16 at most: then it is at most
-    /// twice as much. One shard has just what was asked for. The small table has a tenth more, and no more shards than this.
+    /// twice as much. One shard has just what was asked for.
     pub fn shards(mut self, shards: u32) -> Self {
         self.settings.shards = Some(shards);
         self
@@ -116,26 +115,6 @@ impl<K: ?Sized, V, S> Builder<K, V, S> {
         self.settings.idle = Some(idle);
         self
     }
-
-    /// Leaves the small table out. By default a full map puts new keys into a small table, with room for a tenth more entries. A key that is found
-    /// there moves to the main table. So keys that are used once evict none that are used often, and more lookups hit, most of all where many
-    /// keys are used once or in scans.
-    ///
-    /// For that a lookup that misses the main table of a map that was full looks into the small one, too, if that may have the key. If it finds the key
-    /// there, it moves it: that is a write, for which another entry may be evicted. Each write takes a lock, and a write of a new key looks into the main
-    /// table first, unless the same thread has just missed it there.
-    ///
-    /// ```
-    /// use cefrodil_map::Map;
-    ///
-    /// let rates = Map::<str, u64>::builder(1000).one_table().open()?;
-    /// rates.insert("EUR", 100)?;
-    /// # Ok::<(), Box<dyn std::error::Error>>(())
-    /// ```
-    pub fn one_table(mut self) -> Self {
-        self.settings.small_table = false;
-        self
-    }
 }
 
 impl<K: ?Sized, V: Copy + Send + Sync + 'static, S: BuildHasher> Builder<K, V, S> {
@@ -146,29 +125,18 @@ impl<K: ?Sized, V: Copy + Send + Sync + 'static, S: BuildHasher> Builder<K, V, S
     /// The first [`OpenError`] that applies.
     pub fn open(self) -> Result<Map<K, V, S>, OpenError> {
         let (shape, shards) = self.settings.shape()?;
-        self.open_shaped(&by_clock(shape), shards, TRIES)
+        self.open_shaped(&shape, shards, TRIES)
     }
 
     /// Opens the map with shards of this shape, and calls that try so often.
     pub(crate) fn open_shaped(self, shape: &Shape, shards: u32, tries: u32) -> Result<Map<K, V, S>, OpenError> {
         const { assert!(Layout::Plain.width::<V>() <= MOST, "a value has at most 56 bytes") };
         let layout = Layout::of(self.settings.life, self.settings.idle);
-        let width = layout.width::<V>();
-        let mut handles = AnyHandle::open(width, shape, shards, self.settings.handles()).map_err(OpenError::of)?;
-        let mut capacity = handles[0].capacity();
-        let slots = Arc::new(Slots::new(handles));
-        let mut tiers = None;
-        if self.settings.small_table {
-            let mut small = self.small_handles(width)?;
-            let young = small[0].capacity();
-            capacity += young;
-            tiers = Some(Tiers::new(Arc::clone(&slots), small, capacity, young));
-        }
+        let mut handles = AnyHandle::open(layout.width::<V>(), shape, shards, self.settings.handles()).map_err(OpenError::of)?;
         let Settings { hasher, once, life, idle, .. } = self.settings;
         Ok(Map::of(Inner {
-            capacity,
-            slots,
-            tiers,
+            capacity: handles[0].capacity(),
+            slots: Arc::new(Slots::new(handles)),
             locks: KeyLocks::new(),
             flights: Flights::new(),
             generation: Generation::new(),
@@ -180,18 +148,6 @@ impl<K: ?Sized, V: Copy + Send + Sync + 'static, S: BuildHasher> Builder<K, V, S
             tries,
         }))
     }
-}
-
-impl<K: ?Sized, V, S> Builder<K, V, S> {
-    fn small_handles(&self, width: usize) -> Result<Vec<AnyHandle>, OpenError> {
-        let (shape, shards) = self.settings.small_shape()?;
-        AnyHandle::open(width, &by_clock(shape), shards, self.settings.handles()).map_err(OpenError::of)
-    }
-}
-
-// A map with a small table chooses by that which entry gives way. Without it, it goes by CLOCK.
-fn by_clock(shape: Shape) -> Shape {
-    Shape { policy: Policy::Clock, ..shape }
 }
 
 impl<K: ?Sized, V, S> Debug for Builder<K, V, S> {

@@ -3,7 +3,6 @@ use crate::error::ClearError;
 use crate::handle::AnyHandle;
 use crate::key::Key;
 use crate::map::Map;
-use crate::small_handle::SmallHandle;
 use crate::stats::Kind;
 use crate::wait::LISTS;
 use cefrodil::Removal;
@@ -56,11 +55,8 @@ impl<K: Key + ?Sized, V: Copy, S> Map<K, V, S> {
         let slots = &self.inner.slots;
         self.inner.flights.detach_all();
         let remove_all = || -> Result<(), ClearError> {
-            for key in self.keys(lists, tries)? {
-                let removed = slots.in_turn(tries, || match &self.inner.tiers {
-                    Some(tiers) => tiers.remove(key),
-                    None => self.inner.in_lock(key, |handle| handle.remove(key)),
-                });
+            for key in slots.in_turn(lists, || slots.call(AnyHandle::keys)).map_err(ClearError::of_list)? {
+                let removed = slots.in_turn(tries, || self.inner.in_lock(key, |handle| handle.remove(key)));
                 if let Removal::Removed { .. } = removed.map_err(ClearError::of_removal)? {
                     slots.count(Kind::Removed);
                 }
@@ -68,19 +64,5 @@ impl<K: Key + ?Sized, V: Copy, S> Map<K, V, S> {
             Ok(())
         };
         remove_all().inspect_err(|_| slots.count(Kind::Refused))
-    }
-
-    // Of the small table first: from there a key goes to the main one. One that was on its way has come there, too, when that is listed.
-    fn keys(&self, lists: u32, tries: u32) -> Result<Vec<u64>, ClearError> {
-        let mut keys = Vec::new();
-        if let Some(tiers) = &self.inner.tiers {
-            keys = self.inner.slots.in_turn(lists, || tiers.small().call(SmallHandle::keys)).map_err(ClearError::of_list)?;
-            tiers.wait_for_moves(tries).map_err(ClearError::of_list)?;
-        }
-        keys.extend(self.inner.slots.in_turn(lists, || self.inner.slots.call(AnyHandle::keys)).map_err(ClearError::of_list)?);
-        // A key that has moved meanwhile is removed once.
-        keys.sort_unstable();
-        keys.dedup();
-        Ok(keys)
     }
 }

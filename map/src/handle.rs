@@ -1,8 +1,7 @@
 //! A handle of the index, whose entries have any width, 1 to 8 words. The width is chosen at opening.
 use crate::words::{Layout, Seen, Words, MOST};
 use cefrodil::{
-    Cache, Entry, Handle, ListError, OpenError, Put, PutError, PutIfAbsentError, PutIfError, Removal, Replaced, Reply, Shape,
-    Spent, TurnError,
+    Cache, Handle, ListError, OpenError, Put, PutError, PutIfAbsentError, PutIfError, Removal, Reply, Shape, Spent, TurnError,
 };
 use std::ops::DerefMut;
 
@@ -100,20 +99,6 @@ impl AnyHandle {
         any!(self, handle => handle.try_peek(key).map_or(Reply::Busy, wide_reply))
     }
 
-    /// Whether the key is there. `None`: the lookup was busy.
-    pub fn has(&mut self, key: u64) -> Option<bool> {
-        any!(self, handle => {
-            // In place, so that no words are copied.
-            let mut reply = Reply::Busy;
-            handle.get_or_turn_into(key, &mut reply);
-            match reply {
-                Reply::Found { .. } => Some(true),
-                Reply::Absent { .. } => Some(false),
-                Reply::Busy => None,
-            }
-        })
-    }
-
     pub fn put(&mut self, key: u64, words: &Words) -> Result<Put, TurnError<PutError>> {
         any!(self, handle => handle.try_put(key, narrow(words)))
     }
@@ -131,8 +116,8 @@ impl AnyHandle {
     }
 
     /// Removes the key if its last put was at the moment `since`.
-    pub fn take_if(&mut self, key: u64, since: u64) -> Result<Replaced<MOST>, TurnError<PutIfError>> {
-        any!(self, handle => handle.try_take_if(key, since).map(wide_replaced))
+    pub fn take_if(&mut self, key: u64, since: u64) -> Result<(), TurnError<PutIfError>> {
+        any!(self, handle => handle.try_take_if(key, since).map(drop))
     }
 
     /// The keys of all entries, in a turn at each shard.
@@ -164,11 +149,6 @@ fn wide_replies<const WIDTH: usize>(handle: &mut Handle<WIDTH>, keys: &[u64], re
     let narrow = &mut narrow[..keys.len()];
     handle.get_many(keys, narrow);
     replies.iter_mut().zip(narrow).for_each(|(wide, narrow)| *wide = wide_reply(*narrow));
-}
-
-fn wide_replaced<const WIDTH: usize>(replaced: Replaced<WIDTH>) -> Replaced<MOST> {
-    let Replaced { at, old: Entry { key, value, since } } = replaced;
-    Replaced { at, old: Entry { key, value: wide(&value), since } }
 }
 
 #[cfg(test)]

@@ -9,22 +9,17 @@ use crate::key_locks::KeyLocks;
 use crate::map::Inserted;
 use crate::print::{Print, Printer};
 use crate::slots::Slots;
-use crate::stats::{Counts, Kind};
-use crate::tiers::{Miss, Tiers, OF_SMALL};
+use crate::stats::Kind;
 use crate::wait::LOOKS;
 use crate::words::{check, deadline, set_check, Entry, Layout, Seen, Words};
 use cefrodil::{PutIfError, Reply, TurnError};
 use std::hash::BuildHasher;
-use std::mem;
 use std::sync::Arc;
 use std::time::Duration;
 
 pub(crate) struct Inner<K: ?Sized, V, S> {
-    /// Handles of the main table.
     pub slots: Arc<Slots<AnyHandle>>,
-    /// With a small table: both of them.
-    pub tiers: Option<Tiers>,
-    /// Without one, the locks of keys.
+    /// A put has its key's lock, and so does a removal.
     pub locks: KeyLocks,
     pub flights: Flights<V>,
     pub generation: Generation,
@@ -60,6 +55,21 @@ impl<K: ?Sized, V, S> Drop for Inner<K, V, S> {
     }
 }
 
+impl<K: ?Sized, V, S> Inner<K, V, S> {
+    /// Makes a call while no other thread writes the key.
+    #[inline]
+    pub fn in_lock<T, E>(
+        &self,
+        key: u64,
+        call: impl FnOnce(&mut AnyHandle) -> Result<T, TurnError<E>>,
+    ) -> Result<T, TurnError<E>> {
+        self.slots.call(|handle| {
+            let _locked = self.locks.lock(key).ok_or(TurnError::Held)?;
+            call(handle)
+        })
+    }
+}
+
 impl<K: Key + ?Sized, V: Copy, S: BuildHasher> Inner<K, V, S> {
     /// By which a key is known whatever the generation: to flights.
     #[inline]
@@ -92,61 +102,7 @@ impl<K: Key + ?Sized, V: Copy, S: BuildHasher> Inner<K, V, S> {
     pub fn look(&self, print: Print, tries: u32) -> Option<Found<V>> {
         let look =
             |handle: &mut AnyHandle| AnyHandle::get::<V, _>(handle, print.key, self.layout, |seen| self.found(print, seen));
-        let found = self.slots.call(look).or_else(|| self.look_again(print, tries - 1))?;
-        self.look_further(print, found, tries)
-    }
-
-    // What there is of the key, if this was found in the main table.
-    fn look_further(&self, print: Print, found: Found<V>, tries: u32) -> Option<Found<V>> {
-        match found {
-            Found::Absent => self.look_after(print, self.miss(print), tries),
-            found => Some(found),
-        }
-    }
-
-    // Whether the small table may have a key that the main one lacks.
-    #[inline]
-    fn may_be_small(&self) -> bool {
-        self.tiers.as_ref().is_some_and(Tiers::is_small_used)
-    }
-
-    #[inline]
-    fn miss(&self, print: Print) -> Miss {
-        self.tiers.as_ref().map_or(Miss::Yes, |tiers| tiers.miss(print.key))
-    }
-
-    // Looks in the small table for a key that the main table didn't have.
-    fn look_after(&self, print: Print, miss: Miss, tries: u32) -> Option<Found<V>> {
-        match (&self.tiers, miss) {
-            (Some(tiers), Miss::No) => {
-                let mut is_first = true;
-                self.slots.within(tries, || {
-                    let mut reply = tiers.look_small(print.key, mem::take(&mut is_first));
-                    self.found(print, Seen::of(&mut reply))
-                })
-            }
-            (Some(_), Miss::Moved) => self.look_again(print, tries),
-            _ => Some(Found::Absent),
-        }
-    }
-
-    /// Whether no table has the key, after a lookup that missed it. `None`: other threads disturbed each try.
-    pub fn lacks(&self, print: Print, tries: u32) -> Option<bool> {
-        match &self.tiers {
-            Some(tiers) => self.slots.within(tries, || tiers.lacks(print.key)),
-            None => Some(true),
-        }
-    }
-
-    /// Moves the key to the main table if it was found in the small one. Returns whether it may have moved.
-    pub fn promote(&self, print: Print, found: Option<&Found<V>>, tries: u32) -> bool {
-        match (&self.tiers, found) {
-            (Some(tiers), Some(Found::Live(_, since))) if since & OF_SMALL != 0 => {
-                tiers.promote(print.key, tries);
-                true
-            }
-            _ => false,
-        }
+        self.slots.call(look).or_else(|| self.look_again(print, tries - 1))
     }
 
     #[cold]
@@ -204,11 +160,10 @@ impl<K: Key + ?Sized, V: Copy, S: BuildHasher> Inner<K, V, S> {
                 counts.add_alone(Kind::Hit);
                 told(Ok(Some(Entry::of(words, Layout::laid::<TIMED>()).value)))
             }
-            Seen::Absent if !self.may_be_small() => {
+            Seen::Absent => {
                 counts.add_alone(Kind::Miss);
                 told(Ok(None))
             }
-            Seen::Absent => told(self.get_young(print, tries, counts)),
             other => told(self.get_again(print, other, tries)),
         })
     }
@@ -216,37 +171,19 @@ impl<K: Key + ?Sized, V: Copy, S: BuildHasher> Inner<K, V, S> {
     // By the handle that threads without one of their own share, and in a map whose entries end if they are not used.
     #[inline(never)]
     fn get_shared(&self, print: Print, tries: u32) -> Result<Option<V>, GetError> {
-        self.used(print, self.look(print, tries), tries)
+        self.used(print, self.look(print, tries))
     }
 
     // Counts what the first of so many tries saw, or looks again.
     #[cold]
     #[inline(never)]
     fn get_again(&self, print: Print, first: Seen, tries: u32) -> Result<Option<V>, GetError> {
-        let found = self.found(print, first).or_else(|| self.look_again(print, tries - 1));
-        self.used(print, found.and_then(|found| self.look_further(print, found, tries)), tries)
+        self.used(print, self.found(print, first).or_else(|| self.look_again(print, tries - 1)))
     }
 
-    // What the small table has of a key that the main one didn't have.
-    #[cold]
-    #[inline(never)]
-    fn get_young(&self, print: Print, tries: u32, counts: &Counts) -> Result<Option<V>, GetError> {
-        match self.miss(print) {
-            Miss::Yes => {
-                counts.add_alone(Kind::Miss);
-                Ok(None)
-            }
-            miss => self.used(print, self.look_after(print, miss, tries), tries),
-        }
-    }
-
-    // Counts a lookup, and moves the key if it was found in the small table. Then the use is noted where the key is by now.
-    fn used(&self, print: Print, found: Option<Found<V>>, tries: u32) -> Result<Option<V>, GetError> {
-        if self.promote(print, found.as_ref(), tries) && self.idle.is_some() {
-            self.note_use(print, self.look(print, tries).as_ref());
-        } else {
-            self.note_use(print, found.as_ref());
-        }
+    // Notes the use of what was found, and counts the lookup.
+    fn used(&self, print: Print, found: Option<Found<V>>) -> Result<Option<V>, GetError> {
+        self.note_use(print, found.as_ref());
         self.counted(found)
     }
 
@@ -256,10 +193,7 @@ impl<K: Key + ?Sized, V: Copy, S: BuildHasher> Inner<K, V, S> {
         let Some(next) = self.clock.moved(entry.idle, idle) else { return };
         let words = Entry { idle: next, ..*entry }.words(self.layout);
         // If the key was put meanwhile, that was a use, too.
-        let _ = match &self.tiers {
-            Some(tiers) => tiers.put_if(print.key, *since, &words),
-            None => self.slots.call(|handle| handle.put_if(print.key, *since, &words)),
-        };
+        let _ = self.slots.call(|handle| handle.put_if(print.key, *since, &words));
     }
 
     /// Looks up to `MANY` keys up by one call of the index, and counts each. A key that is busy is looked up again by itself.
@@ -270,24 +204,14 @@ impl<K: Key + ?Sized, V: Copy, S: BuildHasher> Inner<K, V, S> {
         self.slots.call(|handle| handle.get_many(keys, replies));
         values.extend(prints.iter().zip(replies).map(|(print, reply)| {
             let found = self.found(*print, Seen::of(reply)).or_else(|| self.look_again(*print, self.looks() - 1));
-            match found {
-                // The small table is looked at right after the main one, and not after other keys.
-                Some(Found::Absent) if self.may_be_small() => self.get(*print, self.looks(), |told| told).unwrap_or(None),
-                found => {
-                    self.note_use(*print, found.as_ref());
-                    self.counted(found).unwrap_or(None)
-                }
-            }
+            self.used(*print, found).unwrap_or(None)
         }));
     }
 
     /// Looks the key up, which is no use of it, and counts nothing.
     pub fn peek(&self, print: Print, tries: u32) -> Result<Option<V>, GetError> {
         let found = self.slots.within(tries, || {
-            let mut reply = match &self.tiers {
-                Some(tiers) => tiers.peek(print.key),
-                None => self.slots.call(|handle| handle.peek(print.key)),
-            };
+            let mut reply = self.slots.call(|handle| handle.peek(print.key));
             self.found(print, Seen::of(&mut reply))
         });
         match found.ok_or(GetError::Busy)? {
@@ -332,23 +256,15 @@ impl<K: Key + ?Sized, V: Copy, S: BuildHasher> Inner<K, V, S> {
     ) -> Result<Inserted, InsertError> {
         let print = self.print(key);
         let mut words = self.words(print, value, self.deadline(life));
-        if let Some(tiers) = &self.tiers {
-            tiers.expect_put(print.key);
-        }
         self.flights.detach(print);
-        // By who has the lock of the key: so nothing that was put in a later generation gives way to this.
-        let date = |words: &mut Words| set_check(words, print.dated(self.generation.now()).check);
-        let put = match &self.tiers {
-            None => self.slots.in_turn(tries, || {
-                let put = |handle: &mut AnyHandle| {
-                    date(&mut words);
-                    handle.put(print.key, &words)
-                };
-                self.in_lock(print.key, put).map(Inserted::of)
-            }),
-            Some(tiers) => tiers.put_within(tries, print.key, &mut words, date),
-        };
-        match put {
+        let put = self.slots.in_turn(tries, || {
+            self.in_lock(print.key, |handle| {
+                // By who has the lock: so nothing that was put in a later generation gives way to this.
+                set_check(&mut words, print.dated(self.generation.now()).check);
+                handle.put(print.key, &words)
+            })
+        });
+        match put.map(Inserted::of) {
             Ok(did) => {
                 self.slots.count_put(did);
                 Ok(did)
@@ -364,20 +280,11 @@ impl<K: Key + ?Sized, V: Copy, S: BuildHasher> Inner<K, V, S> {
             let (value, since) = match self.look(print.dated(self.generation.now()), tries) {
                 Some(Found::Live(entry, since)) => (Some(entry.value), since),
                 Some(Found::Expired(since)) => (None, since),
-                Some(Found::Other(_)) => return Ok(None),
-                Some(Found::Absent) => match self.lacks(print, tries) {
-                    Some(true) => return Ok(None),
-                    Some(false) => continue,
-                    None => return Err(self.refused(RemoveError::Held)),
-                },
+                Some(Found::Other(_) | Found::Absent) => return Ok(None),
                 None => return Err(self.refused(RemoveError::Busy)),
             };
-            let taken = self.slots.in_turn(tries, || match &self.tiers {
-                Some(tiers) => tiers.take_if(print.key, since),
-                None => self.in_lock(print.key, |handle| handle.take_if(print.key, since)).map(|taken| taken.at),
-            });
-            match taken {
-                Ok(_) => {
+            match self.slots.in_turn(tries, || self.in_lock(print.key, |handle| handle.take_if(print.key, since))) {
+                Ok(()) => {
                     self.slots.count(Kind::Removed);
                     return Ok(value);
                 }

@@ -1,63 +1,32 @@
-//! A lock of keys. It is tried, and never waited for. No code of the caller runs under one.
-use crate::handle::AnyHandle;
-use crate::inner::Inner;
-use crate::spread::{mixed, place_in};
-use cefrodil::TurnError;
+//! Locks of keys, which are tried, and never waited for. No code of the caller runs under one.
 use std::sync::atomic::{AtomicBool, Ordering::Acquire, Ordering::Release};
-
-/// That of some keys.
-#[derive(Default)]
-pub(crate) struct KeyLock {
-    is_taken: AtomicBool,
-}
-
-/// The lock, until this is dropped.
-pub(crate) struct Guard<'a>(&'a KeyLock);
-
-impl KeyLock {
-    /// The lock, if no other thread has it.
-    #[inline]
-    pub fn lock(&self) -> Option<Guard<'_>> {
-        let was_taken = self.is_taken.swap(true, Acquire);
-        (!was_taken).then(|| Guard(self))
-    }
-}
 
 /// So two threads seldom meet at a lock.
 const LOCKS: usize = 64;
 
-/// The locks of all keys, in a map whose keys have nothing else in common.
-pub(crate) struct KeyLocks([Line; LOCKS]);
+/// The locks of all keys. Each is that of some keys.
+pub(crate) struct KeyLocks([KeyLock; LOCKS]);
 
 /// A lock in a cache line of its own.
-#[derive(Default)]
 #[repr(align(64))]
-struct Line(KeyLock);
+struct KeyLock {
+    is_taken: AtomicBool,
+}
+
+/// A lock, until this is dropped.
+pub(crate) struct Guard<'a>(&'a KeyLock);
 
 impl KeyLocks {
     pub fn new() -> KeyLocks {
-        KeyLocks([const { Line(KeyLock { is_taken: AtomicBool::new(false) }) }; LOCKS])
+        KeyLocks([const { KeyLock { is_taken: AtomicBool::new(false) } }; LOCKS])
     }
 
-    /// The lock of the key, if no other thread has it.
+    /// The lock of the key with this hash, if no other thread has it.
     #[inline]
-    pub fn lock(&self, key: u64) -> Option<Guard<'_>> {
-        self.0[place_in(LOCKS, mixed(key))].0.lock()
-    }
-}
-
-impl<K: ?Sized, V, S> Inner<K, V, S> {
-    /// In a map with one table: makes a call while no other thread writes the key.
-    #[inline]
-    pub fn in_lock<T, E>(
-        &self,
-        key: u64,
-        call: impl FnOnce(&mut AnyHandle) -> Result<T, TurnError<E>>,
-    ) -> Result<T, TurnError<E>> {
-        self.slots.call(|handle| {
-            let _locked = self.locks.lock(key).ok_or(TurnError::Held)?;
-            call(handle)
-        })
+    pub fn lock(&self, hash: u64) -> Option<Guard<'_>> {
+        let lock = &self.0[hash as usize % LOCKS];
+        let was_taken = lock.is_taken.swap(true, Acquire);
+        (!was_taken).then(|| Guard(lock))
     }
 }
 

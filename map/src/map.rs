@@ -261,11 +261,7 @@ impl<K: ?Sized, V, S> Map<K, V, S> {
     /// What the calls of all threads came to.
     #[must_use]
     pub fn stats(&self) -> Stats {
-        let mut stats = self.inner.slots.stats();
-        if let Some(tiers) = &self.inner.tiers {
-            stats.shared += tiers.small().stats().shared;
-        }
-        stats
+        self.inner.slots.stats()
     }
 }
 

@@ -17,9 +17,6 @@ const MOST_SHARDS: usize = 16;
 const STRIPES: u32 = 4096;
 const STRIPES_OF_A_SHARD: u32 = 64;
 
-/// A small table has room for one entry for each so many of the main table.
-const ENTRIES_OF_A_SMALL_ONE: usize = 10;
-
 pub(crate) struct Settings<S> {
     pub capacity: usize,
     pub shards: Option<u32>,
@@ -29,45 +26,24 @@ pub(crate) struct Settings<S> {
     pub once: bool,
     pub life: Option<Duration>,
     pub idle: Option<Duration>,
-    /// Whether new keys go to a small table first.
-    pub small_table: bool,
 }
 
 impl Settings<RandomState> {
     pub fn new(capacity: usize) -> Settings<RandomState> {
-        Settings {
-            capacity,
-            shards: None,
-            threads: THREADS,
-            hasher: RandomState::new(),
-            once: true,
-            life: None,
-            idle: None,
-            small_table: true,
-        }
+        Settings { capacity, shards: None, threads: THREADS, hasher: RandomState::new(), once: true, life: None, idle: None }
     }
 }
 
 impl<S> Settings<S> {
     pub fn hasher<T>(self, hasher: T) -> Settings<T> {
-        let Settings { capacity, shards, threads, life, idle, small_table, .. } = self;
-        Settings { capacity, shards, threads, hasher, once: false, life, idle, small_table }
+        let Settings { capacity, shards, threads, life, idle, .. } = self;
+        Settings { capacity, shards, threads, hasher, once: false, life, idle }
     }
 
-    /// How many shards to open, and the shape of each.
+    /// The shape of each shard, and how many shards to open.
     pub fn shape(&self) -> Result<(Shape, u32), OpenError> {
-        self.shape_for(self.capacity, self.shards.unwrap_or_else(|| shards_for(self.capacity)))
-    }
-
-    /// Those of the small table. It has no more shards than were asked for.
-    pub fn small_shape(&self) -> Result<(Shape, u32), OpenError> {
-        let capacity = (self.capacity / ENTRIES_OF_A_SMALL_ONE).max(1);
-        let shards = shards_for(capacity);
-        self.shape_for(capacity, self.shards.map_or(shards, |asked| asked.min(shards)))
-    }
-
-    fn shape_for(&self, capacity: usize, shards: u32) -> Result<(Shape, u32), OpenError> {
-        let capacity = u32::try_from(capacity).unwrap_or(u32::MAX);
+        let shards = self.shards.unwrap_or_else(|| shards_for(self.capacity));
+        let capacity = u32::try_from(self.capacity).unwrap_or(u32::MAX);
         let mut shape = Shape::for_items(capacity, shards).map_err(OpenError::of)?;
         shape.stripes = shape.stripes.min((STRIPES / shards).max(STRIPES_OF_A_SHARD));
         // The index hashes what a hasher of the user's may have spread badly.

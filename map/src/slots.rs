@@ -155,7 +155,7 @@ impl<H: 'static> Slots<H> {
     /// The index of that slot. No two threads have the same one at a time.
     #[inline]
     pub fn index(self: &Arc<Self>) -> Option<usize> {
-        let last = LAST.with(|last| last[last_of(self.id)].get());
+        let last = LAST.get();
         if last.id == self.id {
             Some(last.index)
         } else {
@@ -169,7 +169,7 @@ impl<H: 'static> Slots<H> {
         if recent.id != self.id {
             return self.claim();
         }
-        LAST.with(|last| last[last_of(self.id)].set(recent));
+        LAST.set(recent);
         Some(recent.index)
     }
 
@@ -248,11 +248,6 @@ fn place_of(id: u64) -> usize {
     id as usize % PLACES
 }
 
-#[inline]
-fn last_of(id: u64) -> usize {
-    id as usize % 2
-}
-
 /// A slot that this thread has claimed.
 struct Claim {
     index: usize,
@@ -285,9 +280,8 @@ impl Hasher for IdHasher {
 }
 
 thread_local! {
-    // Those that the thread used last, of even ids and of odd ones. By this a program with one map is quickest. If that has two tables, their ids
-    // follow each other.
-    static LAST: [Cell<Recent>; 2] = const { [const { Cell::new(Recent::NONE) }; 2] };
+    // The one that the thread used last. By this a program with one map is quickest.
+    static LAST: Cell<Recent> = const { Cell::new(Recent::NONE) };
     // Maps that the thread used lately, each at the place of its id.
     static RECENT: [Cell<Recent>; PLACES] = const { [const { Cell::new(Recent::NONE) }; PLACES] };
     static CLAIMS: Claims = Claims::default();
@@ -312,7 +306,7 @@ impl Claims {
 
 impl Drop for Claims {
     fn drop(&mut self) {
-        LAST.with(|last| last.iter().for_each(|place| place.set(Recent::NONE)));
+        LAST.set(Recent::NONE);
         RECENT.with(|recent| recent.iter().for_each(|place| place.set(Recent::NONE)));
         for claim in self.0.take().into_values() {
             if let Some(slots) = claim.slots.upgrade() {

@@ -5,7 +5,6 @@ use crate::key::Key;
 use crate::map::{Inserted, Map};
 use crate::print::Print;
 use crate::stats::Kind;
-use crate::wait::LOOKS;
 use crate::words::Words;
 use cefrodil::{PutIfAbsentError, PutIfError, TurnError};
 use std::borrow::Borrow;
@@ -130,20 +129,12 @@ impl<K: Key + ?Sized, V: Copy, S: BuildHasher> Inner<K, V, S> {
         for _ in 0..tries {
             let generation = self.generation.now();
             let print = print.dated(generation);
-            let mut found = self.look(print, tries);
-            if self.promote(print, found.as_ref(), tries.min(LOOKS)) {
-                found = self.look(print, tries);
-            }
-            let (old, since) = match found.ok_or(UpdateError::Busy)? {
+            let (old, since) = match self.look(print, tries).ok_or(UpdateError::Busy)? {
                 Found::Live(entry, since) => (Some(entry), Some(since)),
                 // It may be the key's, of a later generation. What had expired may have been live in this one until that ended.
                 Found::Expired(_) | Found::Other(_) if self.generation.now() != generation => continue,
                 Found::Expired(since) | Found::Other(since) => (None, Some(since)),
-                Found::Absent => match self.lacks(print, tries) {
-                    Some(true) => (None, None),
-                    Some(false) => continue,
-                    None => return Err(InsertError::Held.into()),
-                },
+                Found::Absent => (None, None),
             };
             let Some(new) = change(old.map(|entry| entry.value)) else { return Ok(None) };
             let deadline = match (anew, old) {
@@ -164,11 +155,7 @@ impl<K: Key + ?Sized, V: Copy, S: BuildHasher> Inner<K, V, S> {
 
     // Puts the words if the key's last put was at the moment `since`. `false`: another thread was first.
     fn put_over(&self, print: Print, since: u64, words: &Words, tries: u32) -> Result<bool, InsertError> {
-        let put = self.slots.in_turn(tries, || match &self.tiers {
-            Some(tiers) => tiers.put_if(print.key, since, words),
-            None => self.in_lock(print.key, |handle| handle.put_if(print.key, since, words)),
-        });
-        match put {
+        match self.slots.in_turn(tries, || self.in_lock(print.key, |handle| handle.put_if(print.key, since, words))) {
             Ok(_) => {
                 self.slots.count(Kind::Renewed);
                 Ok(true)
@@ -181,17 +168,18 @@ impl<K: Key + ?Sized, V: Copy, S: BuildHasher> Inner<K, V, S> {
 
     // Puts the words if the key is absent, and this generation has not ended before that was so.
     fn put_absent(&self, print: Print, generation: u64, words: &Words, tries: u32) -> Result<bool, InsertError> {
-        let may_put = || self.generation.now() == generation;
-        let put = self.slots.in_turn(tries, || match &self.tiers {
-            Some(tiers) => tiers.put_if_absent(print.key, words, may_put),
-            None => self.in_lock(print.key, |handle| match may_put() {
-                true => handle.put_if_absent(print.key, words).map(Inserted::of),
-                false => Err(TurnError::Call(PutIfAbsentError::Present { since: 0 })),
-            }),
+        let put = self.slots.in_turn(tries, || {
+            self.in_lock(print.key, |handle| {
+                if self.generation.now() == generation {
+                    handle.put_if_absent(print.key, words)
+                } else {
+                    Err(TurnError::Call(PutIfAbsentError::Present { since: 0 }))
+                }
+            })
         });
         match put {
-            Ok(did) => {
-                self.slots.count_put(did);
+            Ok(put) => {
+                self.slots.count_put(Inserted::of(put));
                 Ok(true)
             }
             Err(TurnError::Call(PutIfAbsentError::Present { .. })) => Ok(false),

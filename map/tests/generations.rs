@@ -17,17 +17,16 @@ type Numbers = Map<u64, u64>;
 
 const KEYS: u64 = 100;
 
-// With entries of each layout, with one table and with two. In the last one many keys are in the small table.
+// With entries of each layout. The last one is full.
 fn maps() -> Vec<Numbers> {
     let builder = || Numbers::builder(1_000);
     let maps = vec![
-        builder().one_table().open().unwrap(),
         builder().open().unwrap(),
         builder().time_to_live(Duration::MAX).open().unwrap(),
         builder().time_to_idle(Duration::from_secs(1_000)).open().unwrap(),
         builder().shards(1).open().unwrap(),
     ];
-    (1_000..5_000).for_each(|key| assert!(maps[4].insert(&key, key).is_ok()));
+    (1_000..5_000).for_each(|key| assert!(maps[3].insert(&key, key).is_ok()));
     maps
 }
 
@@ -91,7 +90,6 @@ fn what_was_being_made_when_it_came_is_not_found() {
 
 #[test]
 fn no_value_is_older_than_an_invalidation_that_has_returned() {
-    ends(|| load_from_source(|| Numbers::builder(8).one_table().open().unwrap()));
     ends(|| load_from_source(|| Numbers::builder(8).open().unwrap()));
 }
 

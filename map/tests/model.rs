@@ -102,9 +102,8 @@ fn write(map: &Map<u64, u64>, model: &mut Model, key: u64, number: u64, kind: u6
     }
 }
 
-// Twice, since with a small table the first lookup of a key may evict another one.
 fn look_at_all(map: &Map<u64, u64>, model: &mut Model) {
-    (0..2 * KEYS).map(|number| number % KEYS).for_each(|key| model.looked(key, map.get(&key)));
+    (0..KEYS).for_each(|key| model.looked(key, map.get(&key)));
 }
 
 fn agrees(map: &Map<u64, u64>, evicts: bool) {
@@ -135,7 +134,7 @@ fn agrees(map: &Map<u64, u64>, evicts: bool) {
 
 #[test]
 fn a_small_map_agrees_with_a_model() {
-    let map = Map::builder(200).shards(1).one_table().open().unwrap();
+    let map = Map::builder(200).shards(1).open().unwrap();
     assert_eq!(map.capacity(), 200);
     agrees(&map, true);
 }
@@ -150,31 +149,26 @@ fn small_shards_agree_with_a_model() {
 #[test]
 fn a_large_map_agrees_with_a_model() {
     agrees(&Map::new(10_000).unwrap(), false);
-    agrees(&Map::builder(10_000).one_table().open().unwrap(), false);
 }
 
 #[test]
-fn maps_with_a_small_table_agree_with_a_model() {
-    for (capacity, most) in [(1, 2), (10, 11), (120, 132)] {
+fn maps_of_few_entries_and_with_deadlines_agree_with_a_model() {
+    for capacity in [1, 10, 120] {
         let map = Map::builder(capacity).open().unwrap();
-        assert_eq!(map.capacity(), most);
+        assert_eq!(map.capacity(), capacity);
         agrees(&map, true);
     }
-    agrees(&Map::builder(100).shards(4).open().unwrap(), true);
     agrees(&Map::builder(200).time_to_live(std::time::Duration::MAX).open().unwrap(), true);
 }
 
 #[test]
 fn a_small_map_has_a_place_for_each_key() {
     for capacity in [7, 10, 14, 28, 57, 115] {
-        let builder = || Map::<u64, u64>::builder(capacity);
-        for (map, most) in [(builder().one_table(), capacity), (builder(), capacity + (capacity / 10).max(1))] {
-            let map = map.open().unwrap();
-            // Hardly a key finds no place. In tables of half the size it would be 16 of 1,000.
-            let refused = (0..6_000).filter(|key| map.insert(key, *key).is_err()).count() as u64;
-            assert!(refused < 4, "{refused} of 6,000 keys find no place in a map of {most}");
-            assert_eq!((map.capacity(), map.len(), map.stats().evicted), (most, most, 6_000 - most as u64 - refused));
-        }
+        let map = Map::<u64, u64>::new(capacity).unwrap();
+        // Hardly a key finds no place. In tables of half the size it would be 16 of 1,000.
+        let refused = (0..6_000).filter(|key| map.insert(key, *key).is_err()).count();
+        assert!(refused < 4, "{refused} of 6,000 keys find no place in a map of {capacity}");
+        assert_eq!((map.capacity(), map.len(), map.stats().evicted as usize), (capacity, capacity, 6_000 - capacity - refused));
     }
 }
 
@@ -199,5 +193,5 @@ fn a_clone_is_the_same_map() {
     let other = map.clone();
     map.insert(&1, 10).unwrap();
     assert_eq!((other.remove(&1), map.get(&1)), (Ok(Some(10)), None));
-    assert_eq!(format!("{other:?}"), "Map { len: 0, capacity: 110, .. }");
+    assert_eq!(format!("{other:?}"), "Map { len: 0, capacity: 100, .. }");
 }

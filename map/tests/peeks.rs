@@ -2,30 +2,31 @@
 use cefrodil_map::Map;
 use std::time::Duration;
 
-// A map that has just evicted the key 0 for 4. No other key was used since then, and the hand comes to 1 next.
-fn after_a_sweep() -> Map<u64, u64> {
-    let map = Map::builder(4).shards(1).one_table().open().unwrap();
-    (0..5).for_each(|key| _ = map.insert(&key, 10 * key).unwrap());
-    assert_eq!(map.stats().evicted, 1);
+// A full map. No key was used.
+fn full() -> Map<u64, u64> {
+    let map = Map::builder(4).shards(1).open().unwrap();
+    (0..4).for_each(|key| _ = map.insert(&key, 10 * key).unwrap());
     map
 }
 
 #[test]
 fn it_is_no_use() {
-    let (looked, peeked) = (after_a_sweep(), after_a_sweep());
-    assert_eq!((looked.get(&1), peeked.peek(&1)), (Some(10), Ok(Some(10))));
+    let (looked, peeked) = (full(), full());
+    assert!((0..4).all(|key| looked.peek(&key) == Ok(Some(10 * key)) && peeked.peek(&key) == Ok(Some(10 * key))));
+    assert_eq!((looked.get(&0), looked.get(&1), looked.get(&2)), (Some(0), Some(10), Some(20)));
+    assert_eq!((peeked.get(&1), peeked.get(&2), peeked.get(&3)), (Some(10), Some(20), Some(30)));
     for map in [&looked, &peeked] {
         map.insert(&5, 50).unwrap();
     }
-    assert_eq!((looked.peek(&1), looked.peek(&2)), (Ok(Some(10)), Ok(None)));
-    assert_eq!((peeked.peek(&1), peeked.peek(&2)), (Ok(None), Ok(Some(20))));
+    assert_eq!((looked.peek(&0), looked.peek(&3)), (Ok(Some(0)), Ok(None)));
+    assert_eq!((peeked.peek(&0), peeked.peek(&3)), (Ok(None), Ok(Some(30))));
 }
 
 #[test]
 fn it_is_not_counted() {
-    let map = after_a_sweep();
+    let map = full();
     let before = map.stats();
-    assert_eq!((map.peek(&0), map.peek(&4)), (Ok(None), Ok(Some(40))));
+    assert_eq!((map.peek(&7), map.peek(&3)), (Ok(None), Ok(Some(30))));
     assert_eq!(map.stats(), before);
 }
 

@@ -21,7 +21,7 @@ fn what_can_not_be_opened_says_why() {
     assert_eq!(open(builder(100).shards(512)), Err(OpenError::Shards));
     assert_eq!(open(builder(100).threads(1_024)), Err(OpenError::Threads));
     assert_eq!(open(builder(100).threads(usize::MAX)), Err(OpenError::Threads));
-    assert_eq!(open(builder(100).threads(1_023)), Ok(110));
+    assert_eq!(open(builder(100).threads(1_023)), Ok(100));
     assert!(open(builder(100).shards(256)).unwrap() > 100);
 }
 
@@ -30,7 +30,7 @@ fn there_is_room_for_what_was_asked_for() {
     for capacity in [1, 10, 127, 128, 255, 1_000, 30_000] {
         let map = Map::<u64, u64>::new(capacity).unwrap();
         assert!(map.capacity() >= capacity && map.capacity() <= 2 * capacity, "{} of {capacity}", map.capacity());
-        let exact = Map::<u64, u64>::builder(capacity).shards(1).one_table().open().unwrap();
+        let exact = Map::<u64, u64>::builder(capacity).shards(1).open().unwrap();
         assert_eq!(exact.capacity(), capacity);
     }
 }

@@ -102,27 +102,13 @@ fn no_value_is_torn_or_of_another_key() {
 
 #[test]
 fn nor_beside_evictions() {
-    let map = Map::builder(100).shards(2).threads(THREADS as usize).one_table().open().unwrap();
+    let map = Map::builder(100).shards(2).threads(THREADS as usize).open().unwrap();
     in_threads(|thread| no_value_is_wrong(&map, 1_000, 15_000, thread + 1));
     let stats = map.stats();
     assert!(stats.evicted > 0 && stats.shared == 0, "{stats:?}");
     assert!(map.len() <= map.capacity());
     let there = (0..1_000).filter(|key| map.contains_key(key)).count();
     assert_eq!(map.len(), there);
-}
-
-#[test]
-fn nor_beside_moves_from_a_small_table() {
-    let map = Map::builder(300).shards(2).threads(THREADS as usize).open().unwrap();
-    in_threads(|thread| no_value_is_wrong(&map, 1_000, 15_000, thread + 1));
-    let stats = map.stats();
-    assert!(stats.evicted > 0 && stats.shared == 0 && stats.collided == 0, "{stats:?}");
-    assert!(map.len() <= map.capacity());
-    // A lookup may evict another key, so the first time counts for nothing. A key that a single try moved may be in both tables, and count twice.
-    let there = || (0..1_000).filter(|key| map.contains_key(key)).count();
-    assert!(there() > 200 && there() <= map.len());
-    map.clear().unwrap();
-    assert_eq!((map.len(), there()), (0, 0));
 }
 
 #[test]
@@ -173,10 +159,9 @@ fn no_lookup_is_older_than_a_write_that_has_returned() {
     assert_eq!(map.stats().evicted, 0);
 }
 
-// Each thread writes keys of its own, removes them, and looks up those of others. Other keys keep the main table full, so all go through the small
-// one and move when they are found.
+// Each thread writes keys of its own, removes them, and looks up those of others. Other keys keep the map full.
 #[test]
-fn nor_beside_moves() {
+fn nor_in_a_full_map() {
     const KEYS: u64 = 4;
     const ROUNDS: u64 = 3_000;
     let map = Map::<(u64, u64), u64>::builder(60).open().unwrap();
@@ -224,7 +209,7 @@ fn no_update_is_lost() {
 
 // A counter that was evicted begins anew, with a number of its own. No two updates make the same of it.
 #[test]
-fn no_update_is_lost_beside_moves() {
+fn no_update_is_lost_beside_evictions() {
     const KEYS: u64 = 6;
     const UPDATES: u64 = 6_000;
     let map = Map::<u64, (u64, u64)>::builder(40).open().unwrap();

@@ -50,7 +50,7 @@ pub fn beside<const CALLS: usize>(disturb: impl Fn() + Sync, round: impl Fn(u64)
 
 // A map of one shard, with so many entries, whose calls try so often.
 fn filled(entries: u64, tries: u32) -> Map<u64, u64> {
-    let map = Map::builder(1).one_table().open_shaped(&one_shard(40_000), 1, tries).unwrap();
+    let map = Map::builder(1).open_shaped(&one_shard(40_000), 1, tries).unwrap();
     for key in 0..entries {
         map.insert(&key, key).unwrap();
     }
@@ -60,7 +60,7 @@ fn filled(entries: u64, tries: u32) -> Map<u64, u64> {
 // A map whose calls try so often. It has the key 1, and a write of any other key disturbs its lookups.
 fn restless(tries: u32) -> Map<u64, u64> {
     let shape = Shape { stripes: 1, tries: 1, ..one_shard(100) };
-    let map = Map::builder(1).one_table().open_shaped(&shape, 1, tries).unwrap();
+    let map = Map::builder(1).open_shaped(&shape, 1, tries).unwrap();
     map.insert(&1, 10).unwrap();
     map
 }

@@ -12,7 +12,7 @@ use std::rc::Rc;
 type Numbers = Map<u64, u64>;
 
 fn open() -> Numbers {
-    Map::builder(1).one_table().open_shaped(&one_shard(100), 1, 5).unwrap()
+    Map::builder(1).open_shaped(&one_shard(100), 1, 5).unwrap()
 }
 
 // A call of an earlier generation finds an entry of a later one.
@@ -32,18 +32,17 @@ fn an_update_that_began_before_loses_no_later_one() {
 // All is invalidated right before its call of the index, and then another thread puts the key, if it can.
 #[test]
 fn an_insert_that_began_before_destroys_no_later_value() {
-    for map in [open(), Map::new(1_000).unwrap()] {
-        map.insert(&1, 1).unwrap();
-        let (other, has_put) = (map.clone(), Rc::new(Cell::new(false)));
-        let tells = Rc::clone(&has_put);
-        before_calls(0, 1, move || {
-            other.invalidate_all();
-            tells.set(other.try_insert(&1, 20).is_ok());
-        });
-        calls(|| map.insert(&1, 10)).1.unwrap();
-        assert!(!has_put.get() || map.get(&1).is_some());
-        assert_eq!((map.insert(&1, 30).is_ok(), map.get(&1)), (true, Some(30)));
-    }
+    let map = open();
+    map.insert(&1, 1).unwrap();
+    let (other, has_put) = (map.clone(), Rc::new(Cell::new(false)));
+    let tells = Rc::clone(&has_put);
+    before_calls(0, 1, move || {
+        other.invalidate_all();
+        tells.set(other.try_insert(&1, 20).is_ok());
+    });
+    calls(|| map.insert(&1, 10)).1.unwrap();
+    assert!(!has_put.get() || map.get(&1).is_some());
+    assert_eq!((map.insert(&1, 30).is_ok(), map.get(&1)), (true, Some(30)));
 }
 
 #[cfg(feature = "objects")]
@@ -65,19 +64,18 @@ fn an_insert_of_an_object_that_began_before_destroys_no_later_one() {
 // It is invalidated between the lookup of the key and the put.
 #[test]
 fn what_is_put_where_nothing_was_is_found_or_was_invalidated() {
-    for map in [open(), Map::new(1_000).unwrap()] {
-        map.insert(&1, 1).unwrap();
-        let other = map.clone();
-        before_calls(0, 1, move || {
-            other.invalidate_all();
-            other.remove(&1).unwrap();
-            other.insert(&1, 2).unwrap();
-            other.remove(&1).unwrap();
-        });
-        // The key had a value until all was invalidated, so this came later.
-        assert_eq!(calls(|| map.update(&1, |old| old.unwrap_or(10))).1, Ok(10));
-        assert_eq!(map.get(&1), Some(10));
-    }
+    let map = open();
+    map.insert(&1, 1).unwrap();
+    let other = map.clone();
+    before_calls(0, 1, move || {
+        other.invalidate_all();
+        other.remove(&1).unwrap();
+        other.insert(&1, 2).unwrap();
+        other.remove(&1).unwrap();
+    });
+    // The key had a value until all was invalidated, so this came later.
+    assert_eq!(calls(|| map.update(&1, |old| old.unwrap_or(10))).1, Ok(10));
+    assert_eq!(map.get(&1), Some(10));
 }
 
 #[cfg(feature = "objects")]

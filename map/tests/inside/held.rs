@@ -17,7 +17,7 @@ const LIFE: Duration = Duration::MAX;
 
 // A map of one shard with the key 1, whose calls try five times.
 fn open() -> Map<u64, u64> {
-    let map = Map::builder(1).one_table().time_to_live(LIFE).open_shaped(&one_shard(100), 1, TRIES).unwrap();
+    let map = Map::builder(1).time_to_live(LIFE).open_shaped(&one_shard(100), 1, TRIES).unwrap();
     map.insert(&1, 10).unwrap();
     map
 }

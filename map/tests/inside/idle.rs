@@ -14,9 +14,8 @@ const fn seconds(number: u64) -> Duration {
 }
 
 // A map with the keys 1 to 4.
-fn open(is_tiered: bool) -> Numbers {
-    let builder = Map::builder(100).time_to_idle(IDLE);
-    let map = if is_tiered { builder } else { builder.one_table() }.open().unwrap();
+fn open() -> Numbers {
+    let map = Map::builder(100).time_to_idle(IDLE).open().unwrap();
     for key in 1..=4 {
         map.insert(&key, 10 * key).unwrap();
     }
@@ -29,20 +28,18 @@ fn turn(map: &Numbers, by: u64) {
 
 #[test]
 fn an_entry_expires_when_it_was_not_used_for_so_long() {
-    for is_tiered in [false, true] {
-        let map = open(is_tiered);
-        turn(&map, 100);
-        assert_eq!((map.get(&1), map.peek(&2)), (Some(10), Ok(Some(20))));
-        turn(&map, 59);
-        assert_eq!((map.peek(&2), map.peek(&3)), (Ok(Some(20)), Ok(Some(30))));
-        turn(&map, 1);
-        // Peeks are no uses.
-        assert_eq!((map.get(&1), map.get(&2), map.get(&3), map.peek(&4)), (Some(10), None, None, Ok(None)));
-        turn(&map, 159);
-        assert_eq!(map.peek(&1), Ok(Some(10)));
-        turn(&map, 1);
-        assert_eq!((map.get(&1), map.stats().expired), (None, 3));
-    }
+    let map = open();
+    turn(&map, 100);
+    assert_eq!((map.get(&1), map.peek(&2)), (Some(10), Ok(Some(20))));
+    turn(&map, 59);
+    assert_eq!((map.peek(&2), map.peek(&3)), (Ok(Some(20)), Ok(Some(30))));
+    turn(&map, 1);
+    // Peeks are no uses.
+    assert_eq!((map.get(&1), map.get(&2), map.get(&3), map.peek(&4)), (Some(10), None, None, Ok(None)));
+    turn(&map, 159);
+    assert_eq!(map.peek(&1), Ok(Some(10)));
+    turn(&map, 1);
+    assert_eq!((map.get(&1), map.stats().expired), (None, 3));
 }
 
 #[test]
@@ -61,15 +58,13 @@ fn each_lookup_and_write_is_a_use() {
         |map| done(map.try_update(&1, |old| old.unwrap())),
     ];
     for is_use in uses {
-        for is_tiered in [false, true] {
-            let map = open(is_tiered);
-            turn(&map, 150);
-            is_use(&map);
-            turn(&map, 159);
-            assert_eq!(map.peek(&1), Ok(Some(10)));
-            turn(&map, 1);
-            assert_eq!(map.peek(&1), Ok(None));
-        }
+        let map = open();
+        turn(&map, 150);
+        is_use(&map);
+        turn(&map, 159);
+        assert_eq!(map.peek(&1), Ok(Some(10)));
+        turn(&map, 1);
+        assert_eq!(map.peek(&1), Ok(None));
     }
 }
 
@@ -81,7 +76,7 @@ fn since(map: &Numbers) -> u64 {
 
 #[test]
 fn a_lookup_writes_once_in_a_sixteenth_of_the_time() {
-    let map = open(false);
+    let map = open();
     let first = since(&map);
     turn(&map, 9);
     assert_eq!((map.get(&1), since(&map)), (Some(10), first));
@@ -95,17 +90,6 @@ fn a_lookup_writes_once_in_a_sixteenth_of_the_time() {
     assert_eq!(map.get(&1), Some(10));
     turn(&map, 151);
     assert_eq!(map.get(&1), None);
-}
-
-#[test]
-fn a_use_that_moves_its_key_begins_the_time_anew() {
-    let map = Numbers::builder(40).shards(1).time_to_idle(IDLE).open().unwrap();
-    (0..100).for_each(|key| done(map.insert(&(1_000 + key), key)));
-    map.insert(&1, 10).unwrap();
-    for _ in 0..3 {
-        turn(&map, 100);
-        assert_eq!(map.get(&1), Some(10));
-    }
 }
 
 #[test]
@@ -139,7 +123,7 @@ fn a_time_without_end_ends_never_and_none_ends_at_once() {
 
 #[test]
 fn a_use_undoes_no_write_that_comes_before_it_is_noted() {
-    let map = open(false);
+    let map = open();
     turn(&map, 100);
     let other = map.clone();
     before_calls(1, 1, move || assert_eq!(other.remove(&1), Ok(Some(10))));
@@ -151,7 +135,7 @@ fn a_use_undoes_no_write_that_comes_before_it_is_noted() {
 
 #[test]
 fn a_lookup_does_not_wait_for_the_turn_and_the_next_one_is_noted() {
-    let map = open(false);
+    let map = open();
     turn(&map, 100);
     let held = Turn::begin(&map.inner.slots, AnyHandle::keys);
     assert_eq!((map.try_get(&1), map.try_get(&9)), (Ok(Some(10)), Ok(None)));

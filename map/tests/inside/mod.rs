@@ -8,13 +8,11 @@ mod epochs;
 mod errors;
 mod expiry;
 mod fills;
-mod filters;
 mod flights;
 mod forks;
 mod generations;
 mod held;
 mod idle;
-mod moves;
 #[cfg(feature = "objects")]
 mod object_disturbed;
 #[cfg(feature = "objects")]
@@ -31,10 +29,8 @@ mod overtaken;
 mod places;
 mod prints;
 mod shapes;
-mod sketches;
 mod slots;
 mod stalled;
-mod tiers;
 mod timed;
 mod turns;
 mod waiting;

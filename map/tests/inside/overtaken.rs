@@ -14,7 +14,7 @@ const LIFE: Duration = Duration::MAX;
 
 // A map with the key 1.
 fn open() -> Numbers {
-    let map = Map::builder(1).one_table().time_to_live(LIFE).open_shaped(&one_shard(100), 1, TRIES).unwrap();
+    let map = Map::builder(1).time_to_live(LIFE).open_shaped(&one_shard(100), 1, TRIES).unwrap();
     map.insert(&1, 10).unwrap();
     map
 }

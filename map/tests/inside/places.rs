@@ -3,13 +3,14 @@ use super::one_shard;
 use crate::words::Layout;
 use crate::{GetError, InsertError, Inserted, Map, RemoveError, UpdateError};
 use cefrodil::Shape;
+use std::collections::HashMap;
 use std::hash::{BuildHasher, BuildHasherDefault, Hasher};
 use std::time::Duration;
 
 #[test]
 fn an_insert_without_a_place_says_so() {
     let shape = Shape { buckets: 2, items: 8, stripes: 1, depth: 2, ..one_shard(8) };
-    let map: Map<u64, u64> = Map::builder(1).one_table().open_shaped(&shape, 1, 10).unwrap();
+    let map: Map<u64, u64> = Map::builder(1).open_shaped(&shape, 1, 10).unwrap();
     let (mut there, mut refused) = (0, 0);
     for key in 0..50 {
         match map.insert(&key, key) {
@@ -33,7 +34,7 @@ fn an_insert_without_a_place_says_so() {
 fn a_map_without_changes_left_says_so() {
     // Enough for one insert and one update.
     let shape = Shape { limit: 4, depth: 0, ..one_shard(8) };
-    let map: Map<u64, u64> = Map::builder(1).one_table().open_shaped(&shape, 1, 10).unwrap();
+    let map: Map<u64, u64> = Map::builder(1).open_shaped(&shape, 1, 10).unwrap();
     assert_eq!((map.insert(&1, 10), map.update(&1, |_| 11)), (Ok(Inserted::New), Ok(11)));
     assert_eq!(map.insert(&1, 12), Err(InsertError::Spent));
     assert_eq!(map.update(&1, |_| 12), Err(UpdateError::Insert(InsertError::Spent)));
@@ -149,4 +150,55 @@ fn keys_with_the_same_first_hash_are_computed_apart() {
         20
     });
     assert_eq!((value, map.get(&2), map.get(&6)), (20, Some(20), None));
+}
+
+/// Gives keys one of 50 numbers in the index, and themselves as check words.
+#[derive(Default)]
+struct Narrow(Vec<u64>);
+
+impl Hasher for Narrow {
+    fn write(&mut self, _: &[u8]) {
+        unreachable!("a key is a number")
+    }
+
+    fn write_u64(&mut self, number: u64) {
+        self.0.push(number);
+    }
+
+    fn finish(&self) -> u64 {
+        let [kind, key] = self.0[..] else { panic!("a key is hashed after a number") };
+        if kind == 0 {
+            key % 50
+        } else {
+            key
+        }
+    }
+}
+
+// Keys with the same number in the index drive each other out. None has another one's value, or an older one.
+#[test]
+fn keys_that_meet_in_the_index_are_told_apart() {
+    let map = Map::<u64, u64>::builder(30).hasher(BuildHasherDefault::<Narrow>::default()).open().unwrap();
+    let (mut last, mut seed, mut found) = (HashMap::new(), 7_u64, 0);
+    for number in 0..30_000 {
+        seed = seed.wrapping_mul(0x5851_f42d_4c95_7f2d).wrapping_add(1);
+        let (key, kind) = ((seed >> 33) % 150, (seed >> 60) % 8);
+        let value = match kind {
+            0..=3 => map.get(&key),
+            4 => map.remove(&key).unwrap(),
+            5 => map.modify(&key, |old| old).unwrap(),
+            _ => None,
+        };
+        assert!(value.is_none() || value == last.get(&key).copied(), "key {key}");
+        found += u64::from(value.is_some());
+        match kind {
+            4 => _ = last.remove(&key),
+            6 => _ = (map.insert(&key, number).unwrap(), last.insert(key, number)),
+            7 => _ = (map.update(&key, |_| number).unwrap(), last.insert(key, number)),
+            _ => {}
+        }
+    }
+    assert!(found > 1_000 && map.stats().collided > 1_000, "{found}, {:?}", map.stats());
+    let there = || (0..150).filter(|key| map.contains_key(key)).count();
+    assert_eq!((there() > 0, there()), (true, map.len()));
 }

@@ -1,6 +1,6 @@
 //! What a shard is opened with.
 use crate::settings::Settings;
-use cefrodil::{Mix, Shape};
+use cefrodil::{Mix, Policy, Shape};
 use std::collections::hash_map::RandomState;
 
 #[test]
@@ -41,6 +41,11 @@ fn small_shards_have_more_buckets() {
         let (shape, shards) = settings.shape().unwrap();
         assert_eq!((shards, shape.items, shape.buckets), (1, items, buckets));
     }
+}
+
+#[test]
+fn a_map_evicts_few_keys_for_a_scan() {
+    assert_eq!(Settings::new(5_000).shape().unwrap().0.policy, Policy::ScanResistant);
 }
 
 // The index mixes the bits of a hasher of the user's alone.

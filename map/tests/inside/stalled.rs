@@ -11,7 +11,7 @@ const LIFE: Duration = Duration::MAX;
 
 // A map of one shard with the key 1, whose calls try so often.
 fn open(tries: u32) -> Map<u64, u64> {
-    let map = Map::builder(1).one_table().time_to_live(LIFE).open_shaped(&one_shard(100), 1, tries).unwrap();
+    let map = Map::builder(1).time_to_live(LIFE).open_shaped(&one_shard(100), 1, tries).unwrap();
     map.insert(&1, 10).unwrap();
     map
 }

@@ -23,13 +23,16 @@ fn time() -> Duration {
 fn calls_at_once_come_to_what_an_order_of_them_does() {
     let whole = Duration::MAX;
     let values = || Map::<u64, u64>::builder(1_000);
-    let small = || Map::<u64, u64>::builder(100).shards(4);
+    let few = || Map::<u64, u64>::builder(100).shards(4);
     let objects = || ObjectMap::<u64, u64>::builder(1_000);
     let kinds: [(&str, &dyn Calls); 6] = [
-        ("values in one table", &values::plain(values().one_table().open().unwrap())),
-        ("values with lives in one table", &values::timed(values().one_table().time_to_live(whole).open().unwrap())),
-        ("values in two tables", &values::full(small().open().unwrap())),
-        ("values with lives in two tables", &values::full_timed(small().time_to_live(whole).time_to_idle(whole).open().unwrap())),
+        ("values", &values::plain(values().open().unwrap())),
+        ("values with lives", &values::timed(values().time_to_live(whole).open().unwrap())),
+        ("values in a full map", &values::full(few().open().unwrap())),
+        (
+            "values with both lives in a full map",
+            &values::full_timed(few().time_to_live(whole).time_to_idle(whole).open().unwrap()),
+        ),
         ("objects", &objects::plain(objects().open().unwrap())),
         (
             "objects with lives and weights",

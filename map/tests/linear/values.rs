@@ -24,7 +24,7 @@ pub fn timed(map: Numbers) -> Values {
     Values { has_lives: true, ..plain(map) }
 }
 
-/// A map that is full, so that new keys go to the small table.
+/// A map that is full, so that new keys evict others.
 pub fn full(map: Numbers) -> Values {
     Values { filler: Some(AtomicU64::new(1_000)), ..plain(map) }
 }

@@ -1,5 +1,6 @@
-//! What a call of a `cefrodil_map::Map` costs, for valgrind's callgrind: as ../costs.cpp, with the same words. In place of the number of tables it may
-//! be `objects`, an `ObjectMap` by `one_queue`, or `objects+`, one with queues.
+//! What a call of a map of the crate `cefrodil-map` costs, for valgrind's callgrind.
+//!
+//! usage: costs KIND CALLS MAP [full]     KIND: hit, miss, over or new; MAP: map or objects
 use cefrodil_map::{Map, ObjectMap};
 use std::env::args;
 
@@ -68,14 +69,11 @@ fn make(map: &impl Numbers, kind: &str, calls: u64, is_full: bool) {
 
 fn main() -> Result<(), Box<dyn std::error::Error>> {
     let words: Vec<String> = args().skip(1).collect();
-    let [kind, calls, tables, full @ ..] = &words[..] else { return Err("usage: costs KIND CALLS TABLES [full]".into()) };
+    let [kind, calls, map, full @ ..] = &words[..] else { return Err("usage: costs KIND CALLS MAP [full]".into()) };
     let (calls, is_full) = (calls.parse()?, !full.is_empty());
-    let (values, objects) = (Map::<u64, Value>::builder(1_000), ObjectMap::<u64, Value>::builder(1_000));
-    match tables.as_str() {
-        "1" => make(&values.one_table().open()?, kind, calls, is_full),
-        "2" => make(&values.open()?, kind, calls, is_full),
-        "objects" => make(&objects.one_queue().open()?, kind, calls, is_full),
-        _ => make(&objects.open()?, kind, calls, is_full),
+    match map.as_str() {
+        "map" => make(&Map::<u64, Value>::new(1_000)?, kind, calls, is_full),
+        _ => make(&ObjectMap::<u64, Value>::new(1_000)?, kind, calls, is_full),
     }
     Ok(())
 }

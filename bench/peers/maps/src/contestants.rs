@@ -84,8 +84,7 @@ pub trait Contestant<K: Key, V, S>: Sync {
     fn put(&self, key: &K::Borrowed, value: V) -> bool;
 }
 
-/// With a small table for new keys, or not.
-pub struct Cefrodil<K: Key, V, S, const SMALL_TABLE: bool>(cefrodil_map::Map<K::Borrowed, V, S>);
+pub struct Cefrodil<K: Key, V, S>(cefrodil_map::Map<K::Borrowed, V, S>);
 
 /// A hasher of a `cefrodil_map`. Its own one is its default, by which it hashes each key once.
 pub trait Opens: BuildHasher + Clone + Send + Sync {
@@ -104,12 +103,10 @@ impl Opens for Quick {
     }
 }
 
-/// As it is opened by default, but for the hasher and the small table.
-impl<K: Key, V: Copy + Send + Sync + 'static, S: Opens, const SMALL_TABLE: bool> Contestant<K, V, S> for Cefrodil<K, V, S, SMALL_TABLE> {
+/// As it is opened by default, but for the hasher.
+impl<K: Key, V: Copy + Send + Sync + 'static, S: Opens> Contestant<K, V, S> for Cefrodil<K, V, S> {
     fn new(keys: usize, hasher: S) -> Self {
-        let builder = hasher.builder(keys);
-        let map = if SMALL_TABLE { builder.open() } else { builder.one_table().open() };
-        Cefrodil(map.expect("a map"))
+        Cefrodil(hasher.builder(keys).open().expect("a map"))
     }
 
     #[inline(always)]

@@ -120,8 +120,7 @@ where
     KeyRef<K>: Borrow<K::Borrowed>,
 {
     match options.contestant.as_str() {
-        "cefrodil" => run::<N, K, S, Cefrodil<K, [u64; N], S, true>>(options, hasher),
-        "one_table" => run::<N, K, S, Cefrodil<K, [u64; N], S, false>>(options, hasher),
+        "cefrodil" => run::<N, K, S, Cefrodil<K, [u64; N], S>>(options, hasher),
         "dashmap" => run::<N, K, S, DashMap<K, [u64; N], S>>(options, hasher),
         "locked" => run::<N, K, S, RwLock<HashMap<K, [u64; N], S>>>(options, hasher),
         "lru" => run::<N, K, S, Lru<K, [u64; N], S>>(options, hasher),

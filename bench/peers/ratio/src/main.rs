@@ -1,8 +1,8 @@
 //! How many lookups find their key in a cache, for `bench/small_table.py`. Standard input has the keys, as words of 64 bits. Each that is missed is
 //! put.
 //!
-//! usage: ratio CAPACITY CACHE     CACHE: map, or map+ with a small table; number, objects by their number; objects by their weight; or server. It prints
-//! a line of 0 and 1: which lookups hit.
+//! usage: ratio CAPACITY CACHE     CACHE: map; number, objects by their number; objects, by their weight; server. It prints a line of 0 and
+//! 1: which lookups hit.
 mod server;
 
 use cefrodil_map::{Map, ObjectMap};
@@ -40,17 +40,9 @@ impl Cache for ObjectMap<u64, u64> {
     }
 }
 
-/// One shard has room for just what was asked for. A small table is a tenth of the main one.
-fn map(capacity: usize, is_small: bool) -> Result<Box<dyn Cache>, Failure> {
-    let builder = |entries| Map::<u64, u64>::builder(entries).shards(1).threads(1);
-    let map = if is_small { builder(capacity * 10 / 11).open()? } else { builder(capacity).one_table().open()? };
-    assert!(map.capacity() + 1 >= capacity && map.capacity() <= capacity);
-    Ok(Box::new(map))
-}
-
-/// Bounded by weight alone: its index has room for more.
-fn objects(capacity: usize) -> Result<Box<dyn Cache>, Failure> {
-    Ok(Box::new(ObjectMap::<u64, u64>::builder(2 * capacity).threads(1).max_weight(capacity as u64, |_, _| 1).open()?))
+/// One shard has room for just what was asked for.
+fn map(capacity: usize) -> Result<Box<dyn Cache>, Failure> {
+    Ok(Box::new(Map::<u64, u64>::builder(capacity).shards(1).threads(1).open()?))
 }
 
 /// Bounded by their number.
@@ -58,12 +50,18 @@ fn number(capacity: usize) -> Result<Box<dyn Cache>, Failure> {
     Ok(Box::new(ObjectMap::<u64, u64>::builder(capacity).shards(1).threads(1).open()?))
 }
 
+/// Bounded by weight alone: its index has room for more.
+fn objects(capacity: usize) -> Result<Box<dyn Cache>, Failure> {
+    let builder = ObjectMap::<u64, u64>::builder(2 * capacity).shards(1).threads(1);
+    Ok(Box::new(builder.max_weight(capacity as u64, |_, _| 1).open()?))
+}
+
 fn main() -> Result<(), Failure> {
     let words: Vec<_> = args().skip(1).collect();
     let [capacity, name] = &words[..] else { return Err("usage: ratio CAPACITY CACHE".into()) };
-    let (capacity, is_small) = (capacity.parse()?, name.ends_with('+'));
-    let mut cache = match name.trim_end_matches('+') {
-        "map" => map(capacity, is_small)?,
+    let capacity = capacity.parse()?;
+    let mut cache = match name.as_str() {
+        "map" => map(capacity)?,
         "number" => number(capacity)?,
         "objects" => objects(capacity)?,
         "server" => server::open(capacity)?,
