@@ -195,7 +195,7 @@ template <class K, class V, class Hash = SipHash<K>, class Equal = std::equal_to
             return Status::closed;
         }
         const inside::Identity known = inner_->identities.of(key);
-        inner_->flights_of(known).outdate(known);
+        inner_->flights.outdate(known);
         for (uint32_t repeat = 0;; repeat++) {
             const Seen seen = inner_->look_to_take(known, key);
             if (seen.object == nullptr) {
@@ -234,7 +234,7 @@ template <class K, class V, class Hash = SipHash<K>, class Equal = std::equal_to
         if (!inner_) {
             return Status::closed;
         }
-        inner_->outdate_all();
+        inner_->flights.outdate_all();
         return inner_->objects.clear();
     }
     // Once it has returned, no key is found that was put before it began, nor a value that find_or_compute was computing then. As by cefrodil::map. The
@@ -244,7 +244,7 @@ template <class K, class V, class Hash = SipHash<K>, class Equal = std::equal_to
             return Status::closed;
         }
         inner_->objects.generation().begin_next();
-        inner_->outdate_all();
+        inner_->flights.outdate_all();
         return Status::ok;
     }
     // Removes what has expired, and what was put before invalidate_all. As by `clear`. Until then it stays until it is overwritten or evicted, and `size` and
@@ -274,7 +274,7 @@ template <class K, class V, class Hash = SipHash<K>, class Equal = std::equal_to
     // Computes the key's value, if no other call does so now, and puts it. None: another call did.
     template <class Function> std::optional<Computed<V>> compute(Key key, Function &function, Change &change) {
         const inside::Identity known = inner_->identities.of(key);
-        inside::Flight flight(inner_->flights_of(known), known);
+        inside::Flight flight(inner_->flights.of(known), known);
         if (!flight.has_begun()) {
             return std::nullopt;
         }
@@ -294,7 +294,7 @@ template <class K, class V, class Hash = SipHash<K>, class Equal = std::equal_to
             return Status::closed;
         }
         const inside::Identity known = inner_->identities.of(key);
-        inner_->flights_of(known).outdate(known);
+        inner_->flights.outdate(known);
         const uint64_t generation = inner_->generation();
         for (uint32_t repeat = 0;; repeat++) {
             Seen seen{};
@@ -321,7 +321,7 @@ template <class K, class V, class Hash = SipHash<K>, class Equal = std::equal_to
         if (!object) {
             return {Status::no_memory, false, false};
         }
-        inner_->flights_of(known).outdate(known);
+        inner_->flights.outdate(known);
         Change change(objects);
         const Status status = make(known, object, change);
         if constexpr (std::is_same_v<Value, V> && std::is_move_assignable_v<V>) {

@@ -6,6 +6,8 @@
 #include "handle.hpp"
 #include "hash.hpp"
 #include "threads.hpp"
+#include <algorithm>
+#include <array>
 #include <cstddef>
 #include <mutex>
 
@@ -114,6 +116,20 @@ template <class Parts> class FlightOf {
 
 using Flights = FlightsOf<Threads>;
 using Flight = FlightOf<Threads>;
+
+// Those of all keys of a map.
+class AllFlights {
+  public:
+    Flights &of(const Identity &key) noexcept { return stripes_[key.index % stripes_.size()]; }
+    void outdate(const Identity &key) noexcept { of(key).outdate(key); }
+    void outdate_all() noexcept {
+        std::for_each(stripes_.begin(), stripes_.end(), [](Flights &some) { some.outdate_all(); });
+    }
+
+  private:
+    // map/SETTINGS has this number, and that of Rust's maps.
+    std::array<Flights, 64> stripes_{};
+};
 
 } // namespace inside
 
