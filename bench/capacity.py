@@ -5,7 +5,7 @@ times as many as there is room for, with values of one size. Prints a table. A c
 
 usage: bench/capacity.py LIB     LIB: the folder of libcefrodil.a, as c/build makes it
 
-It needs cargo and, of Debian: apt-get install librust-mio-dev memcached.
+It needs cargo and, of Debian, memcached and the server's crates: see server/README.md.
 """
 import os
 import sys

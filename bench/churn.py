@@ -9,7 +9,7 @@ With MCCHECK cefrodild runs once more, for as long, with --audit and less to do.
 usage: [MEMORY=M] [SERVERS=NAME,..] bench/churn.py LIB MINUTES [MCCHECK]     MEMORY: -m; none: 64; SERVERS: of cefrodild, memcached and audited; none:
 all; LIB: the folder of libcefrodil.a, as c/build makes it; MCCHECK: the program of crates/mccheck
 
-It needs cargo and, of Debian: apt-get install librust-mio-dev memcached.
+It needs cargo and, of Debian, memcached and the server's crates: see server/README.md.
 """
 import contextlib
 import multiprocessing

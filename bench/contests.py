@@ -24,8 +24,8 @@ ALL = tuple(SHOWN)
 # Those of the bench of maps: the language of the program, and the contestant's name there.
 MAPS = {'rust_cefrodil': '`cefrodil-map`', 'rust_dashmap': 'dashmap', 'rust_locked': SHOWN['locked'], 'rust_lru': SHOWN['lru'],
         'cpp_cefrodil': '`cefrodil::map`', 'cpp_libcuckoo': 'libcuckoo', 'cpp_tbb': 'TBB'}
-# Those of the bench of full caches: the policies.
-POLICIES = {'scan_resistant': 'scan-resistant', 'clock': 'CLOCK'}
+# Those of the bench of full caches: the policies, and the LRU cache of the crate lru.
+POLICIES = {'scan_resistant': 'scan-resistant', 'clock': 'CLOCK', 'full_lru': '`Mutex<LruCache>`'}
 SHOWN.update(MAPS | POLICIES)
 WRITERS = ('door', 'cefrodil', 'libcuckoo', 'tbb', 'dashmap', 'locked', 'lru')
 # From C all threads write to 64 shards, each until it has the turn.
@@ -48,7 +48,7 @@ USED = (51, 60, 70, 80, 85, 90, 93, 95, 97)
 # Programs that have several contestants, or options of their own.
 PROGRAMS = {'cefrodil': ('mcbench',), 'many': ('mcbench', '--many', str(MANY)), 'shards16': ('mcbench', '--shards', '16'),
             'shards64': ('mcbench', '--shards', '64'), 'door_many': ('door', '--many', str(MANY)), 'twin': ('contest', 'twin'),
-            'scan_resistant': ('door_shards',), 'clock': ('door_shards', '--clock', '1'),
+            'scan_resistant': ('door_shards', '--shards', '16'), 'clock': ('door_shards', '--shards', '16', '--clock', '1'), 'full_lru': ('full_lru',),
             'dashmap': ('contest', 'dashmap'), 'locked': ('contest', 'locked'), 'lru': ('contest', 'lru'),
             **{name: ('maps_' + name.split('_')[0], name.split('_', 1)[1]) for name in MAPS}}
 # The figures: their units, and how they are shown.
@@ -179,7 +179,7 @@ def full():
     """Full caches whose keys are drawn by Zipf's law. Each key that is missed is put."""
     rows = []
     for keys, capacity in (100_000, 1000), (100_000_000, 1_000_000):
-        run = f'--workload cache --keys {keys} --capacity {capacity} --skew 99 --shards 16'
+        run = f'--workload cache --keys {keys} --capacity {capacity} --skew 99'
         for threads in 1, 4:
             row = calls(f'{capacity:,} items of {keys:,} keys', run, threads)._replace(names=tuple(POLICIES))
             rows += [row, row._replace(label=f'{row.label}: hit ratio', figure='hit_ratio')]

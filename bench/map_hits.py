@@ -1,14 +1,14 @@
 #!/usr/bin/env python3
 """How many lookups find their key in maps and in the server, beside models of policies.
 
-`Map` and `ObjectMap` of the crate `cefrodil-map`, `map` and `object_map` of C++ and the server make the same lookups. An `ObjectMap` and an
-`object_map` are bounded by the number of their entries or by weights. The server gets its commands without a connection. The lookups are those of
+`Map` and `ObjectMap` of the crate `cefrodil-map`, `map` and `object_map` of C++ and the server make the same lookups, in one shard. An `ObjectMap` and
+an `object_map` are bounded by the number of their entries, or by weights. The server gets its commands without a connection. The lookups are those of
 bench/traces.py, and the models of bench/policies.py. A key that is absent is put. It prints a table.
 
 usage: bench/map_hits.py [LOOKUPS]     LOOKUPS: 600,000 unless it says otherwise
 
 CEFRODIL_LIB names the folder of libcefrodil.a; none: that of the release, and nothing of C++. It takes some eight minutes. It needs cargo and g++
-and, of Debian: apt-get install librust-mio-dev.
+and, of Debian, the server's crates: see server/README.md.
 """
 import os
 import subprocess
@@ -22,8 +22,7 @@ from traces import cases, of_model, of_program
 # What each program calls its caches, and the table's heads.
 CACHES = {
     'Rust': {'map': '`Map`', 'number': '`ObjectMap`', 'objects': 'by weights', 'server': 'server'},
-    'C++': {'map': '`cefrodil::map`', 'map+': '`cefrodil::map`, small table', 'objects': '`object_map`, the index alone', 'objects+': '`object_map`',
-            'weights': '`object_map` by weight, one ring', 'weights+': '`object_map` by weight'},
+    'C++': {'map': '`cefrodil::map`', 'objects': '`object_map`', 'weights': 'by weights'},
 }
 
 

@@ -194,17 +194,17 @@ class NewAndProven:
 
     A put leaves the item's bit clear. The item is proven if its key is noted, and new otherwise. While at most nine in ten items are proven, the hand
     of the new ones proves each whose bit is set. The first whose bit is clear gives way, and its key is noted. If more are proven, the first of them
-    whose bit is clear gives way. A hand clears the bits that it finds set. A note is 16 bits. There is a place for each item, rounded up to a power of
-    two, and a note replaces what its place had.
+    whose bit is clear gives way. A hand clears the bits that it finds set. A note is 16 bits. There is a place for each item, and a note replaces
+    what its place had.
     """
 
     def __init__(self, items):
-        self.items, self.most_proven = items, items - max(1, items // 10)
+        self.items, self.most_proven = items, items * 9 // 10
         self.at, self.holds = {}, []
         self.bits, self.is_proven, self.proven = [False] * items, [False] * items, 0
         # By whether their items are proven.
         self.hands = [0, 0]
-        self.notes = [0] * (1 << (items - 1).bit_length())
+        self.notes = [0] * items
 
     def look_up(self, key):
         found = key in self.at
@@ -231,7 +231,7 @@ class NewAndProven:
     def note_of(self, key):
         """Its place and the note, which is never 0."""
         mixed = (key * 0x9E3779B97F4A7C15 ^ (key >> 7) * 0xC2B2AE3D27D4EB4F) % 2 ** 64
-        return (mixed >> 40) % len(self.notes), (mixed >> 20) % 2 ** 16 or 1
+        return mixed % 2 ** 32 * len(self.notes) >> 32, (mixed >> 32) % 2 ** 16 or 1
 
     def prove(self, item):
         self.is_proven[item] = True

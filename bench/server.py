@@ -5,7 +5,7 @@ Prints a table. A cell is the median of the rounds, in which the two alternate.
 
 usage: [ROUNDS=N] [SECONDS_EACH=T] bench/server.py LIB     LIB: the folder of libcefrodil.a, as c/build makes it; ROUNDS: none: 5; T: none: 2
 
-It needs cargo and, of Debian: apt-get install librust-mio-dev memcached.
+It needs cargo and, of Debian, memcached and the server's crates: see server/README.md.
 """
 import os
 import re

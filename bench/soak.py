@@ -1,5 +1,5 @@
 #!/usr/bin/env python3
-"""Two services that share the machine for a long time. Each runs `mcload` again and again, with a new seed each time: its threads write to shards by
+"""Three services that share the machine for a long time. Each runs `mcload` again and again, with a new seed each time: its threads write to shards by
 turns and look up, and each answer is checked. Prints a table, whose cells are percentiles over the runs or over their threads. Ends with 1 if
 an answer was wrong, or a run failed; then it says which.
 
@@ -13,9 +13,11 @@ import sys
 import time
 from collections import defaultdict
 
-# What each service asks for: many keys, of which a sixth has room, and few keys that are always there.
+# What each service asks for: many keys, of which a sixth has room, by each policy, and few keys that are always there.
+MANY = '--shards 16 --writers 4 --readers 4 --lookups 400000 --writes 100000 --keys 60000 --buckets 256 --items 640'
 SERVICES = {
-    'many keys': '--shards 16 --writers 4 --readers 4 --lookups 400000 --writes 100000 --keys 60000 --buckets 256 --items 640',
+    'many keys': MANY,
+    'many keys, scan-resistant': f'{MANY} --scan-resistant',
     'few keys': '--shards 4 --writers 2 --readers 4 --lookups 400000 --writes 100000 --keys 64',
 }
 SHARES = (1, 10, 50, 90, 99)
@@ -48,7 +50,7 @@ def serve(program, options, first_seed, end):
     told, seed = defaultdict(list), first_seed
     while time.monotonic() < end:
         run(program, options, seed, told)
-        seed += 2
+        seed += len(SERVICES)
     return told
 
 

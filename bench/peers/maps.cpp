@@ -43,15 +43,14 @@ template <class K, class Hash> struct Seeded {
     bool equal(Key one, Key other) const { return one == other; }
 };
 
-// As it is opened by default, but for the hash and the small table.
-template <class K, size_t N, class Hash, bool SmallTable> struct Cefrodil {
+// As it is opened by default, but for the hash.
+template <class K, size_t N, class Hash> struct Cefrodil {
     typedef cefrodil::map<K, Words<N>, Hash> Map;
     Map map;
 
     explicit Cefrodil(uint32_t keys) {
         cefrodil::MapOptions options{};
         options.entries = keys;
-        options.small_table = SmallTable;
         if (map.open(options) != cefrodil::Status::ok) abort();
     }
     std::optional<Words<N>> get(typename Map::Key key) { return map.find(key); }
@@ -202,8 +201,7 @@ template <class K, size_t N, class C> void run(const Options &options) {
 }
 
 template <class K, size_t N, class Hash = cefrodil::SipHash<K>> void choose(const Options &options, const std::string &name) {
-    if (name == "cefrodil") run<K, N, Cefrodil<K, N, Hash, true>>(options);
-    if (name == "one_table") run<K, N, Cefrodil<K, N, Hash, false>>(options);
+    if (name == "cefrodil") run<K, N, Cefrodil<K, N, Hash>>(options);
     if (name == "libcuckoo") run<K, N, Cuckoo<K, N, Hash>>(options);
     if (name == "tbb") run<K, N, Tbb<K, N, Hash>>(options);
 }

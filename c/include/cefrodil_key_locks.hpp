@@ -1,8 +1,7 @@
-// Locks of keys, for cefrodil_turns.hpp and cefrodil_key_lines.hpp. A lock is tried, and never waited for. No code of the user runs under one.
+// Locks of keys, for cefrodil_turns.hpp. A lock is tried, and never waited for. No code of the user runs under one.
 #ifndef CEFRODIL_KEY_LOCKS_HPP
 #define CEFRODIL_KEY_LOCKS_HPP
 
-#include "cefrodil_spread.hpp"
 #include <array>
 #include <atomic>
 #include <cstdint>
@@ -37,10 +36,11 @@ class KeyLock {
     std::atomic<bool> is_taken_{false};
 };
 
-// Those of all keys of a map with one table. There are so many that two threads seldom meet at one.
+// Those of all keys of a map. There are so many that two threads seldom meet at one. Keys may be spread badly, so their bits are mixed: the multiplier
+// is odd, and its bits look random.
 class KeyLocks {
   public:
-    KeyLock &of(uint64_t key) noexcept { return lines_[place_in(lines_.size(), mixed(key))].lock; }
+    KeyLock &of(uint64_t key) noexcept { return lines_[((key ^ key >> 32) * 0x9e3779b97f4a7c15) >> 58].lock; }
 
   private:
     struct alignas(64) Line {

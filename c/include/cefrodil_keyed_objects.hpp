@@ -21,7 +21,7 @@ template <class K, class V, class Hash, class Equal> struct KeyedObjects {
     using Entries = Objects<K, V>;
     using Pinned = typename Entries::Pinned;
     using Seen = typename Entries::Seen;
-    using Changed = typename Entries::Changed;
+    using Change = typename Entries::Change;
     using Own = typename Entries::Own;
     // A time to live that a call says, or that of the map.
     using Life = std::optional<std::chrono::nanoseconds>;
@@ -64,35 +64,35 @@ template <class K, class V, class Hash, class Equal> struct KeyedObjects {
         return taken;
     }
     // Puts a key that is absent, or says `present`. What is there gives way if it has ended, or is another key's.
-    Changed insert(const Identity &known, Key key, Own &object, bool is_computed = false) {
+    Status insert(const Identity &known, Key key, Own &object, Change &change, bool is_computed = false) {
         for (uint32_t repeat = 0;; repeat++) {
             const Seen seen = look(Pinned(objects), known, key, objects.turns().tries(), object->generation());
             if (seen.status != Status::absent) {
-                return Entries::refused(seen.status == Status::ok ? Status::present : seen.status);
+                return seen.status == Status::ok ? Status::present : seen.status;
             }
-            Changed put = objects.put_new(known.index, seen.since, object, is_computed);
-            if (!is_lost(put.status)) {
-                if (put.renewed) {
-                    objects.gave_way(put);
+            const Status status = objects.put_new(known.index, seen.since, object, is_computed, change);
+            if (!is_lost(status)) {
+                if (change.renewed) {
+                    objects.gave_way(change);
                 }
-                return put;
+                return status;
             }
             if (repeat >= objects.turns().tries()) {
-                return Entries::refused(Status::changed);
+                return Status::changed;
             }
         }
     }
     // Puts what the function makes of the key's value, if no other thread does meanwhile. `seen`: what it looked up.
     template <class Function>
-    [[gnu::always_inline]] Changed renew(const Identity &known, Key key, const Life &life, Function &function, uint64_t generation,
-                                         Seen &seen) {
+    [[gnu::always_inline]] Status renew(const Identity &known, Key key, const Life &life, Function &function, uint64_t generation, Seen &seen,
+                                        Change &change) {
         Own object = made_of(known, key, life, function, generation, seen);
         if (seen.status != Status::ok) {
-            return Entries::refused(seen.status);
+            return seen.status;
         }
         // A flight may have begun while the function ran.
         flights_of(known).outdate(known);
-        return object ? objects.replace(known.index, seen.since, object) : Entries::refused(Status::no_memory);
+        return object ? objects.replace(known.index, seen.since, object, change) : Status::no_memory;
     }
     template <class Function>
     [[gnu::always_inline]] Own made_of(const Identity &known, Key key, const Life &life, Function &function, uint64_t generation,

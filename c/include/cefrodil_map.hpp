@@ -63,12 +63,6 @@ struct MapOptions {
     uint32_t passes = 64;   // 1 to 1,024, with the shared one
     uint32_t tries = 10000; // how often a call is repeated that other threads keep from its turn. This takes over a second. A lookup is repeated
                             // 1,000 times at most, which takes over a tenth of a second.
-    // Whether a full map puts new keys into a small table first, with room for a tenth more entries, and no more shards than these. A key that is found
-    // there moves to the main table. So keys that are used once evict none that are used often, and more lookups hit (docs/PERFORMANCE.md). For that
-    // a lookup that misses the main table of a map that was full looks into the small one, too, if that may have the key. If it finds the key there, it
-    // moves it: that is a write, for which another entry may be evicted. Each write takes a lock, and a write of a new key looks into the main table
-    // first, unless the same thread has just missed it there. An object_map has a small queue instead, as its header says.
-    bool small_table = true;
 };
 
 // The answers of lookups, updates and puts are `Found` and `Stored`, in cefrodil_table.hpp.
@@ -214,8 +208,7 @@ template <class K, class V, class Hash = SipHash<K>, class Times = inside::Timel
         return Status::ok;
     }
 
-    // How many keys there are. Calls that run meanwhile count or not. With a small table, a key whose move others disturbed for a tenth of a second counts
-    // twice until it is written, or leaves one of the tables.
+    // How many keys there are. Calls that run meanwhile count or not.
     uint64_t size() const noexcept { return inner_ ? inner_->table.turns().keys() : 0; }
     // How many keys all shards hold together. Each evicts for itself, so the first eviction comes before the map is full.
     uint64_t capacity() const noexcept { return inner_ ? inner_->table.turns().capacity() : 0; }
@@ -241,7 +234,7 @@ template <class K, class V, class Hash = SipHash<K>, class Times = inside::Timel
         if (!opened->identities.draw()) {
             return Status::no_random;
         }
-        const Status status = opened->table.open(options.entries, options.shards, options.passes, options.tries, mix, options.small_table);
+        const Status status = opened->table.open(options.entries, options.shards, options.passes, options.tries, mix);
         return status == Status::ok && !inner_.own(std::move(opened)) ? Status::no_memory : status;
     }
     Stored put_if_absent(Key key, const V &value, const Life &life) noexcept(never_throws) {

@@ -4,7 +4,6 @@
 
 #include "cefrodil_epochs.hpp"
 #include "cefrodil_lives.hpp"
-#include "cefrodil_weights.hpp"
 #include <array>
 #include <atomic>
 #include <cstdint>
@@ -71,8 +70,9 @@ template <class K, class V> struct Object : Retired {
 };
 
 // The same in a map that bounds the sum of weights.
-template <class K, class V> struct WeighedObject : Object<K, V>, Weighed {
+template <class K, class V> struct WeighedObject : Object<K, V> {
     using Object<K, V>::Object;
+    uint64_t weight = 0; // written before it is put
     static WeighedObject &of(Object<K, V> &object) noexcept { return static_cast<WeighedObject &>(object); }
 };
 

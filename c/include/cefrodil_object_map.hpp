@@ -17,16 +17,12 @@
 //     const cefrodil::Status opened = pages.open({1000}, rules);
 // The map then holds 1,000 pages or more, as long as they weigh no more than the bound together. While calls put, the sum may be above the bound by
 // what they put. What has left and waits to be freed weighs a sixteenth of the bound and one object more at most, while no function of `look` runs. If
-// a thread is stopped within a write, the sum may stay above the bound until a later put. All puts take one lock for this.
+// a thread is stopped within a write, the sum may stay above the bound until a later put. A put that fails may have made others leave. By default a map
+// with a weigher has one shard, so its writes wait for each other: each shard chooses by itself which object leaves. Give it no more than twice the
+// entries for which there is weight. In a larger one fewer lookups hit.
 //
-// Which objects leave: a full map puts new keys into a small queue first, of a tenth of the bound. At its head an object that a call has found moves to
-// the main queue, and another one leaves. If its key is put again soon, that goes to the main queue. From there those leave that came first, but for
-// those that a call has found since it was last decided. So keys that are used once evict none that are used often. With `small_table` of the MapOptions
-// false there is no small queue.
-//
-// Without a weigher each object counts as 1. The map then has as many parts as shards, each with queues, a lock and a bound of its own. In a full map a
-// put of a new key takes up to twice as many instructions for this, and an object takes 48 bytes more. With `small_table` false there are no
-// queues. Then a full shard evicts an object that was not used lately, as a cefrodil::map with one table does.
+// Which objects leave: those that no call has found since their put. So keys that are used once evict few that are used often. If nearly all were found,
+// one that was not found lately leaves: perhaps the one that an update has made heavier. An object whose key left shortly before its put counts as found.
 //
 // Entries that end: `rules.lives.time_to_live = std::chrono::minutes(30)`. A put begins the time anew, also over a value, and may say another time:
 // `insert_for`. An update does not, but `update_for` does. `time_to_idle` ends what no call has found or put for so long. What has expired is absent for
@@ -78,7 +74,7 @@ template <class K, class V, class Hash = SipHash<K>, class Equal = std::equal_to
     using Objects = inside::Objects<K, V>;
     using Pinned = typename Inner::Pinned;
     using Seen = typename Inner::Seen;
-    using Changed = typename Inner::Changed;
+    using Change = typename Inner::Change;
     using Own = typename Inner::Own;
     using Life = typename Inner::Life;
 
@@ -168,18 +164,18 @@ template <class K, class V, class Hash = SipHash<K>, class Equal = std::equal_to
     // Puts a key that is absent. Statuses are those of cefrodil::map, and no_memory, and too_heavy: it weighs more than the bound. Unless ok, a V that
     // was moved here is moved back.
     template <class Value = V> [[nodiscard]] Stored insert(Key key, Value &&value) {
-        return put<Value>(key, value, std::nullopt, [&](const auto &known, Own &object) { return inner_->insert(known, key, object); });
+        return put<Value>(key, value, std::nullopt, [&](const auto &known, Own &object, Change &change) { return inner_->insert(known, key, object, change); });
     }
     // Puts a key, whether it is there or not. Unless ok, an earlier value is still there.
     template <class Value = V> [[nodiscard]] Stored insert_or_assign(Key key, Value &&value) {
-        return put<Value>(key, value, std::nullopt, [&](const auto &known, Own &object) { return inner_->objects.put(known.index, object); });
+        return put<Value>(key, value, std::nullopt, [&](const auto &known, Own &object, Change &change) { return inner_->objects.put(known.index, object, change); });
     }
     // The same, with a time to live of its own, in any map. A time of 0 or less is over at once, and `forever` never.
     template <class Value = V> [[nodiscard]] Stored insert_for(Key key, Value &&value, std::chrono::nanoseconds life) {
-        return put<Value>(key, value, life, [&](const auto &known, Own &object) { return inner_->insert(known, key, object); });
+        return put<Value>(key, value, life, [&](const auto &known, Own &object, Change &change) { return inner_->insert(known, key, object, change); });
     }
     template <class Value = V> [[nodiscard]] Stored insert_or_assign_for(Key key, Value &&value, std::chrono::nanoseconds life) {
-        return put<Value>(key, value, life, [&](const auto &known, Own &object) { return inner_->objects.put(known.index, object); });
+        return put<Value>(key, value, life, [&](const auto &known, Own &object, Change &change) { return inner_->objects.put(known.index, object, change); });
     }
     // Replaces the value of a key that is there by what the function makes of it, `V function(const V &)`. If another thread is first, it is called
     // again. Or it is `std::optional<V> function(const V &)`. If that returns none, the status is `declined`. Unless ok, the old value stays. absent: the
@@ -206,12 +202,13 @@ template <class K, class V, class Hash = SipHash<K>, class Equal = std::equal_to
             if (seen.object == nullptr) {
                 return seen.status;
             }
-            const Ending taken{inner_->objects, inner_->objects.take(known.index, seen.since)};
-            if (taken.change.status == Status::ok && seen.status == Status::ok) {
-                see(static_cast<const V &>(taken.change.old->value));
+            Change change(inner_->objects);
+            const Status status = inner_->objects.take(known.index, seen.since, change);
+            if (status == Status::ok && seen.status == Status::ok) {
+                see(static_cast<const V &>(change.old->value));
             }
-            if (taken.change.status != Status::changed || repeat >= inner_->objects.turns().tries()) {
-                return taken.change.status == Status::ok ? seen.status : taken.change.status;
+            if (status != Status::changed || repeat >= inner_->objects.turns().tries()) {
+                return status == Status::ok ? seen.status : status;
             }
         }
     }
@@ -226,8 +223,8 @@ template <class K, class V, class Hash = SipHash<K>, class Equal = std::equal_to
                 return {Status::ok, std::move(*found), false};
             }
             // No listener and no destructor runs while others wait for the flight.
-            Ending put{inner_->objects, Objects::refused(Status::no_memory)};
-            if (std::optional<Computed<V>> computed = compute(key, function, put.change)) {
+            Change change(inner_->objects);
+            if (std::optional<Computed<V>> computed = compute(key, function, change)) {
                 return std::move(*computed);
             }
         }
@@ -258,7 +255,7 @@ template <class K, class V, class Hash = SipHash<K>, class Equal = std::equal_to
     size_t free_unused() noexcept { return inner_ ? inner_->objects.free_now() : 0; }
 
     uint64_t size() const noexcept { return inner_ ? inner_->objects.turns().keys() : 0; }
-    uint64_t capacity() const noexcept { return inner_ ? inner_->objects.capacity() : 0; }
+    uint64_t capacity() const noexcept { return inner_ ? inner_->objects.turns().capacity() : 0; }
     // The sum of the weights, exact while no call writes. What other calls are about to put counts, and what has left does not, though it may wait to
     // be freed. Without a weigher 0.
     uint64_t weight() const noexcept { return inner_ ? inner_->objects.weight() : 0; }
@@ -276,7 +273,7 @@ template <class K, class V, class Hash = SipHash<K>, class Equal = std::equal_to
         return seen.status == Status::ok ? std::optional<V>(seen.object->value) : std::nullopt;
     }
     // Computes the key's value, if no other call does so now, and puts it. None: another call did.
-    template <class Function> std::optional<Computed<V>> compute(Key key, Function &function, Changed &put) {
+    template <class Function> std::optional<Computed<V>> compute(Key key, Function &function, Change &change) {
         const inside::Identity known = inner_->identities.of(key);
         inside::Flight flight(inner_->flights_of(known), known);
         if (!flight.has_begun()) {
@@ -289,22 +286,9 @@ template <class K, class V, class Hash = SipHash<K>, class Equal = std::equal_to
         }
         V value = function();
         Own object = inner_->objects.make(key, [&]() -> const V & { return value; }, generation);
-        const Status status = flight.land([&] {
-            put = object ? inner_->insert(known, key, object, true) : put;
-            return put.status;
-        });
+        const Status status = flight.land([&] { return object ? inner_->insert(known, key, object, change, true) : Status::no_memory; });
         return Computed<V>{status, std::move(value), true};
     }
-    // Ends a change, also if a function of the user's throws.
-    struct Ending {
-        Objects &objects;
-        Changed change;
-        ~Ending() {
-            if (change.old != nullptr || change.put.since != 0) {
-                static_cast<void>(objects.end(change));
-            }
-        }
-    };
     // Replaces the value, until no other thread is first.
     template <class Function> Status renew(Key key, const Life &life, Function &function) {
         if (!inner_) {
@@ -315,9 +299,10 @@ template <class K, class V, class Hash = SipHash<K>, class Equal = std::equal_to
         const uint64_t generation = inner_->generation();
         for (uint32_t repeat = 0;; repeat++) {
             Seen seen{};
-            Changed change = inner_->renew(known, key, life, function, generation, seen);
-            if (seen.status != Status::ok || !Inner::is_lost(change.status)) {
-                return inner_->objects.end(change);
+            Change change(inner_->objects);
+            const Status status = inner_->renew(known, key, life, function, generation, seen, change);
+            if (seen.status != Status::ok || !Inner::is_lost(status)) {
+                return status;
             }
             if (repeat >= inner_->objects.turns().tries()) {
                 return Status::changed;
@@ -338,8 +323,8 @@ template <class K, class V, class Hash = SipHash<K>, class Equal = std::equal_to
             return {Status::no_memory, false, false};
         }
         inner_->flights_of(known).outdate(known);
-        Ending made{objects, make(known, object)};
-        Changed &change = made.change;
+        Change change(objects);
+        const Status status = make(known, object, change);
         if constexpr (std::is_same_v<Value, V> && std::is_move_assignable_v<V>) {
             if (object) {
                 value = std::move(object->value);
@@ -348,7 +333,6 @@ template <class K, class V, class Hash = SipHash<K>, class Equal = std::equal_to
         if (change.renewed && !Equal()(change.old->key, key)) {
             objects.gave_way(change);
         }
-        const Status status = objects.end(change);
         return {status, change.renewed, change.evicted};
     }
     inside::OwnedPointer<Inner> inner_{};

@@ -141,19 +141,9 @@ class Claims {
     std::unordered_map<std::shared_ptr<FreePasses>, size_t> claims_{};
 };
 
-// What cefrodil_tiers.hpp notes by a slot: a number of Moves, a key that the main table has lacked since then, and a key that a put has evicted from the
-// small one.
-struct Notes {
-    uint64_t moves = 0;
-    std::optional<uint64_t> missed{}, evicted{};
-};
-
 // A handle with what its thread alone writes, in pairs of cache lines of its own.
 template <size_t Words> struct alignas(128) Slot {
     Handle<Words> handle{};
-    // Of a second index, if there is one: the small table of cefrodil_tiers.hpp.
-    Handle<Words> small{};
-    Notes notes{};
     // How many keys its calls added, less those that they removed. It is only added up, so its steps need no order.
     std::atomic<int64_t> keys{0};
 
@@ -197,19 +187,6 @@ template <size_t Words> class Passes {
         }
         count_ = count;
         return Status::ok;
-    }
-
-    // Opens a second index. Its handles are in the same slots, and each meter counts the calls of both.
-    [[nodiscard]] Status open_small(const cefrodil_shape &shape, uint32_t shards) noexcept {
-        std::vector<Handle<Words>> handles;
-        const auto lines = [&] { return Counting::lines(shared()); };
-        const Status status = open_all(handles, count_, lines, [&](cefrodil_handle *raw, size_t many) {
-            return cefrodil_open(&shape, shards, Words, raw, many);
-        });
-        for (size_t i = 0; status == Status::ok && i < count_; i++) {
-            slots_[i].small = std::move(handles[i]);
-        }
-        return status;
     }
 
     // The slot of this thread. Null: it uses the shared one.

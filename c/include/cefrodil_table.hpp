@@ -4,8 +4,8 @@
 
 #include "cefrodil_generations.hpp"
 #include "cefrodil_packing.hpp"
-#include "cefrodil_tiers.hpp"
 #include "cefrodil_times.hpp"
+#include "cefrodil_turns.hpp"
 #include <algorithm>
 #include <array>
 #include <optional>
@@ -52,13 +52,13 @@ template <class V, class Times = Timeless> class Table : private Packing<V, Time
     Table() = default;
     explicit Table(const Times &times) : Times(times) {}
 
-    [[nodiscard]] Status open(uint32_t entries, uint32_t shards, uint32_t passes, uint32_t tries, uint32_t mix, bool small_table) noexcept {
-        return tiers_.open(entries, shards, passes, tries, mix, small_table);
+    [[nodiscard]] Status open(uint32_t entries, uint32_t shards, uint32_t passes, uint32_t tries, uint32_t mix) noexcept {
+        return turns_.open(entries, shards, passes, tries, mix);
     }
 
     // A lookup for its value, which is set if the status is ok. If it stays busy, that is a miss. It is counted.
     Status find(const Identity &key, std::optional<V> &value) noexcept {
-        Slot<words> *const slot = tiers_.turns().own_slot();
+        Slot<words> *const slot = turns_.own_slot();
         if (slot == nullptr) {
             return find_shared(key, value);
         }
@@ -67,9 +67,8 @@ template <class V, class Times = Timeless> class Table : private Packing<V, Time
         return status;
     }
     // The same, but it isn't counted.
-    Status seek(const Identity &key, std::optional<V> &value) noexcept { return seek_by(tiers_.turns().own_slot(), key, value); }
-    // Looks a few keys up, by one call of the index. Each is counted. Sets the values that are there. A key that is busy is looked up again by itself, and
-    // so is one that the main table lacks if the small one may have it.
+    Status seek(const Identity &key, std::optional<V> &value) noexcept { return seek_by(turns_.own_slot(), key, value); }
+    // Looks a few keys up, by one call of the index. Each is counted. Sets the values that are there. A key that is busy is looked up again by itself.
     static constexpr size_t few = 32;
     void find_few(const Identity *keys, size_t count, std::optional<V> *values) noexcept {
         std::array<uint64_t, few> indices;
@@ -77,11 +76,11 @@ template <class V, class Times = Timeless> class Table : private Packing<V, Time
         std::array<cefrodil_answer, few> answers;
         std::transform(keys, keys + count, indices.begin(), [](const Identity &key) { return key.index; });
         const uint64_t generation = generation_.now();
-        const bool lacks_young = tiers_.get_many(indices.data(), count, found.data(), answers.data());
+        get_many(indices.data(), count, found.data(), answers.data());
         uint64_t hits = 0, misses = 0;
         for (size_t i = 0; i < count; i++) {
             const bool is_found = answers[i].status == CEFRODIL_OK;
-            if (is_found ? Times::is_due(ends_of(found[i])) : answers[i].status == CEFRODIL_BUSY || lacks_young) {
+            if (is_found ? Times::is_due(ends_of(found[i])) : answers[i].status == CEFRODIL_BUSY) {
                 static_cast<void>(find(keys[i], values[i]));
             } else if (is_found && is_there(in_generation(keys[i], generation), found[i])) {
                 set_value(found[i], values[i]);
@@ -90,14 +89,14 @@ template <class V, class Times = Timeless> class Table : private Packing<V, Time
                 misses++;
             }
         }
-        Slot<words> *const slot = tiers_.turns().own_slot();
-        tiers_.turns().count(slot, Status::ok, hits);
-        tiers_.turns().count(slot, Status::absent, misses);
+        Slot<words> *const slot = turns_.own_slot();
+        turns_.count(slot, Status::ok, hits);
+        turns_.count(slot, Status::absent, misses);
     }
     // A lookup that is no use of the key. It is repeated as often as a put.
     Found<V> peek(const Identity &key) noexcept {
         const Identity known = now(key);
-        const Answer<words> answer = tiers_.peek(key.index);
+        const Answer<words> answer = turns_.repeated([&](Slot<words> &slot) { return slot.handle.try_peek(key.index); });
         Found<V> found{answer.status, std::nullopt};
         if (answer.value && is_there(known, *answer.value)) {
             set_value(*answer.value, found.value);
@@ -106,24 +105,24 @@ template <class V, class Times = Timeless> class Table : private Packing<V, Time
         }
         return found;
     }
-    // A lookup for a write, which is repeated as often as a put. The key is as its entries of one generation have it. With `moves`, a key that is found in
-    // the small table moves to the main one.
-    Entry look(const Identity &key, bool moves) noexcept {
-        for (uint32_t repeat = 0;; repeat++) {
-            const Entry entry = look_once(key, moves);
-            if (entry.status != Status::absent || entry.since != 0 || !tiers_.is_small_used()) {
-                return entry;
-            }
-            const Status status = tiers_.lacks(key.index);
-            if (status != Status::present || repeat >= turns().tries()) {
-                return {status == Status::present ? Status::changed : status, std::nullopt, 0, {}, false};
-            }
+    // A lookup for a write, which is repeated as often as a put. The key is as its entries of one generation have it.
+    [[gnu::noinline]] Entry look(const Identity &known) noexcept {
+        Entry entry{};
+        Words packed;
+        const Seen seen = looked(turns_.own_slot(), known, turns_.tries(), packed, entry.value);
+        entry.status = seen.status, entry.since = seen.since;
+        if (seen.status == Status::ok) {
+            entry.ends = ends_of(packed);
         }
+        if constexpr (Times::moments != 0) {
+            entry.has_expired = seen.status == Status::absent && seen.since != 0 && packed[0] == known.check;
+        }
+        return entry;
     }
     // Puts whatever is there. The generation is read with the key's lock, so what gives way is of no newer one.
     Stored put(const Identity &key, const V &value, const Life &life = {}) noexcept {
         const Ends ends = Times::ends(life);
-        return stored(tiers_.put(key.index, [&] { return pack_in(generation_.now(), key, ends, value); }));
+        return stored(turns_.write(key.index, [&](Handle<words> &handle) { return handle.try_put(key.index, pack_in(generation_.now(), key, ends, value)); }));
     }
     // Puts if the key is absent. An entry of an older generation gives way, and so does another key's entry under the same number.
     Stored put_if_absent(const Identity &key, const V &value, const Life &life = {}) noexcept {
@@ -145,7 +144,7 @@ template <class V, class Times = Timeless> class Table : private Packing<V, Time
     template <class Function> Found<V> update(const Identity &key, const V *first, const Function &function, const Life &life = {}) {
         for (uint32_t repeat = 0;; repeat++) {
             const Identity known = now(key);
-            const Entry entry = look(known, true);
+            const Entry entry = look(known);
             if (entry.status != Status::ok && (entry.status != Status::absent || first == nullptr)) {
                 return {entry.status, std::nullopt};
             }
@@ -155,7 +154,7 @@ template <class V, class Times = Timeless> class Table : private Packing<V, Time
                 return tried;
             }
             const bool is_late = is_lost(tried.status) || tried.status == Status::present;
-            if (!is_late || repeat >= turns().tries()) {
+            if (!is_late || repeat >= turns_.tries()) {
                 return {is_late ? Status::changed : tried.status, std::nullopt};
             }
         }
@@ -164,12 +163,12 @@ template <class V, class Times = Timeless> class Table : private Packing<V, Time
     // An entry that has expired is absent, but is removed all the same: an update that found it before must not renew it.
     Status erase(const Identity &key) noexcept {
         for (uint32_t repeat = 0;; repeat++) {
-            const Entry entry = look(now(key), false);
+            const Entry entry = look(now(key));
             if (entry.status != Status::ok && !entry.has_expired) {
                 return entry.status;
             }
-            const Status status = tiers_.take_if(key.index, entry.since);
-            if (status != Status::changed || repeat >= turns().tries()) {
+            const Status status = take_if(key.index, entry.since);
+            if (status != Status::changed || repeat >= turns_.tries()) {
                 return status == Status::ok ? entry.status : status;
             }
         }
@@ -177,23 +176,18 @@ template <class V, class Times = Timeless> class Table : private Packing<V, Time
 
     // Each shard is listed at a moment of its own, and each key that is listed is removed.
     Status clear() noexcept {
-        std::vector<uint64_t> small, main;
-        Status status = tiers_.list(small, main);
-        status = status == Status::ok ? remove_all(small) : status;
-        return status == Status::ok ? remove_all(main) : status;
+        return each_listed([this](uint64_t index, const Words &) {
+            return turns_.removal(index, [&](Handle<words> &handle) { return handle.try_remove(index).status; });
+        });
     }
-
-    // Removes what has expired or is of an older generation. It is listed as by `clear`.
+    // Removes what has expired or is of an older generation. It is listed as by `clear`. What stays doesn't count as used.
     Status erase_expired() noexcept {
-        std::vector<uint64_t> small, main;
-        Status status = tiers_.list(small, main);
-        status = status == Status::ok ? remove_expired(small) : status;
-        return status == Status::ok ? remove_expired(main) : status;
+        return each_listed([this](uint64_t index, const Words &listed) { return has_ended(listed) ? take_ended(index) : Status::ok; });
     }
 
     Generation &generation() noexcept { return generation_; }
-    Tiers<words> &tiers() noexcept { return tiers_; }
-    const Turns<words> &turns() const noexcept { return tiers_.turns(); }
+    Turns<words> &turns() noexcept { return turns_; }
+    const Turns<words> &turns() const noexcept { return turns_; }
 
   private:
     // The key as its entries of the present generation have it.
@@ -204,95 +198,69 @@ template <class V, class Times = Timeless> class Table : private Packing<V, Time
     // Not compiled into the callers, which are quicker then with a slot.
     [[gnu::cold]] [[gnu::noinline]] Status find_shared(const Identity &key, std::optional<V> &value) noexcept {
         const Status status = seek_by(nullptr, key, value);
-        tiers_.turns().count(nullptr, status);
+        turns_.count(nullptr, status);
         return status;
     }
     [[gnu::always_inline]] Status seek_by(Slot<words> *slot, const Identity &key, std::optional<V> &value) noexcept {
         const Identity known = now(key);
         Words packed;
-        // What is found under the number of another key is no use of that key. Nor is what has expired.
-        const auto is_own = [this](const Identity &looked_up, const Words &entry) { return is_there(looked_up, entry); };
-        const Seen seen = looked(slot, known, turns().looks(), packed, value, is_own);
+        const Seen seen = looked(slot, known, turns_.looks(), packed, value);
         if (seen.status == Status::ok && Times::is_due(ends_of(packed))) {
             use(known, seen.since, packed);
         }
         return seen.status;
     }
-    // Compiled into `find`. `moves`: whether what is found in the small table moves to the main one.
-    template <class Moved>
-    [[gnu::always_inline]] Seen looked(Slot<words> *slot, const Identity &known, uint32_t most, Words &packed, std::optional<V> &value,
-                                       Moved moves) noexcept {
-        const Seen seen = tiers_.get(slot, known, most, packed, moves);
+    // Compiled into `find`.
+    [[gnu::always_inline]] Seen looked(Slot<words> *slot, const Identity &known, uint32_t most, Words &packed, std::optional<V> &value) noexcept {
+        const Seen seen = turns_.get(slot, known.index, most, packed);
         if (seen.status != Status::ok || !is_there(known, packed)) {
             return {seen.status == Status::ok ? Status::absent : seen.status, seen.since};
         }
         set_value(packed, value);
         return seen;
     }
-    // What is under a number. It stays in its table.
-    Seen get(uint64_t index, uint32_t most, Words &packed) noexcept {
-        return tiers_.get(tiers_.turns().own_slot(), {index, 0}, most, packed, [](const Identity &, const Words &) { return false; });
+    void get_many(const uint64_t *indices, size_t count, Words *found, cefrodil_answer *answers) noexcept {
+        turns_.call([&](Slot<words> &slot) {
+            // It is ok: an open handle has an answer for each key.
+            [[maybe_unused]] const cefrodil_status status =
+                cefrodil_get_many_or_none(slot.handle.raw(), indices, count, found->data(), words * count, answers, count);
+        });
     }
-    Entry look_once(const Identity &key, bool moves) noexcept {
-        const Entry entry = looked_once(key, moves);
-        // If it has moved, it has another moment.
-        const bool has_moved = moves && entry.status == Status::ok && tiers_.is_of_small(entry.since);
-        return has_moved ? looked_once(key, false) : entry;
-    }
-    [[gnu::noinline]] Entry looked_once(const Identity &key, bool moves) noexcept {
-        Entry entry{};
-        Words packed;
-        const auto moves_own = [this, moves](const Identity &looked_up, const Words &found) { return moves && is_there(looked_up, found); };
-        const Seen seen = looked(tiers_.turns().own_slot(), key, turns().tries(), packed, entry.value, moves_own);
-        entry.status = seen.status, entry.since = seen.since;
-        if (seen.status == Status::ok) {
-            entry.ends = ends_of(packed);
-        }
-        if constexpr (Times::moments != 0) {
-            entry.has_expired = seen.status == Status::absent && seen.since != 0 && packed[0] == key.check;
-        }
-        return entry;
-    }
-    // Begins the time to idle of an entry anew. If the entry has moved or was changed, looks it up again.
+    // Begins the time to idle of an entry anew. If the entry was changed, looks it up again.
     [[gnu::cold]] [[gnu::noinline]] void use(const Identity &known, uint64_t since, Words packed) noexcept {
-        for (uint32_t repeat = 0; repeat < turns().looks() && Times::is_due(ends_of(packed)); repeat++) {
+        for (uint32_t repeat = 0; repeat < turns_.looks() && Times::is_due(ends_of(packed)); repeat++) {
             set_ends(packed, Times::renewed(ends_of(packed), {}));
-            if (!is_lost(tiers_.put_if(known.index, since, packed).status)) {
+            if (!is_lost(put_over(known, since, packed))) {
                 return;
             }
-            const Seen seen = get(known.index, turns().looks(), packed);
+            const Seen seen = turns_.get(turns_.own_slot(), known.index, turns_.looks(), packed);
             since = seen.since;
             if (seen.status != Status::ok || !is_there(known, packed)) {
                 return;
             }
         }
     }
-    Status remove_expired(const std::vector<uint64_t> &list) noexcept {
-        Status status = Status::ok;
+    // Calls with each entry of a list of all, until a call fails. absent or changed: others were first.
+    template <class Call> Status each_listed(Call call) noexcept {
+        std::vector<uint64_t> list;
+        Status status = turns_.repeated([&](Slot<words> &slot) { return slot.handle.try_entries(list); });
         for (size_t at = 0; at < list.size() && status == Status::ok; at += 1 + words) {
-            const uint64_t since = ended(list[at]);
-            status = since != 0 ? tiers_.take_if(list[at], since) : status;
+            Words listed;
+            std::copy_n(list.begin() + static_cast<ptrdiff_t>(at + 1), words, listed.begin());
+            status = call(list[at], listed);
             status = is_lost(status) ? Status::ok : status;
         }
         return status;
     }
-    // The moment of the put of what is under a number, if that has expired or is of an older generation, or else 0.
-    uint64_t ended(uint64_t index) noexcept {
+    // Whether the entry has expired or is of an older generation. That is read after the entry, so it is not older than that.
+    bool has_ended(const Words &packed) const noexcept {
+        return Times::have_passed(ends_of(packed)) || !Times::are_of(ends_of(packed), generation_.now());
+    }
+    Status take_ended(uint64_t index) noexcept {
         Words packed;
-        const Seen seen = get(index, turns().tries(), packed);
-        // The generation is read after the entry, so it is not older than that.
-        const auto has_ended = [&] { return Times::have_passed(ends_of(packed)) || !Times::are_of(ends_of(packed), generation_.now()); };
-        return seen.status == Status::ok && has_ended() ? seen.since : 0;
+        const Seen seen = turns_.get(turns_.own_slot(), index, turns_.tries(), packed);
+        return seen.status == Status::ok && has_ended(packed) ? take_if(index, seen.since) : Status::ok;
     }
-    Status remove_all(const std::vector<uint64_t> &list) noexcept {
-        Status status = Status::ok;
-        for (size_t at = 0; at < list.size() && status == Status::ok; at += 1 + words) {
-            status = tiers_.remove(list[at]);
-            status = status == Status::absent ? Status::ok : status;
-        }
-        return status;
-    }
-
     // Whether the entry is another one than was looked up.
     static bool is_lost(Status status) noexcept { return status == Status::changed || status == Status::absent; }
 
@@ -301,18 +269,19 @@ template <class V, class Times = Timeless> class Table : private Packing<V, Time
     }
     // Puts if the key is absent, as an entry of the generation that `begun()` says at each try. stale: that has ended.
     template <class Begun> Stored put_new(const Identity &key, const V &value, const Ends &ends, const Begun &begun) noexcept {
-        const auto give = [&] {
+        const auto make = [&](Handle<words> &handle) {
             const uint64_t generation = begun();
-            return generation == generation_.now() ? std::optional<Words>(pack_in(generation, key, ends, value)) : std::nullopt;
+            const bool goes_on = generation == generation_.now();
+            return goes_on ? handle.try_put_if_absent(key.index, pack_in(generation, key, ends, value)) : refusal<Written>(Status::stale);
         };
         for (uint32_t repeat = 0;; repeat++) {
-            const Stored put = stored(tiers_.put_if_absent(key.index, give));
+            const Stored put = stored(turns_.write(key.index, make));
             if (put.status != Status::present) {
                 return put;
             }
             const uint64_t generation = begun();
             const Identity known = in_generation(key, generation);
-            const Entry entry = look(known, false);
+            const Entry entry = look(known);
             if (entry.status == Status::ok && Times::is_due(entry.ends)) {
                 use(known, entry.since, pack(known, entry.ends, *entry.value));
             }
@@ -323,20 +292,25 @@ template <class V, class Times = Timeless> class Table : private Packing<V, Time
                 return {Status::stale, false, false};
             }
             const Status status = entry.since != 0 ? put_over(known, entry.since, pack_in(generation, key, ends, value)) : Status::changed;
-            if (!is_lost(status) || repeat >= turns().tries()) {
+            if (!is_lost(status) || repeat >= turns_.tries()) {
                 return {is_lost(status) ? Status::changed : status, false, status == Status::ok};
             }
         }
     }
     static Stored stored(const Written &written) noexcept { return {written.status, written.renewed, written.evicted.has_value()}; }
-    Status put_over(const Identity &key, uint64_t since, const Words &packed) noexcept { return tiers_.put_if(key.index, since, packed).status; }
+    Status put_over(const Identity &key, uint64_t since, const Words &packed) noexcept {
+        return turns_.write(key.index, [&](Handle<words> &handle) { return handle.try_put_if(key.index, since, packed); }).status;
+    }
+    Status take_if(uint64_t index, uint64_t since) noexcept {
+        return turns_.removal(index, [&](Handle<words> &handle) { return handle.try_take_if(index, since).status; });
+    }
     // Puts what the function makes of an entry's value, if the entry is still the same.
     template <class Function> Found<V> renew(const Identity &known, const Entry &entry, const Function &function, const Life &life) {
         const V value = function(*entry.value);
         return {put_over(known, entry.since, pack(known, Times::renewed(entry.ends, life), value)), value};
     }
 
-    Tiers<words> tiers_{};
+    Turns<words> turns_{};
     Generation generation_{};
 };
 

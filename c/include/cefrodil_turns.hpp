@@ -37,15 +37,6 @@ inline void wait_before(uint32_t repeat) noexcept {
 
 inline bool is_disturbed(Status status) noexcept { return status == Status::busy || status == Status::held; }
 
-// Repeats a call while it is busy or held, so often at most. `status`: that of its first time. Returns that of the last one.
-template <class Call> Status within(uint32_t most, Status status, const Call &call) noexcept {
-    for (uint32_t repeat = 0; repeat < most && is_disturbed(status); repeat++) {
-        wait_before(repeat);
-        status = call();
-    }
-    return status;
-}
-
 // The answer of a call that did nothing.
 template <class Answer> Answer refusal(Status status) noexcept {
     if constexpr (std::is_same_v<Answer, Status>) {
@@ -81,19 +72,19 @@ template <size_t Words> class Turns {
         if (!same_version()) {
             return Status::other_version;
         }
-        tries_ = tries;
-        looks_ = std::min(tries, most_looks);
         const uint32_t shards = asked_shards == 0 ? shards_for(entries) : asked_shards;
         cefrodil_shape shape{};
-        const Status status = choose(entries, shards, mix, shape);
-        return status == Status::ok ? passes_.open(shape, shards, passes) : status;
-    }
-    // Opens a second index, with as many passes. It has no more shards than were asked for.
-    [[nodiscard]] Status open_small(uint32_t entries, uint32_t asked_shards, uint32_t mix) noexcept {
-        const uint32_t shards = std::min(shards_for(entries), asked_shards == 0 ? most_shards : asked_shards);
-        cefrodil_shape shape{};
-        const Status status = choose(entries, shards, mix, shape);
-        return status == Status::ok ? passes_.open_small(shape, shards) : status;
+        const auto status = static_cast<Status>(cefrodil_shape_for_items(entries, shards, &shape));
+        if (status != Status::ok) {
+            return status;
+        }
+        shape.mix = mix;
+        shape.stripes = std::min(shape.stripes, std::max(stripes_of_a_shard, all_stripes / shards));
+        tries_ = tries;
+        looks_ = std::min(tries, most_looks);
+        shards_ = shards;
+        capacity_ = uint64_t(shape.items) * shards;
+        return passes_.open(shape, shards, passes);
     }
 
     // Looks a key up by a slot that `own_slot` returned: ok, absent, or busy if it was that once and then so often. A value that is found is written. By
@@ -113,27 +104,18 @@ template <size_t Words> class Turns {
     [[gnu::always_inline]] void count(Slot<Words> *own, Counted what, uint64_t number) noexcept { passes_.count(own, what, number); }
     // Makes a call by this thread's slot, or by the shared one.
     template <class Call> auto call(Call made) noexcept { return passes_.call(made); }
-    // The same, until it is neither busy nor held. An answer may be large, and copies of it would cost, so the loop is not that of `within`.
-    template <class Call> auto repeated(Call call) noexcept { return repeated(call, tries_); }
-    template <class Call> auto repeated(Call call, uint32_t most) noexcept {
+    // The same, until it is neither busy nor held.
+    template <class Call> auto repeated(Call call) noexcept {
         auto answer = passes_.call(call);
         for (uint32_t repeat = 0; is_disturbed(status_of(answer)); repeat++) {
-            if (repeat >= most) {
-                give_up(most);
+            if (repeat >= tries_) {
+                give_up(tries_);
                 break;
             }
             wait_before(repeat);
             answer = passes_.call(call);
         }
         return answer;
-    }
-    // The same for a lookup that was busy once.
-    template <class Call> Status repeated_lookup(Call look, uint32_t most) noexcept {
-        const Status status = within(most, Status::busy, [&] { return passes_.call(look); });
-        if (is_disturbed(status)) {
-            give_up(most);
-        }
-        return status;
     }
     // The same with the key's lock.
     template <class Call> auto locked(uint64_t key, Call call) noexcept {
@@ -165,6 +147,7 @@ template <size_t Words> class Turns {
     // How often a lookup is repeated that is a miss if it stays busy.
     uint32_t looks() const noexcept { return looks_; }
     uint64_t keys() const noexcept { return static_cast<uint64_t>(std::max<int64_t>(0, passes_.keys())); }
+    uint32_t shards() const noexcept { return shards_; }
     uint64_t capacity() const noexcept { return capacity_; }
     Meter meter() const noexcept { return passes_.shared().meter(); }
     // What the meter reads. Null: nothing is counted.
@@ -180,22 +163,15 @@ template <size_t Words> class Turns {
     }
     [[gnu::cold]] [[gnu::noinline]] Seen get_again(uint64_t key, uint32_t most, std::array<uint64_t, Words> &value) noexcept {
         cefrodil_reply reply{};
-        const auto again = [&](Slot<Words> &slot) { return slot.look(key, value, reply); };
-        const Status status = repeated_lookup(again, most);
-        return {status, reply.since};
-    }
-
-    // The shape of each of so many shards.
-    [[nodiscard]] Status choose(uint32_t entries, uint32_t shards, uint32_t mix, cefrodil_shape &shape) noexcept {
-        const auto status = static_cast<Status>(cefrodil_shape_for_items(entries, shards, &shape));
-        if (status == Status::ok) {
-            shape.mix = mix;
-            // A map chooses by a small table or by queues which entry gives way. Without them it goes by CLOCK.
-            shape.policy = CEFRODIL_POLICY_CLOCK;
-            shape.stripes = std::min(shape.stripes, std::max(stripes_of_a_shard, all_stripes / shards));
-            capacity_ += uint64_t(shape.items) * shards;
+        Status status = Status::busy;
+        for (uint32_t repeat = 0; repeat < most && status == Status::busy; repeat++) {
+            wait_before(repeat);
+            status = passes_.call([&](Slot<Words> &slot) { return slot.look(key, value, reply); });
         }
-        return status;
+        if (status == Status::busy) {
+            give_up(most);
+        }
+        return {status, reply.since};
     }
 
     // The most stripes that all shards have together, but each may have `stripes_of_a_shard`. Each stripe has a version of 8 bytes, and more of them
@@ -204,7 +180,7 @@ template <size_t Words> class Turns {
 
     Passes<Words> passes_{};
     KeyLocks locks_{};
-    uint32_t tries_ = 0, looks_ = 0;
+    uint32_t tries_ = 0, looks_ = 0, shards_ = 0;
     uint64_t capacity_ = 0;
 };
 

@@ -63,21 +63,18 @@ template <class Any> static void put_that_is_invalidated(Any &map) {
 }
 
 static void puts_that_are_invalidated() {
-    cefrodil::MapOptions options{100, 1};
-    for (const bool small_table : {false, true}) {
-        options.small_table = small_table;
-        Map map;
-        Timed timed;
-        Objects objects, weighed;
-        Objects::Rules rules;
-        rules.weigher = [](uint64_t, uint64_t) { return uint64_t(1); };
-        MUST(map.open(options) == Status::ok && timed.open(options) == Status::ok && objects.open(options) == Status::ok);
-        MUST(weighed.open(options, rules) == Status::ok);
-        put_that_is_invalidated(map);
-        put_that_is_invalidated(timed);
-        put_that_is_invalidated(objects);
-        put_that_is_invalidated(weighed);
-    }
+    const cefrodil::MapOptions options{100, 1};
+    Map map;
+    Timed timed;
+    Objects objects, weighed;
+    Objects::Rules rules;
+    rules.weigher = [](uint64_t, uint64_t) { return uint64_t(1); };
+    MUST(map.open(options) == Status::ok && timed.open(options) == Status::ok && objects.open(options) == Status::ok);
+    MUST(weighed.open(options, rules) == Status::ok);
+    put_that_is_invalidated(map);
+    put_that_is_invalidated(timed);
+    put_that_is_invalidated(objects);
+    put_that_is_invalidated(weighed);
 }
 
 static Status status_of(Status status) { return status; }
@@ -213,27 +210,22 @@ static void what_has_ended_is_taken_out_before_a_put() {
     };
     cefrodil::MapOptions options{100, 1};
     options.tries = 3;
-    for (const bool small_table : {false, true}) {
-        options.small_table = small_table;
-        cefrodil::timed_map<uint64_t, uint64_t, Same> timed;
-        cefrodil::object_map<uint64_t, uint64_t, Same> objects;
-        cefrodil::ObjectRules<uint64_t, uint64_t> rules;
-        rules.lives = lives;
-        MUST(timed.open(options, lives) == Status::ok && objects.open(options, rules) == Status::ok);
-        computed_before_an_end(timed);
-        computed_before_an_end(objects);
-        if (!small_table) {
-            MUST(timed.insert(2, 10).status == Status::ok);
-            take_out_before_put(timed);
-            insert_before_an_end(timed);
-        }
-        // Nothing is there when it looks.
-        looked = [&] {
-            MUST(objects.insert(2, 10).status == Status::ok);
-            take_out_before_put(objects);
-        };
-        insert_before_an_end(objects);
-    }
+    cefrodil::timed_map<uint64_t, uint64_t, Same> timed;
+    cefrodil::object_map<uint64_t, uint64_t, Same> objects;
+    cefrodil::ObjectRules<uint64_t, uint64_t> rules;
+    rules.lives = lives;
+    MUST(timed.open(options, lives) == Status::ok && objects.open(options, rules) == Status::ok);
+    computed_before_an_end(timed);
+    computed_before_an_end(objects);
+    MUST(timed.insert(2, 10).status == Status::ok);
+    take_out_before_put(timed);
+    insert_before_an_end(timed);
+    // Nothing is there when it looks.
+    looked = [&] {
+        MUST(objects.insert(2, 10).status == Status::ok);
+        take_out_before_put(objects);
+    };
+    insert_before_an_end(objects);
 }
 
 int main() {

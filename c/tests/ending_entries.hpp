@@ -45,4 +45,18 @@ template <class Map> static void threads_find_nothing_that_has_ended(Map &map, u
     MUST(wrong == 0 && hits > 0 && map.erase_expired() == Status::ok && map.size() == 0);
 }
 
+// An entry that erase_expired leaves doesn't count as used: it gives way before those that were. The map has room for 40, in one shard.
+template <class Map> static void erasures_are_no_use(Map &map) {
+    for (uint64_t key = 0; key < 40; key++) {
+        MUST(map.insert(key, uint64_t(key)).status == cefrodil::Status::ok && (key >= 20 || map.contains(key)));
+    }
+    MUST(map.erase_expired() == cefrodil::Status::ok && map.size() == 40);
+    for (uint64_t key = 100; key < 120; key++) {
+        MUST(map.insert(key, uint64_t(key)).status == cefrodil::Status::ok);
+    }
+    for (uint64_t key = 0; key < 20; key++) {
+        MUST(map.contains(key));
+    }
+}
+
 #endif

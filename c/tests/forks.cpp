@@ -14,16 +14,15 @@ using cefrodil::Status;
 
 enum { CHILDREN = 200, KEYS = 1000 };
 
-static Map map, small_first;
+static Map map, full;
 static cefrodil::object_map<uint64_t, std::string> names;
 static std::vector<cefrodil::Handle<1>> handles, of_shards;
 static cefrodil::Writing<1> writing;
 static std::atomic<bool> is_over{false};
 
 static bool open_and_close() {
-    Map other, two_tables;
-    return other.open({40000, 4, 2, 10}) == Status::ok && other.insert(1, 2).status == Status::ok && other.find(1) == 2u &&
-           two_tables.open({100, 1, 2, 10, true}) == Status::ok && two_tables.insert(1, 2).status == Status::ok && two_tables.find(1) == 2u;
+    Map other;
+    return other.open({40000, 4, 2, 10}) == Status::ok && other.insert(1, 2).status == Status::ok && other.find(1) == 2u;
 }
 
 // A call that waits for another's computation, when the process forks, and one that computes.
@@ -40,8 +39,8 @@ static void compute_slowly() {
 static void write_on() {
     for (uint64_t n = 0; !is_over; n++) {
         MUST(map.insert_or_assign(n % KEYS, n).status == Status::ok);
-        MUST(small_first.insert_or_assign(n % (2 * KEYS), n).status == Status::ok);
-        static_cast<void>(small_first.find(n / 2 % KEYS));
+        MUST(full.insert_or_assign(n % (2 * KEYS), n).status == Status::ok);
+        static_cast<void>(full.find(n / 2 % KEYS));
         MUST(writing.put(n % KEYS, {n}).status == Status::ok);
         MUST(names.insert_or_assign(n % KEYS, std::string(n % 100, 'x')).status == Status::ok);
     }
@@ -65,7 +64,7 @@ static bool sees_nothing_open() {
     const uint64_t keys[2] = {1, 2};
     return !map.is_open() && !map.find(1) && map.get(1).status == Status::closed && map.insert(1, 1).status == Status::closed &&
            map.insert_or_assign(1, 1).status == Status::closed && map.erase(1) == Status::closed && map.clear() == Status::closed &&
-           !small_first.is_open() && !small_first.find(1) && small_first.erase(1) == Status::closed && small_first.clear() == Status::closed &&
+           !full.is_open() && !full.find(1) && full.erase(1) == Status::closed && full.clear() == Status::closed &&
            !names.is_open() && !names.find(1) && names.erase(1) == Status::closed && computed.status == Status::closed &&
            computed.value == 6 && map.find_many(keys, 2, values) == 0 && map.size() == 0;
 }
@@ -127,7 +126,7 @@ static void a_child_takes_no_lock_for_its_pass() {
 int main() {
     a_child_takes_no_lock_for_its_pass();
     const auto shape = cefrodil::shape_for_items(2000);
-    MUST(shape && map.open({100000}) == Status::ok && small_first.open({KEYS, 1, 64, 10000, true}) == Status::ok);
+    MUST(shape && map.open({100000}) == Status::ok && full.open({KEYS, 1}) == Status::ok);
     MUST(cefrodil::open(*shape, 1, 3, handles) == Status::ok);
     MUST(writing.own(std::move(handles[2])) == Status::ok);
     MUST(cefrodil::open(*shape, 2, 3, of_shards) == Status::ok && names.open({KEYS}) == Status::ok);

@@ -57,7 +57,7 @@ static void other_calls() {
     MUST(map.peek(1).status == Status::absent && map.get(1).status == Status::absent);
     MUST(map.update_or_insert(1, 10, [](uint64_t) { return uint64_t(0); }).value == 10u && map.find_many(keys, 3, values) == 1 && values[0] == 10u);
     MUST(map.find_or_compute(2, [] { return uint64_t(20); }).computed && map.find(2) == 20u);
-    // With a small table, too.
+    // In a full map, too.
     MUST(map.close() == Status::ok && map.open({100, 1}) == Status::ok);
     for (uint64_t key = 0; key < 200; key++) {
         MUST(map.insert(key, uint64_t(key)).status == Status::ok);

@@ -1,18 +1,18 @@
 // What has left a map of objects: it is counted while it waits to be freed, it is freed soon, and the bound on weights is kept by whoever makes it leave.
 // A listener may write, but not within too many others.
 #include "cefrodil.h"
-#include <functional>
-#include <utility>
 
-// What this thread does before it next takes an entry out of the index.
-static thread_local std::function<void()> act;
-static cefrodil_status first_take_if(cefrodil_handle *handle, uint64_t key, uint64_t since, uint64_t *old, size_t words, cefrodil_reply *reply) {
-    if (act) {
-        std::exchange(act, nullptr)();
+// So many evictions from now on are held.
+static uint32_t held = 0;
+static cefrodil_status some_evict(cefrodil_handle *handle, uint64_t near, uint64_t *old, size_t words, cefrodil_reply *reply) {
+    if (held != 0) {
+        held--;
+        *reply = cefrodil_reply{};
+        return CEFRODIL_HELD;
     }
-    return cefrodil_take_if(handle, key, since, old, words, reply);
+    return cefrodil_evict(handle, near, old, words, reply);
 }
-#define cefrodil_take_if first_take_if
+#define cefrodil_evict some_evict
 #include "cefrodil_object_map.hpp"
 #include "must.h"
 #include <malloc.h>
@@ -84,21 +84,23 @@ static void what_a_thread_leaves_is_freed() {
     MUST(map.waiting() < 20 && map.meter().counts().waiting == map.waiting());
 }
 
-// Another thread has erased the object that a put has chosen to leave. The put goes on with the next one.
-static void a_victim_is_erased_meanwhile() {
+// Other threads hold the shard's turn. A put tries again to evict, but no more often than it may. Then a later put goes on.
+static void held_evictions() {
     Map map;
     Map::Rules rules;
     rules.weigher = [](uint64_t, uint64_t value) { return value; };
     rules.most_weight = 100;
-    std::vector<uint64_t> left;
-    rules.listener = [&](const uint64_t &key, const uint64_t &, Left) { left.push_back(key); };
-    MUST(map.open({100}, rules) == Status::ok);
+    MUST(map.open({100, 1, 4, 5}, rules) == Status::ok);
     for (uint64_t key = 0; key < 10; key++) {
         MUST(map.insert(key, uint64_t(10)).status == Status::ok);
     }
-    act = [&] { std::thread([&] { MUST(map.erase(0) == Status::ok); }).join(); };
-    MUST(map.insert(10, uint64_t(20)).status == Status::ok && !act && map.contains(10));
-    MUST(map.weight() == 100 && left.size() == 2 && left[0] == 0);
+    held = 5;
+    MUST(map.insert(10, uint64_t(20)).evicted && held == 0 && map.contains(10) && map.weight() == 100);
+    // It tries before the put and after it.
+    held = 12;
+    const cefrodil::Stored stored = map.insert(11, uint64_t(30));
+    MUST(stored.status == Status::ok && !stored.evicted && held == 0 && map.contains(11) && map.weight() == 130);
+    MUST(map.insert_or_assign(11, uint64_t(30)).status == Status::ok && map.weight() == 100 && map.contains(11));
 }
 
 // A thread that opens and closes maps keeps nothing of them.
@@ -149,7 +151,7 @@ int main() {
     what_waits_is_counted();
     few_wait_after_a_look();
     what_a_thread_leaves_is_freed();
-    a_victim_is_erased_meanwhile();
+    held_evictions();
     closed_maps_leave_nothing();
     listeners_that_put();
     listeners_that_erase();

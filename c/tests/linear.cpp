@@ -236,7 +236,7 @@ template <class Any> class Caller {
             add_write(key, made(clears ? "clear" : "invalidate_all", whatever, absent));
         }
     }
-    // Other keys evict these, or make them move.
+    // Other keys evict these.
     void use_others() {
         const uint64_t key = first_filler + random_.below(fillers);
         if constexpr (has_lives) {
@@ -304,13 +304,11 @@ static Status open(Objects &map, const cefrodil::MapOptions &options) {
     return map.open(options, rules);
 }
 
-// Rounds in a new map. A full one evicts keys, and moves them from one table to the other. Returns how many were right.
-template <class Any> static uint64_t rounds(const char *name, bool small_table, bool is_full, uint64_t most, Stopped &running, Random &random) {
+// Rounds in a new map. A full one evicts keys. Returns how many were right.
+template <class Any> static uint64_t rounds(const char *name, bool is_full, uint64_t most, Stopped &running, Random &random) {
     Tested<Any> tested;
     tested.may_end = is_full;
-    cefrodil::MapOptions options{is_full ? 40u : 100u};
-    options.small_table = small_table;
-    MUST(open(tested.map, options) == Status::ok);
+    MUST(open(tested.map, {is_full ? 40u : 100u}) == Status::ok);
     for (uint64_t key = first_filler; is_full && key < first_filler + fillers; key++) {
         MUST(tested.map.insert(key, uint64_t(1)).status == Status::ok);
     }
@@ -323,18 +321,16 @@ template <class Any> static uint64_t rounds(const char *name, bool small_table, 
 
 // So many rounds in a map of each kind.
 static uint64_t rounds_of_all(uint64_t most, Stopped &running, Random &random) {
-    return rounds<Map>("map, one table", false, false, most, running, random) + rounds<Map>("map", true, false, most, running, random) +
-           rounds<Map>("full map", true, true, most, running, random) + rounds<Timed>("timed_map, one table", false, false, most, running, random) +
-           rounds<Timed>("full timed_map", true, true, most, running, random) +
-           rounds<Objects>("object_map, no queue", false, false, most, running, random) +
-           rounds<Objects>("object_map", true, false, most, running, random) + rounds<Objects>("full object_map", true, true, most, running, random);
+    return rounds<Map>("map", false, most, running, random) + rounds<Map>("full map", true, most, running, random) +
+           rounds<Timed>("timed_map", false, most, running, random) + rounds<Timed>("full timed_map", true, most, running, random) +
+           rounds<Objects>("object_map", false, most, running, random) + rounds<Objects>("full object_map", true, most, running, random);
 }
 
 int main(int argc, char **argv) {
     const std::chrono::seconds time(argc > 1 ? std::strtoll(argv[1], nullptr, 10) : 0);
     Random random{argc > 1 ? static_cast<uint64_t>(std::chrono::steady_clock::now().time_since_epoch().count()) : 1};
     const auto end = std::chrono::steady_clock::now() + time;
-    const uint64_t each = 1000, kinds = 8;
+    const uint64_t each = 1000, kinds = 6;
     uint64_t right = 0;
     Stopped running(threads);
     for (int n = 0; (argc > 1 ? std::chrono::steady_clock::now() < end : n < 5) && line_of_failure == 0; n++) {

@@ -213,6 +213,12 @@ static void idle_time_moves_by_a_sixteenth() {
     MUST(!numbers.peek(2).value);
 }
 
+static void erasures() {
+    Numbers map;
+    MUST(map.open({40, 1}) == Status::ok);
+    erasures_are_no_use(map);
+}
+
 int main(int argc, char **argv) {
     const uint64_t less = argc > 1 ? std::strtoull(argv[1], nullptr, 10) : 1;
     deadlines();
@@ -224,5 +230,6 @@ int main(int argc, char **argv) {
     agrees_with_a_model<cefrodil::SipHash<uint64_t>>(30000 / less);
     agrees_with_a_model<Meeting>(30000 / less);
     threads(3000 / less);
+    erasures();
     return outcome("lives");
 }

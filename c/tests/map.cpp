@@ -53,11 +53,6 @@ static_assert(noexcept(any<Texts>().open({1})) && noexcept(any<Texts>().clear())
 static_assert(noexcept(any<const Texts>().size()) && noexcept(any<const Texts>().capacity()) && noexcept(any<const Texts>().is_open()));
 static_assert(!noexcept(any<map<int, int, Throwing>>().find(1)) && !noexcept(any<map<int, int, Throwing>>().erase(1)));
 
-// Whether these maps have a small table.
-static bool has_small = false;
-
-static cefrodil::MapOptions sized(uint32_t entries, uint32_t shards = 0, uint32_t passes = 64) { return {entries, shards, passes, 10000, has_small}; }
-
 static void openings() {
     Numbers numbers;
     MUST(numbers.open({0}) == Status::bad_items && numbers.open({100, 3}) == Status::bad_shards && numbers.open({100, 4, 0}) == Status::bad_handles);
@@ -75,8 +70,8 @@ static void openings() {
     const Computed<uint64_t> computed = numbers.find_or_compute(1, [] { return uint64_t(7); });
     MUST(computed.status == Status::closed && computed.value == 7 && computed.computed);
     const cefrodil::MapOptions usual{100};
-    MUST(usual.entries == 100 && usual.shards == 0 && usual.passes == 64 && usual.tries == 10000 && usual.small_table);
-    MUST(numbers.open(sized(100, 4, 1024)) == Status::ok && numbers.open({100}) == Status::in_use && numbers.is_open());
+    MUST(usual.entries == 100 && usual.shards == 0 && usual.passes == 64 && usual.tries == 10000);
+    MUST(numbers.open({100, 4, 1024}) == Status::ok && numbers.open({100}) == Status::in_use && numbers.is_open());
     cefrodil_shape shape{};
     MUST(cefrodil_shape_for_items(100, 4, &shape) == CEFRODIL_OK && numbers.capacity() == 4 * shape.items);
     MUST(numbers.insert(1, 10).status == Status::ok && numbers.find(1) == 10u && !numbers.find(2));
@@ -93,7 +88,7 @@ static void shards_by_default() {
     for (const auto &[entries, shards] : expected) {
         Numbers numbers;
         cefrodil_shape shape{};
-        MUST(numbers.open(sized(entries)) == Status::ok && cefrodil_shape_for_items(entries, shards, &shape) == CEFRODIL_OK);
+        MUST(numbers.open({entries}) == Status::ok && cefrodil_shape_for_items(entries, shards, &shape) == CEFRODIL_OK);
         MUST(numbers.capacity() == uint64_t(shape.items) * shards);
     }
 }
@@ -111,7 +106,7 @@ static void small_shards(const cefrodil::MapOptions &options, uint64_t keys) {
 
 static void answers() {
     map<int, double> rates;
-    MUST(rates.open(sized(100)) == Status::ok && rates.size() == 0);
+    MUST(rates.open({100}) == Status::ok && rates.size() == 0);
     const Stored first = rates.insert(-1, 0.5), second = rates.insert(-1, 0.75), third = rates.insert_or_assign(-1, 1.5);
     MUST(first.status == Status::ok && !first.renewed && !first.evicted && second.status == Status::present);
     MUST(third.status == Status::ok && third.renewed && !third.evicted && rates.find(-1) == 1.5 && rates.size() == 1);
@@ -123,7 +118,7 @@ static void answers() {
     MUST(begun.status == Status::ok && begun.value == 0.5 && renewed.value == 1.0 && rates.find(3) == 1.0 && rates.erase(3) == Status::ok);
     MUST(rates.erase(2) == Status::absent && rates.erase(-1) == Status::ok && rates.erase(-1) == Status::absent && rates.size() == 0);
     map<uint8_t, Seven> wide;
-    MUST(wide.open(sized(100)) == Status::ok && wide.insert(1, {{1, 2, 3, 4, 5, 6, 7}}).status == Status::ok);
+    MUST(wide.open({100}) == Status::ok && wide.insert(1, {{1, 2, 3, 4, 5, 6, 7}}).status == Status::ok);
     const auto found = wide.find(1);
     MUST(found && found->words[0] == 1 && found->words[3] == 4 && found->words[6] == 7);
 }
@@ -131,11 +126,10 @@ static void answers() {
 // A value that was only peeked at leaves as if nobody had looked. One that was found stays.
 static void peeks() {
     Numbers numbers;
-    MUST(numbers.open(sized(100, 1)) == Status::ok && numbers.peek(0).status == Status::absent);
+    MUST(numbers.open({100, 1}) == Status::ok && numbers.peek(0).status == Status::absent);
     for (uint64_t key = 0; key <= 100; key++) {
         MUST(numbers.insert(key, key).status == Status::ok);
     }
-    // All were marked when they were put, and the hand has passed them once.
     uint64_t peeked = 0, found = 0;
     for (uint64_t key = 0; key <= 100; key++) {
         const Found<uint64_t> seen = key % 2 == 0 ? numbers.get(key) : numbers.peek(key);
@@ -187,13 +181,13 @@ class Model {
         default: (void)seen(key); return;
         }
     }
-    // Each key is found or was evicted, and none is counted twice. The first lookup of a key may move it, and evict another one.
+    // Each key is found or was evicted, and none is counted twice.
     void end(uint64_t keys) {
-        uint64_t found[2] = {0, 0};
-        for (uint64_t n = 0; n < 2 * keys; n++) {
-            found[n / keys] += seen(n % keys).has_value();
+        uint64_t found = 0;
+        for (uint64_t key = 0; key < keys; key++) {
+            found += seen(key).has_value();
         }
-        MUST((found[0] == found[1] || has_small) && found[1] == map_.size() && found[1] == size_ && size_ <= map_.capacity());
+        MUST(found == map_.size() && found == size_ && size_ <= map_.capacity());
     }
     uint64_t evicted() const { return evicted_; }
 
@@ -212,16 +206,8 @@ class Model {
             forgotten_++;
             plain_.erase(known);
         }
-        moved(found.has_value());
-        MUST(forgotten_ <= evicted_);
+        MUST(forgotten_ <= evicted_ && map_.size() == size_);
         return found;
-    }
-    // So many keys may have moved from the small table to the main one. There each may have evicted another one.
-    void moved(uint64_t most) {
-        const uint64_t gone = size_ - map_.size();
-        MUST(gone <= (has_small ? most : 0));
-        size_ -= gone;
-        evicted_ += gone;
     }
     void put(uint64_t key, const Stored &stored, bool if_absent) {
         const bool there = stored.renewed || stored.status == Status::present;
@@ -247,17 +233,15 @@ class Model {
             keys[i] = (key + i * i) % 200;
         }
         std::fill_n(values, 101, Version{99, 98, {97, 96}});
-        size_t found = 0;
-        MUST(map_.find_many(keys, count, values) <= count);
-        moved(count);
+        const size_t found = map_.find_many(keys, count, values);
+        size_t there = 0;
         for (size_t i = 0; i < count; i++) {
             const auto one = seen(keys[i]);
-            found += one.has_value();
-            // What was found may have left since, as another key moved.
-            MUST(one.has_value() == values[i].has_value() || (has_small && !one));
+            there += one.has_value();
+            MUST(one.has_value() == values[i].has_value());
             MUST(!one || (is_of(keys[i], *values[i]) && values[i]->number == one->number));
         }
-        MUST((map_.find_many(keys, count, values) == found || has_small) && values[count]->key == 99);
+        MUST(there == found && values[count]->key == 99);
     }
     void erase(uint64_t key) {
         const bool there = seen(key).has_value();
@@ -333,7 +317,7 @@ struct NarrowPair {
 // An entry of one key is none of another key with its number.
 template <class Hash> static void collisions() {
     map<uint64_t, uint64_t, Hash> narrow;
-    MUST(narrow.open(sized(100)) == Status::ok && narrow.insert(1, 10).status == Status::ok && narrow.find(1) == 10u);
+    MUST(narrow.open({100}) == Status::ok && narrow.insert(1, 10).status == Status::ok && narrow.find(1) == 10u);
     MUST(!narrow.find(5) && narrow.get(5).status == Status::absent && !narrow.contains(9));
     const uint64_t keys[3] = {5, 1, 9};
     std::optional<uint64_t> found[3];
@@ -356,7 +340,7 @@ template <class Hash> static void collisions() {
 // All lengths, with letters of any value. A text that differs by one letter is another key.
 static void texts() {
     Texts texts;
-    MUST(texts.open(sized(1000)) == Status::ok);
+    MUST(texts.open({1000}) == Status::ok);
     std::string text;
     for (uint64_t size = 0; size <= 40; size++) {
         MUST(texts.insert(text, size).status == Status::ok && texts.insert(std::string_view(text), 99).status == Status::present);
@@ -378,7 +362,7 @@ static void texts() {
     std::optional<uint64_t> found[3];
     MUST(texts.find_many(names, 3, found) == 2 && found[0] == 7u && !found[1] && found[2] == 40u);
     MUST(texts.find_many(strings, 2, found) == 1 && !found[0] && found[1] == 7u && texts.find_many(strings, 0, found) == 0 && found[1] == 7u);
-    MUST(views.open(sized(10)) == Status::ok && views.insert(std::string("gone"), 1).status == Status::ok && views.find("gone") == 1);
+    MUST(views.open({10}) == Status::ok && views.insert(std::string("gone"), 1).status == Status::ok && views.find("gone") == 1);
 }
 
 static uint64_t fibonacci(Numbers &known, uint64_t n, uint64_t &calls) {
@@ -411,7 +395,7 @@ static uint64_t put_around_clear(map<uint64_t, uint64_t, ByNumber> &numbers, uin
 // What is computed while the map is cleared is not put, whatever its key is.
 static void computations_around_clear() {
     map<uint64_t, uint64_t, ByNumber> numbers;
-    MUST(numbers.open(sized(1000)) == Status::ok && put_around_clear(numbers, 100) == 0 && numbers.size() == 0);
+    MUST(numbers.open({1000}) == Status::ok && put_around_clear(numbers, 100) == 0 && numbers.size() == 0);
 }
 
 // A hash with bits in few places, so that most keys would meet if the index took them as they are.
@@ -422,7 +406,7 @@ struct Sparse {
 // The index mixes the bits of such a hash, so all keys have a place.
 static void sparse_hashes() {
     map<uint64_t, uint64_t, Sparse> numbers;
-    MUST(numbers.open(sized(2000)) == Status::ok);
+    MUST(numbers.open({2000}) == Status::ok);
     for (uint64_t key = 0; key < 1000; key++) {
         MUST(numbers.insert(key, key).status == Status::ok);
     }
@@ -432,7 +416,7 @@ static void sparse_hashes() {
 // Each key of one call is looked up once, and nothing else is.
 static void lookups_of_many_keys() {
     Numbers numbers;
-    MUST(numbers.open(sized(1000)) == Status::ok && numbers.insert(1, 10).status == Status::ok);
+    MUST(numbers.open({1000}) == Status::ok && numbers.insert(1, 10).status == Status::ok);
     const uint64_t keys[40] = {1, 2, 1};
     std::optional<uint64_t> values[40];
     const auto looked_up = [&](size_t count) {
@@ -447,7 +431,7 @@ static void lookups_of_many_keys() {
 // A function may call the map. If it changes its own key, what it computes is not put.
 static void computations() {
     Numbers numbers;
-    MUST(numbers.open(sized(1000)) == Status::ok);
+    MUST(numbers.open({1000}) == Status::ok);
     uint64_t calls = 0;
     MUST(fibonacci(numbers, 90, calls) == 2880067194370816120 && calls == 91 && numbers.size() == 91);
     const auto outdated = [&](auto change) {
@@ -486,15 +470,19 @@ static void computations() {
 }
 
 // With an argument the calls are so many times fewer, for valgrind.
-// In a map with one table, and in one with a small table before the main one.
-static void all_calls(uint64_t fewer) {
-    small_shards(sized(14), 100000 / fewer);
-    small_shards(sized(28), 100000 / fewer);
-    small_shards(sized(100, 4), 100000 / fewer);
+int main(int argc, char **argv) {
+    const uint64_t fewer = argc > 1 ? std::strtoull(argv[1], nullptr, 10) : 1;
+    alarm(argc > 1 ? 240 : 100); // so that a flight which never ends fails the test
+    openings();
+    shards_by_default();
+    peeks();
+    small_shards({14}, 100000 / fewer);
+    small_shards({28}, 100000 / fewer);
+    small_shards({100, 4}, 100000 / fewer);
     answers();
-    MUST(random_calls(sized(2000), 200, 100000 / fewer) == 0);
-    MUST(random_calls(sized(60, 1), 200, 100000 / fewer) > 1000 / fewer);
-    MUST(random_calls(sized(1, 4, 1), 200, 20000 / fewer) > 1000 / fewer);
+    MUST(random_calls({2000}, 200, 100000 / fewer) == 0);
+    MUST(random_calls({60, 1}, 200, 100000 / fewer) > 1000 / fewer);
+    MUST(random_calls({1, 4, 1}, 200, 20000 / fewer) > 1000 / fewer);
     collisions<Narrow>();
     collisions<NarrowPair>();
     sparse_hashes();
@@ -502,16 +490,5 @@ static void all_calls(uint64_t fewer) {
     lookups_of_many_keys();
     computations();
     computations_around_clear();
-}
-
-int main(int argc, char **argv) {
-    const uint64_t fewer = argc > 1 ? std::strtoull(argv[1], nullptr, 10) : 1;
-    alarm(argc > 1 ? 240 : 100); // so that a flight which never ends fails the test
-    openings();
-    shards_by_default();
-    peeks();
-    all_calls(fewer);
-    has_small = true;
-    all_calls(fewer);
     return outcome("map");
 }

@@ -51,14 +51,11 @@ template <class Map> static void each_call_counts_once(Map &map) {
 }
 
 static void each_map() {
-    Numbers numbers, without;
+    Numbers numbers;
     Sessions sessions;
     Objects objects;
-    cefrodil::MapOptions one_table{100};
-    one_table.small_table = false;
-    MUST(numbers.open({100}) == Status::ok && without.open(one_table) == Status::ok && sessions.open({100}) == Status::ok && objects.open({100}) == Status::ok);
+    MUST(numbers.open({100}) == Status::ok && sessions.open({100}) == Status::ok && objects.open({100}) == Status::ok);
     each_call_counts_once(numbers);
-    each_call_counts_once(without);
     each_call_counts_once(sessions);
     each_call_counts_once(objects);
     MUST(objects.insert(1, uint64_t(10)).status == Status::ok);
@@ -66,7 +63,7 @@ static void each_map() {
     MUST(counted(objects, 0, 1, [&] { MUST(objects.look(2, [](uint64_t) {}) == Status::absent); }));
 }
 
-// In a full map with a small table, where most of these keys are in the small one, or in none.
+// In a full map, which has some of these keys.
 static void many_keys() {
     Numbers numbers;
     MUST(numbers.open({40, 1}) == Status::ok);
@@ -80,7 +77,7 @@ static void many_keys() {
     for (const uint64_t key : keys) {
         present += numbers.peek(key).value.has_value();
     }
-    MUST(present > 40 && present < 60);
+    MUST(present == 40);
     for (const size_t count : {0, 1, 32, 33, 100}) {
         const Counts before = numbers.meter().counts();
         const uint64_t found = numbers.find_many(keys.data(), count, values.data());

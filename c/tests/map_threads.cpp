@@ -187,23 +187,21 @@ static void change(map<uint16_t, Told> &all, Notes &notes, uint64_t thread, uint
     }
 }
 
-// Threads read and write a map that is too small. `passes`: with fewer than threads, some share one. `small_table`: with one before the main one.
-static void values(uint32_t passes, bool small_table) {
+// Threads read and write a map that is too small. `passes`: with fewer than threads, some share one.
+static void values(uint32_t passes) {
     map<uint16_t, Told> all;
     Notes notes;
-    MUST(all.open({1, 2, passes, 10000, small_table}) == Status::ok && all.capacity() < Notes::keys);
+    MUST(all.open({1, 2, passes}) == Status::ok && all.capacity() < Notes::keys);
     in_threads(Notes::threads, [&](size_t thread) {
         for (uint64_t n = 0; n < 15000 / fewer; n++) {
             change(all, notes, thread, n + thread * 1000003);
         }
     });
-    // The first lookup of a key may move it, and evict another one.
-    uint64_t found[2] = {0, 0};
-    for (uint16_t n = 0; n < 2 * Notes::keys; n++) {
-        found[n / Notes::keys] += all.contains(n % Notes::keys);
+    uint64_t found = 0;
+    for (uint16_t key = 0; key < Notes::keys; key++) {
+        found += all.contains(key);
     }
-    MUST((found[0] == found[1] || small_table) && found[1] == all.size());
-    MUST(all.size() <= all.capacity() && all.meter().counts().evictions > 100 / fewer);
+    MUST(found == all.size() && all.size() <= all.capacity() && all.meter().counts().evictions > 100 / fewer);
     MUST(all.clear() == Status::ok && all.size() == 0);
 }
 
@@ -220,9 +218,9 @@ template <class Function> static bool counted(Numbers &numbers, uint64_t key, Fu
 }
 
 // Each thread adds to the same keys, by update and by update_or_insert. Within the function another thread has its turn.
-static void updates(uint32_t passes, bool small_table) {
+static void updates(uint32_t passes) {
     Numbers numbers;
-    MUST(numbers.open({100, 1, passes, 10000, small_table}) == Status::ok);
+    MUST(numbers.open({100, 1, passes}) == Status::ok);
     in_threads(4, [&](size_t) {
         for (uint64_t n = 0; n < 2000 / fewer; n++) {
             const uint64_t key = n % 3;
@@ -257,9 +255,9 @@ static void first_counts() {
 }
 
 // Threads whose calls are never repeated are held now and then. An erasure that returned held was not made, and one that returned ok was.
-static void held(bool small_table) {
+static void held() {
     Numbers numbers;
-    MUST(numbers.open({1000, 1, 8, 0, small_table}) == Status::ok);
+    MUST(numbers.open({1000, 1, 8, 0}) == Status::ok);
     const auto is_there = [&](uint64_t key) { return surely([&] { return numbers.get(key).status; }) == Status::ok; };
     in_threads(3, [&](size_t key) {
         for (uint64_t n = 0; n < 20000 / fewer; n++) {
@@ -282,9 +280,9 @@ struct Meeting {
 };
 
 // One thread erases a key while another puts a second key over it, under the same number.
-static void erasures_of_another_key(bool small_table) {
+static void erasures_of_another_key() {
     map<uint64_t, uint64_t, Meeting> meeting;
-    MUST(meeting.open({100, 1, 8, 10000, small_table}) == Status::ok && meeting.insert(1, 1).status == Status::ok);
+    MUST(meeting.open({100, 1, 8}) == Status::ok && meeting.insert(1, 1).status == Status::ok);
     std::atomic<int> lost{0};
     std::atomic<bool> ends{false};
     in_threads(2, [&](size_t thread) {
@@ -541,14 +539,12 @@ int main(int argc, char **argv) {
     passes_at_the_end();
     passes_of_many_maps();
     shared_calls();
-    for (const bool small_table : {false, true}) {
-        values(8, small_table);
-        values(2, small_table);
-        updates(8, small_table);
-        updates(1, small_table);
-        held(small_table);
-        erasures_of_another_key(small_table);
-    }
+    values(8);
+    values(2);
+    updates(8);
+    updates(1);
+    held();
+    erasures_of_another_key();
     first_counts();
     computations();
     computations_beside_updates();

@@ -325,19 +325,16 @@ static void by_object_maps() {
     MUST(numbers.close() == Status::ok && counts.close() == Status::ok);
 }
 
-// With a small table, too: keys that move take none.
-static void by_two_tables() {
+// No call of a full map takes memory.
+static void puts_that_evict() {
     map<uint64_t, uint64_t> numbers;
-    MUST(at_last(10, [&] { return numbers.open({100, 4, 4, 10000, true}); }, [&] { return !numbers.is_open(); }));
-    calls_of_a_map(numbers);
+    MUST(numbers.open({100, 4, 4}) == Status::ok);
     left = 0;
     for (uint64_t key = 0; key < 1000; key++) {
         MUST(numbers.insert(key, key).status != Status::no_memory && numbers.find(key / 2).value_or(key / 2) >= key / 2);
     }
     MUST(numbers.find(999) == 999u && numbers.erase(999) == Status::ok && numbers.size() > 100 && numbers.meter().counts().evictions > 500);
     left = -1;
-    const uint64_t size = numbers.size();
-    MUST(at_last(2, [&] { return numbers.clear(); }, [&] { return numbers.size() == size; }) && numbers.size() == 0);
 }
 
 static void by_maps() {
@@ -347,7 +344,7 @@ static void by_maps() {
     MUST(at_last(1, [&] { return numbers.clear(); }, [&] { return numbers.find(7) == 71u && numbers.size() == 1; }) && numbers.size() == 0);
     passes_of_threads(shape);
     maps_that_end();
-    by_two_tables();
+    puts_that_evict();
     turns_of_others(held_at_once, 0);
     turns_of_others(held_a_while, UINT32_MAX);
     turns_of_others(held_computation, UINT32_MAX);

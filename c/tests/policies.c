@@ -4,7 +4,7 @@
 #include <stdlib.h>
 
 /* The first key; its multiples are the others. They are not mixed, so the n-th key is noted at a place of four by n, and the note says n. */
-#define K UINT64_C(0x10000100001)
+#define K UINT64_C(0x140000001)
 /* A key with this bit is in the second shard. */
 #define OTHER (UINT64_C(1) << 48)
 

@@ -1,4 +1,4 @@
-// Which key gives way, by each policy in C++: by handles and by a guard. Maps go by CLOCK where their index alone evicts.
+// Which key gives way, by each policy in C++: by handles and by a guard. Maps have the scan-resistant one.
 #include "cefrodil_object_map.hpp"
 #include "must.h"
 
@@ -93,17 +93,30 @@ static void bad_policy() {
     MUST(open_with(shape_of(2), 1, 1, {1, 1}, handles, statuses) == Status::bad_policy && handles.empty() && statuses.empty());
 }
 
-// Of the four keys that are left, the last three stay by each policy. By CLOCK the other one is key 5.
+// Of the four keys that are left one was used: 2. By CLOCK it would be gone.
 template <class Map> static void a_map() {
-    MapOptions options{4, 1, 2};
-    options.small_table = false;
     Map map;
-    MUST(map.open(options) == Status::ok);
+    MUST(map.open({4, 1, 2}) == Status::ok);
     for (uint64_t key = 1; key <= 8; key++) {
         MUST(map.insert(key, uint64_t(key)).status == Status::ok && (key != 5 || map.find(2) == 2u));
     }
     for (uint64_t key = 1; key <= 8; key++) {
-        MUST(map.find(key).has_value() == (key >= 5));
+        MUST(map.find(key).has_value() == (key == 2 || key >= 6));
+    }
+}
+
+// Keys that are asked for once evict none that was asked for again.
+template <class Map> static void a_scan() {
+    Map map;
+    MUST(map.open({100, 1}) == Status::ok);
+    for (uint64_t key = 0; key < 50; key++) {
+        MUST(map.insert(key, uint64_t(key)).status == Status::ok && map.find(key) == key);
+    }
+    for (uint64_t key = 1000; key < 3000; key++) {
+        MUST(map.insert(key, uint64_t(key)).status == Status::ok);
+    }
+    for (uint64_t key = 0; key < 50; key++) {
+        MUST(map.find(key) == key);
     }
 }
 
@@ -116,5 +129,7 @@ int main() {
     bad_policy();
     a_map<map<uint64_t, uint64_t>>();
     a_map<object_map<uint64_t, uint64_t>>();
+    a_scan<map<uint64_t, uint64_t>>();
+    a_scan<object_map<uint64_t, uint64_t>>();
     return outcome("policies");
 }

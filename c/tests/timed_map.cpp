@@ -128,43 +128,7 @@ static void idle_after_an_insert() {
     MUST(!numbers.peek(1).value);
 }
 
-// A lookup that moves the key to the main table begins its time to idle anew, too.
-static void idle_in_two_tables() {
-    now = 0;
-    Numbers numbers;
-    MUST(numbers.open({40, 1}, living(forever, nanoseconds(100))) == Status::ok);
-    for (uint64_t key = 0; key <= 40; key++) {
-        MUST(numbers.insert(key, uint64_t(key)).status == Status::ok);
-    }
-    // Neither is in the main table.
-    MUST(numbers.insert(100, 1).status == Status::ok && numbers.insert(101, 1).status == Status::ok);
-    now = 90;
-    MUST(numbers.find(100) == 1u);
-    now = 180;
-    MUST(numbers.find(100) == 1u && numbers.erase_expired() == Status::ok && numbers.size() == 1);
-}
-
-// A lookup of a young key that has expired is no use of it. A move would evict another key from the main table, which is full.
-static void expired_in_the_small_table() {
-    now = 0;
-    Numbers numbers;
-    MUST(numbers.open({40, 1}, living(nanoseconds(100))) == Status::ok);
-    for (uint64_t key = 0; key <= 40; key++) {
-        MUST(numbers.insert_for(key, key, forever).status == Status::ok);
-    }
-    const auto moves = [&](uint64_t key) {
-        const uint64_t before = numbers.meter().counts().evictions;
-        std::optional<uint64_t> value;
-        MUST(numbers.find(key).has_value() == (numbers.find_many(&key, 1, &value) == 1));
-        return numbers.meter().counts().evictions != before;
-    };
-    MUST(numbers.insert(100, 1).status == Status::ok && numbers.insert(101, 1).status == Status::ok && moves(100) && !moves(100));
-    now = 100;
-    MUST(!moves(101) && !numbers.find(101) && numbers.update(101, next).status == Status::absent && numbers.size() == 41);
-    MUST(numbers.erase_expired() == Status::ok && numbers.size() == 39);
-}
-
-// erase_expired removes what invalidate_all has ended, from both tables, and nothing else.
+// erase_expired removes what invalidate_all has ended, and nothing else.
 static void erases_what_is_invalidated(const cefrodil::Lives &lives) {
     now = 1000;
     Numbers numbers;
@@ -174,9 +138,10 @@ static void erases_what_is_invalidated(const cefrodil::Lives &lives) {
             MUST(numbers.insert(key, uint64_t(key)).status == Status::ok);
         }
         const uint64_t all = numbers.size();
-        MUST(numbers.erase_expired() == Status::ok && numbers.size() == all && all > 40);
+        MUST(numbers.erase_expired() == Status::ok && numbers.size() == all && all == 40);
         MUST(numbers.invalidate_all() == Status::ok && (round != 3 || numbers.invalidate_all() == Status::ok));
-        MUST(numbers.insert(0, 7).status == Status::ok && numbers.insert_or_assign_for(50, 8, forever).status == Status::ok);
+        // It was used, so another one gives way.
+        MUST(numbers.insert(0, 7).status == Status::ok && numbers.find(0) == 7u && numbers.insert_or_assign_for(50, 8, forever).status == Status::ok);
         MUST(numbers.update(0, next).value == 8u && numbers.size() >= all);
         MUST(numbers.erase_expired() == Status::ok && numbers.size() == 2 && numbers.find(0) == 8u && numbers.find(50) == 8u);
         MUST(numbers.clear() == Status::ok);
@@ -233,14 +198,18 @@ static void threads(uint64_t calls) {
     threads_find_nothing_that_has_ended(map, calls);
 }
 
+static void erasures() {
+    Numbers map;
+    MUST(map.open({40, 1}) == Status::ok);
+    erasures_are_no_use(map);
+}
+
 int main(int argc, char **argv) {
     const uint64_t less = argc > 1 ? std::strtoull(argv[1], nullptr, 10) : 1;
     deadlines();
     lives_of_entries();
     idle();
     idle_after_an_insert();
-    idle_in_two_tables();
-    expired_in_the_small_table();
     for (const auto to_idle : {forever, nanoseconds(1024), nanoseconds(std::chrono::hours(1))}) {
         erases_what_is_invalidated(living(forever, to_idle));
         erases_what_is_invalidated(living(nanoseconds(100), to_idle));
@@ -249,5 +218,6 @@ int main(int argc, char **argv) {
     agrees_with_a_model<cefrodil::SipHash<uint64_t>>({30, 1}, false, 30000 / less);
     agrees_with_a_model<Meeting>({100, 1}, false, 30000 / less);
     threads(2000 / less);
+    erasures();
     return outcome("timed_map");
 }

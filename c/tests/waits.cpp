@@ -101,11 +101,6 @@ static cefrodil_status some_get_many(cefrodil_handle *pass, const uint64_t *keys
 
 using cefrodil::Status;
 
-// The calls of the index are counted here, and a small table has more of them.
-static cefrodil::MapOptions one_table(uint32_t entries, uint32_t shards = 0, uint32_t passes = 64, uint32_t tries = 10000) {
-    return {entries, shards, passes, tries, false};
-}
-
 static uint64_t yields = 0, nanoseconds = 0;
 
 extern "C" int sched_yield() noexcept {
@@ -162,7 +157,7 @@ static void calls(const cefrodil::MapOptions &options, uint32_t tries, uint64_t 
 // A lookup that stays busy ends sooner than one that belongs to a write.
 static void lookups() {
     cefrodil::map<int, int> map;
-    MUST(map.open(one_table(100)) == Status::ok && map.insert(1, 10).status == Status::ok);
+    MUST(map.open({100}) == Status::ok && map.insert(1, 10).status == Status::ok);
     disturb(1000);
     MUST(map.find(1) == 10 && made == 1001 && waited(193, 800));
     disturb(1001);
@@ -186,7 +181,7 @@ static void lookups() {
 // An erasure that is overtaken each time says so, and the key is still there.
 static void overtaken_erasures() {
     cefrodil::map<int, int> map;
-    MUST(map.open(one_table(100, 1, 8, 5)) == Status::ok && map.insert(1, 10).status == Status::ok);
+    MUST(map.open({100, 1, 8, 5}) == Status::ok && map.insert(1, 10).status == Status::ok);
     overtaken = 6;
     MUST(map.erase(1) == Status::changed && overtaken == 0 && map.find(1) == 10 && map.size() == 1);
     overtaken = 5;
@@ -197,7 +192,7 @@ static void overtaken_erasures() {
 static void overtaken_by_removals() {
     cefrodil::map<int, int> map;
     const auto never = [](int old) { return old + 1; };
-    MUST(map.open(one_table(100, 1, 8, 5)) == Status::ok && map.insert(1, 10).status == Status::ok);
+    MUST(map.open({100, 1, 8, 5}) == Status::ok && map.insert(1, 10).status == Status::ok);
     // The other thread counts its removal itself.
     MUST(map.insert(2, 20).status == Status::ok);
     removed_before_condition = 1;
@@ -215,7 +210,7 @@ static void overtaken_by_removals() {
 // What another thread puts right before the put of a computed or a first value stays.
 static void overtaken_first_values() {
     cefrodil::map<int, int> map;
-    MUST(map.open(one_table(100)) == Status::ok);
+    MUST(map.open({100}) == Status::ok);
     put_before = 1;
     const auto computed = map.find_or_compute(1, [] { return 10; });
     MUST(computed.status == Status::present && computed.value == 10 && computed.computed && put_before == 0 && map.find(1) == 99);
@@ -233,7 +228,7 @@ struct Meeting {
 // A put on the condition that the entry is still the same is repeated if it is not: that of an update, and that over another key's entry.
 static void overtaken_puts_on_a_condition() {
     cefrodil::map<int, int, Meeting> map;
-    MUST(map.open(one_table(100, 1, 8, 5)) == Status::ok && map.insert(1, 10).status == Status::ok);
+    MUST(map.open({100, 1, 8, 5}) == Status::ok && map.insert(1, 10).status == Status::ok);
     int calls = 0;
     const auto one_more = [&](int old) { return calls++, old + 1; };
     overtaken_puts = 5;
@@ -250,14 +245,14 @@ static void overtaken_puts_on_a_condition() {
 // The other key's entry is removed before the put over it. An insert that may not try again says `changed`, and another one finds the place free.
 static void overtaken_puts_over_another_key() {
     cefrodil::map<int, int, Meeting> once, map;
-    MUST(once.open(one_table(100, 1, 8, 0)) == Status::ok && once.insert(1, 10).status == Status::ok);
+    MUST(once.open({100, 1, 8, 0}) == Status::ok && once.insert(1, 10).status == Status::ok);
     removed_before_condition = 1;
     MUST(once.insert(2, 20).status == Status::changed && removed_before_condition == 0 && !once.find(1) && !once.find(2));
     MUST(once.insert(1, 10).status == Status::ok);
     removed_before_condition = 1;
     const auto first = once.update_or_insert(2, 20, [](int old) { return old; });
     MUST(first.status == Status::changed && !first.value && !once.find(2));
-    MUST(map.open(one_table(100, 1, 8, 5)) == Status::ok && map.insert(1, 10).status == Status::ok);
+    MUST(map.open({100, 1, 8, 5}) == Status::ok && map.insert(1, 10).status == Status::ok);
     removed_before_condition = 1;
     const auto inserted = map.insert(2, 20);
     MUST(inserted.status == Status::ok && !inserted.renewed && !inserted.evicted && map.find(2) == 20);
@@ -266,7 +261,7 @@ static void overtaken_puts_over_another_key() {
 // `clear` goes on if another thread removes a key first.
 static void overtaken_clear() {
     cefrodil::map<int, int> map;
-    MUST(map.open(one_table(100, 1)) == Status::ok);
+    MUST(map.open({100, 1}) == Status::ok);
     for (int key = 0; key < 3; key++) {
         MUST(map.insert(key, key).status == Status::ok);
     }
@@ -289,7 +284,7 @@ static void removed_before_it_counts() {
 // If one removal is held, `clear` ends with that.
 static void held_clear() {
     cefrodil::map<int, int> map;
-    MUST(map.open(one_table(100, 1, 8, 0)) == Status::ok);
+    MUST(map.open({100, 1, 8, 0}) == Status::ok);
     for (int key = 0; key < 3; key++) {
         MUST(map.insert(key, key).status == Status::ok);
     }
@@ -305,7 +300,7 @@ static void held_clear() {
 // A list that is held is repeated, and so is a removal.
 static void clear_that_waits() {
     cefrodil::map<int, int> map;
-    MUST(map.open(one_table(100, 1, 8, 50)) == Status::ok && map.insert(1, 10).status == Status::ok);
+    MUST(map.open({100, 1, 8, 50}) == Status::ok && map.insert(1, 10).status == Status::ok);
     disturb(50);
     MUST(map.clear() == Status::ok && made == 52 && waited(43, 0) && map.size() == 0);
     MUST(map.insert(1, 10).status == Status::ok);
@@ -319,7 +314,7 @@ static void clear_that_waits() {
 // Of many keys, those that are busy are looked up again.
 static void many_keys() {
     cefrodil::map<int, int> map;
-    MUST(map.open(one_table(100)) == Status::ok && map.insert(1, 10).status == Status::ok && map.insert(2, 20).status == Status::ok);
+    MUST(map.open({100}) == Status::ok && map.insert(1, 10).status == Status::ok && map.insert(2, 20).status == Status::ok);
     int keys[50];
     std::optional<int> values[50];
     for (int i = 0; i < 50; i++) {
@@ -353,7 +348,7 @@ static bool counts(const cefrodil::map<int, int> &map, uint64_t given_up, uint64
 // A call that slept and gave up begins a stall. It lasts until no call gives up for ten seconds.
 static void stalls() {
     cefrodil::map<int, int> map;
-    MUST(map.open(one_table(100)) == Status::ok && map.insert(1, 10).status == Status::ok && counts(map, 0, 0));
+    MUST(map.open({100}) == Status::ok && map.insert(1, 10).status == Status::ok && counts(map, 0, 0));
     disturb(10001);
     MUST(map.insert_or_assign(1, 11).status == Status::held && counts(map, 1, 0));
     ahead += 9;
@@ -377,7 +372,7 @@ static void stalls() {
 // A call that tries too few times to sleep says little of the others.
 static void short_calls() {
     cefrodil::map<int, int> map;
-    MUST(map.open(one_table(100, 16, 64, 200)) == Status::ok && map.insert(1, 10).status == Status::ok);
+    MUST(map.open({100, 16, 64, 200}) == Status::ok && map.insert(1, 10).status == Status::ok);
     disturb(201);
     MUST(map.insert_or_assign(1, 11).status == Status::held && counts(map, 0, 0));
     disturb(201);
@@ -389,8 +384,8 @@ int main() {
     waits();
     stalls();
     short_calls();
-    calls(one_table(100), 10000, 193, 9800);
-    calls(one_table(100, 16, 64, 50), 50, 43, 0);
+    calls({100}, 10000, 193, 9800);
+    calls({100, 16, 64, 50}, 50, 43, 0);
     lookups();
     overtaken_erasures();
     overtaken_by_removals();

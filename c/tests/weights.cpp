@@ -66,7 +66,7 @@ static void too_heavy() {
     MUST(computed.status == Status::too_heavy && computed.value == 101 && computed.computed && !numbers.contains(1) && numbers.weight() == 0);
 }
 
-// Those leave that came first, but for those that were looked up since the last look at them.
+// Those leave that came first, but for those that were looked up since their put.
 static void order() {
     std::vector<uint64_t> left;
     Numbers numbers;
@@ -87,131 +87,6 @@ static void order() {
     MUST(numbers.find_or_compute(8, [] { return uint64_t(1); }).status == Status::ok && !numbers.contains(3) && numbers.weight() == 1);
 }
 
-// The rings by themselves: a bound, and objects by their numbers. The number of an object is that of its key, and also the moment of its put.
-class Rings {
-  public:
-    using Weighed = cefrodil::inside::Weighed;
-
-    Rings(uint64_t bound, bool has_small) : weights(bound, 1000, has_small) {}
-
-    // Returns the number of the next one to leave, if the sum is over the bound, or -1.
-    long enter(uint64_t number, uint64_t weight = 10, Weighed *old = nullptr) {
-        objects[number].weight = weight, objects[number].place.index = number;
-        weights.add(weight);
-        return number_of(weights.enter(objects[number], {number, number}, old));
-    }
-    // The same for one of another key.
-    long enter_as(uint64_t number, uint64_t key) {
-        objects[number].weight = 0, objects[number].place.index = key;
-        return number_of(weights.enter(objects[number], {key, number}, nullptr));
-    }
-    // The number of the next one to leave.
-    long next(uint64_t just_put = 999) { return number_of(weights.victim({just_put, just_put})); }
-    // It leaves.
-    long evict(uint64_t just_put = 999) {
-        const long number = next(just_put);
-        weights.leave(objects[size_t(number)], true);
-        return number;
-    }
-
-    cefrodil::inside::Weights weights;
-    std::vector<Weighed> objects = std::vector<Weighed>(3000);
-
-  private:
-    static long number_of(const std::optional<cefrodil::inside::Place> &victim) { return victim ? long(victim->index) : -1; }
-};
-
-static void one_ring() {
-    Rings rings(100, false);
-    MUST(rings.next() == -1);
-    for (uint64_t n = 0; n < 4; n++) {
-        MUST(rings.enter(n) == -1);
-    }
-    // Each stays in the ring until it has left.
-    MUST(rings.next() == 0 && rings.next() == 1 && rings.next() == 2 && rings.next() == 3 && rings.next() == 0);
-    rings.objects[1].use();
-    MUST(rings.next() == 2 && rings.next() == 3);
-    rings.weights.leave(rings.objects[0], false);
-    MUST(rings.next() == 1 && rings.next() == 2 && rings.weights.sum() == 30);
-    rings.weights.leave(rings.objects[3], true);
-    rings.weights.leave(rings.objects[1], false);
-    MUST(rings.next() == 2 && rings.next() == 2 && rings.weights.sum() == 10);
-    // What was just put leaves only if it must.
-    MUST(rings.next(2) == 2);
-    MUST(rings.enter(4) == -1 && rings.next(2) == 4 && rings.next(2) == 4 && rings.next(4) == 2);
-    rings.weights.leave(rings.objects[2], false);
-    rings.weights.leave(rings.objects[4], false);
-    MUST(rings.next() == -1 && rings.weights.sum() == 0 && !rings.weights.is_over());
-    // One that left before it could enter.
-    rings.weights.leave(rings.objects[5], false);
-    MUST(rings.enter_as(5, 5) == -1 && rings.next() == -1 && rings.weights.sum() == 0);
-    // A look for a victim ends, though all were used.
-    Rings many(100000, false);
-    for (uint64_t n = 10; n < 3000; n++) {
-        MUST(many.enter(n) == -1);
-        many.objects[n].use();
-    }
-    MUST(many.next() == 10 + 1024);
-}
-
-// The small ring may weigh 10 of 100.
-static void two_rings() {
-    using In = Rings::Weighed::In;
-    Rings rings(100, true);
-    for (uint64_t n = 1; n <= 10; n++) {
-        MUST(rings.enter(n) == -1);
-    }
-    MUST(rings.objects[10].ring == In::main && rings.next() == 1 && rings.next() == 2);
-    // It is full now. One that is new goes to the small ring, and leaves if it was not used when the next one comes.
-    MUST(rings.enter(11) == 3 && rings.objects[11].ring == In::small);
-    MUST(rings.enter(12) == 11);
-    rings.weights.leave(rings.objects[11], true);
-    MUST(rings.next() == 4);
-    // Its key is known when it comes again, once.
-    MUST(rings.enter_as(111, 11) != -1 && rings.enter_as(112, 11) != -1);
-    MUST(rings.objects[111].ring == In::main && rings.objects[112].ring == In::small);
-    rings.weights.leave(rings.objects[111], false);
-    rings.weights.leave(rings.objects[112], false);
-    // One that was used moves to the main ring, and stays there while it is used.
-    rings.objects[12].use();
-    MUST(rings.enter(13) == 7 && rings.objects[13].ring == In::small && rings.objects[12].ring == In::main && !rings.objects[12].is_used);
-    // One that replaces another one goes to its ring, and was used if that was.
-    rings.objects[12].use();
-    MUST(rings.enter(14, 10, &rings.objects[12]) == 8 && rings.enter(15, 10, &rings.objects[13]) == 9);
-    MUST(rings.objects[14].ring == In::main && rings.objects[15].ring == In::small && rings.objects[12].has_left);
-    MUST(rings.objects[14].is_used && !rings.objects[15].is_used);
-    // What was just put stays, though it alone is more than the small ring's part: others leave.
-    MUST(rings.enter(16, 90, &rings.objects[15]) == 10 && rings.objects[16].ring == In::small);
-    MUST(rings.next(16) == 1 && rings.next(16) == 2 && rings.next() == 16);
-    // A key that left long ago is forgotten: of a map with so few objects the sketch keeps few.
-    for (uint64_t n = 100; n < 200; n++) {
-        MUST(rings.enter(n) != -1 && rings.objects[n].ring == In::small);
-        rings.weights.leave(rings.objects[n], true);
-    }
-    MUST(rings.enter_as(200, 199) != -1 && rings.enter_as(201, 100) != -1);
-    MUST(rings.objects[200].ring == In::main && rings.objects[201].ring == In::small);
-}
-
-// A key is known when it comes again if it left the small ring at its head: not if it left the main ring, nor if it was removed.
-static void known_keys() {
-    using In = Rings::Weighed::In;
-    Rings rings(100, true);
-    for (uint64_t n = 1; n <= 10; n++) {
-        MUST(rings.enter(n) == -1);
-    }
-    MUST(rings.next() == 1 && rings.enter(11) == 2 && rings.objects[11].ring == In::small);
-    rings.weights.leave(rings.objects[2], true);
-    rings.weights.leave(rings.objects[11], false);
-    static_cast<void>(rings.enter_as(20, 2));
-    static_cast<void>(rings.enter_as(21, 11));
-    MUST(rings.objects[20].ring == In::small && rings.objects[21].ring == In::small);
-    // What replaces a young object that was used was used, too.
-    static_cast<void>(rings.enter(22, 0));
-    rings.objects[22].use();
-    static_cast<void>(rings.enter(23, 0, &rings.objects[22]));
-    MUST(rings.objects[23].ring == In::small && rings.objects[23].is_used);
-}
-
 // Some keys are used again and again, and many others once: 400 between two uses of a key. Returns how many lookups of the former miss.
 static uint64_t misses(const cefrodil::MapOptions &options, const Numbers::Rules &rules) {
     constexpr uint64_t used = 50, rounds = 100;
@@ -230,65 +105,28 @@ static uint64_t misses(const cefrodil::MapOptions &options, const Numbers::Rules
 
 // Keys that are used once evict none that are used often, though there is room for 100 alone.
 static void used_keys_stay() {
-    cefrodil::MapOptions options{100, 1}, alone = options;
-    alone.small_table = false;
-    MUST(misses(options, {}) == 50 && misses(alone, {}) > 4000);
-    options.entries = alone.entries = 200;
-    MUST(misses(options, bounded(100)) == 50 && misses(alone, bounded(100)) > 4000);
+    MUST(misses({100, 1}, {}) == 50 && misses({200, 1}, bounded(100)) == 50);
 }
 
-// Whether a key that left the small queue is still there long after it came again, and one that did not come again isn't.
-static bool has_come_again() {
-    Numbers numbers;
-    MUST(numbers.open({100, 1}) == Status::ok);
-    const auto put_all = [&](uint64_t begin, uint64_t end) {
-        for (uint64_t key = begin; key < end; key++) {
-            MUST(numbers.insert(key, 0).status == Status::ok);
+// Though a shard has few objects or none, others leave for a new one.
+static void a_new_object_stays() {
+    for (const uint32_t shards : {1, 16, 256}) {
+        Numbers numbers;
+        MUST(numbers.open({1000, shards}, bounded(100)) == Status::ok);
+        for (uint64_t key = 0; key < 200; key++) {
+            const auto stored = key % 2 == 0 ? numbers.insert(key, 25) : numbers.insert_or_assign(key, 25);
+            MUST(stored.status == Status::ok && stored.evicted == (key >= 4) && numbers.peek(key).value == 25u);
+            MUST(numbers.weight() == numbers.size() * 25 && numbers.size() == std::min<uint64_t>(key + 1, 4));
         }
-    };
-    put_all(0, 130);
-    MUST(!numbers.contains(115) && numbers.insert(115, 0).status == Status::ok);
-    put_all(130, 160);
-    return numbers.contains(115) && !numbers.contains(140);
+    }
 }
 
-// A key that left the small queue goes to the main one when it comes again. The sketch forgets some, and takes some for others.
-static void comes_again() {
-    int times = 0;
-    for (int map = 0; map < 20; map++) {
-        times += has_come_again();
-    }
-    MUST(times >= 12);
-}
-
-// The same of many keys, in as many parts as shards.
-static void many_come_again() {
-    Numbers numbers;
-    MUST(numbers.open({6400, 16}) == Status::ok);
-    uint64_t fresh = 1000000;
-    const auto put_new = [&](uint64_t count) {
-        for (; count != 0; count--) {
-            MUST(numbers.insert(fresh++, 0).status == Status::ok);
-        }
-    };
-    const auto put_known = [&] {
-        for (uint64_t key = 0; key < 300; key++) {
-            MUST(numbers.insert_or_assign(key, 0).status == Status::ok);
-        }
-    };
-    put_new(2 * numbers.capacity());
-    put_known();
-    put_new(numbers.capacity() / 4);
-    uint64_t known = 0, left = 0;
-    for (uint64_t key = 0; key < 300; key++) {
-        left += !numbers.contains(key);
-    }
-    put_known();
-    put_new(numbers.capacity() / 4);
-    for (uint64_t key = 0; key < 300; key++) {
-        known += numbers.contains(key);
-    }
-    MUST(left > 270 && known > 200);
+// By default a map has as few shards as have room for its entries, so that the one which leaves is chosen among all objects.
+static void shards() {
+    Numbers one, many;
+    cefrodil_shape shape{};
+    MUST(one.open({100000}, bounded(1)) == Status::ok && one.capacity() == 100000 && many.open({5000000}, bounded(1)) == Status::ok);
+    MUST(cefrodil_shape_for_items(5000000, 2, &shape) == CEFRODIL_OK && many.capacity() == 2 * uint64_t(shape.items));
 }
 
 // Without a weigher a map has room for as many entries as were asked for. With one shard it holds just these.
@@ -308,10 +146,6 @@ static void entries_alone() {
         MUST(numbers.size() == 10000 - evicted && numbers.size() <= numbers.capacity() && numbers.size() > numbers.capacity() - numbers.capacity() / 20);
         MUST(numbers.meter().counts().evictions == evicted);
     }
-    cefrodil::MapOptions alone{1000, 1};
-    alone.small_table = false;
-    Numbers numbers;
-    MUST(numbers.open(alone) == Status::ok && numbers.capacity() == 1000 && numbers.insert(1, 1).status == Status::ok);
 }
 
 // What waits to be freed weighs at most a sixteenth of the bound, and an object, if no call uses it.
@@ -347,20 +181,26 @@ struct Meeting {
 template <class Hash> static void agrees_with_a_model(const cefrodil::MapOptions &options, uint64_t most, uint64_t calls) {
     std::map<uint64_t, uint64_t> model;
     uint64_t sum = 0, evicted = 0, drawn = 1;
+    // What a call puts. That may leave at once, once the listener has heard of what it replaces.
+    std::optional<std::pair<uint64_t, uint64_t>> put;
     object_map<uint64_t, uint64_t, Hash> map;
     Numbers::Rules rules = bounded(most);
     rules.listener = [&](const uint64_t &key, const uint64_t &value, Left why) {
-        MUST(model.count(key) == 1 && model[key] == value);
+        evicted += why == Left::evicted;
+        if (model.count(key) == 0) {
+            MUST(put && put->first == key && put->second == value && why == Left::evicted);
+            put.reset();
+            return;
+        }
+        MUST(model[key] == value);
         model.erase(key);
         sum -= value;
-        evicted += why == Left::evicted;
     };
     MUST(map.open(options, rules) == Status::ok);
     for (uint64_t n = 0; n < calls; n++) {
         const uint64_t key = next_random(drawn) % 300, value = next_random(drawn) % 100, kind = next_random(drawn) % 5;
         const uint64_t before = evicted;
-        // What is put may leave at once, so the model has it before the call. If the key is there, the listener hears of that first.
-        std::map<uint64_t, uint64_t> old = model;
+        put = {key, value};
         cefrodil::Stored stored{Status::absent, false, false};
         switch (kind) {
         case 0: stored = map.insert(key, uint64_t(value)); break;
@@ -370,7 +210,7 @@ template <class Hash> static void agrees_with_a_model(const cefrodil::MapOptions
         default: static_cast<void>(map.contains(key));
         }
         MUST(stored.evicted == (before != evicted));
-        if (stored.status == Status::ok) {
+        if (stored.status == Status::ok && put) {
             model[key] = value;
             sum += value;
         }
@@ -427,12 +267,9 @@ int main(int argc, char **argv) {
     answers();
     too_heavy();
     order();
-    one_ring();
-    two_rings();
-    known_keys();
     used_keys_stay();
-    comes_again();
-    many_come_again();
+    a_new_object_stays();
+    shards();
     entries_alone();
     waiting();
     agrees_with_a_model<cefrodil::SipHash<uint64_t>>({1000}, 1000, 30000 / less);

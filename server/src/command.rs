@@ -71,7 +71,7 @@ pub fn run(store: &Store, request: &Request, data: &[u8], is_quiet: bool, out: &
         Request::Change(key, change) => return answer_change(store, key, *change, is_quiet, out),
         Request::Touch(key, expiry) => touch(store, key, *expiry),
         Request::Flush(delay) => {
-            store.counts.add(Count::Flushes);
+            store.books.counts.add(Count::Flushes);
             store.flush(*delay);
             "OK"
         }
@@ -104,9 +104,9 @@ fn store_item(store: &Store, order: &Order, data: &[u8]) -> Text {
 /// Counts a `cas`.
 pub fn count_comparison(store: &Store, stored: Result<Answer, Fault>) {
     match stored {
-        Ok(Answer::Done(_)) => store.counts.add(Count::CasHits),
-        Ok(Answer::Exists) => store.counts.add(Count::CasBadValue),
-        Ok(_) => store.counts.add(Count::CasMisses),
+        Ok(Answer::Done(_)) => store.books.counts.add(Count::CasHits),
+        Ok(Answer::Exists) => store.books.counts.add(Count::CasBadValue),
+        Ok(_) => store.books.counts.add(Count::CasMisses),
         Err(_) => {}
     }
 }
@@ -124,17 +124,17 @@ fn delete(store: &Store, key: &[u8]) -> Text {
 /// Counts a `delete`.
 pub fn count_deletion(store: &Store, deleted: Result<Answer, Fault>) {
     match deleted {
-        Ok(Answer::Done(_)) => store.counts.add(Count::DeleteHits),
-        Ok(Answer::NotFound) => store.counts.add(Count::DeleteMisses),
+        Ok(Answer::Done(_)) => store.books.counts.add(Count::DeleteHits),
+        Ok(Answer::NotFound) => store.books.counts.add(Count::DeleteMisses),
         Ok(_) | Err(_) => {}
     }
 }
 
 fn touch(store: &Store, key: &[u8], expiry: i64) -> Text {
-    store.counts.add(Count::Touches);
-    let touched = store.touch(key, store.clock.deadline(expiry));
+    store.books.counts.add(Count::Touches);
+    let touched = store.touch(key, store.books.clock.deadline(expiry));
     if let Ok(is_hit) = touched {
-        store.counts.add_if(is_hit, Count::TouchHits, Count::TouchMisses);
+        store.books.counts.add_if(is_hit, Count::TouchHits, Count::TouchMisses);
     }
     match touched {
         Ok(true) => "TOUCHED",
@@ -168,7 +168,7 @@ pub fn count_change(store: &Store, change: Change, changed: Result<Changed, Faul
         _ => return,
     };
     match change {
-        Change::Add(_) => store.counts.add_if(is_hit, Count::IncrHits, Count::IncrMisses),
-        Change::Subtract(_) => store.counts.add_if(is_hit, Count::DecrHits, Count::DecrMisses),
+        Change::Add(_) => store.books.counts.add_if(is_hit, Count::IncrHits, Count::IncrMisses),
+        Change::Subtract(_) => store.books.counts.add_if(is_hit, Count::DecrHits, Count::DecrMisses),
     }
 }

@@ -133,7 +133,7 @@ impl Connection {
         if is_enough {
             self.refuse_block();
         } else {
-            store.counts.add(Count::NoBuffers);
+            store.books.counts.add(Count::NoBuffers);
         }
         is_enough
     }
@@ -168,7 +168,7 @@ impl Connection {
         if let (Some(next), true) = (next?, is_kept) {
             return Ok(next);
         }
-        store.counts.add(Count::NoBuffers);
+        store.books.counts.add(Count::NoBuffers);
         self.tell(format_args!("is cut off: the system has no memory for what it sends or has not read"));
         Ok(Next::Nothing)
     }
@@ -233,7 +233,7 @@ impl Connection {
             Some(count) => {
                 self.is_dry = count < room.len();
                 self.input.add(count);
-                store.counts.add_many(Count::BytesRead, count as u64);
+                store.books.counts.add_many(Count::BytesRead, count as u64);
             }
             None => return Ok(false),
         }
@@ -248,7 +248,7 @@ impl Connection {
         while !self.output.is_empty() {
             match retry(|| self.output.send(&mut self.stream))? {
                 Some(0) => return Err(ErrorKind::WriteZero.into()),
-                Some(count) => store.counts.add_many(Count::BytesWritten, count as u64),
+                Some(count) => store.books.counts.add_many(Count::BytesWritten, count as u64),
                 None => break,
             }
         }

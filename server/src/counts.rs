@@ -38,6 +38,10 @@ counts! {
     NoMemory "store_no_memory",
     Stored "total_items",
     Expired "crawler_reclaimed",
+    Evicted "evictions",
+    EvictedUnfetched "evicted_unfetched",
+    Reclaimed "reclaimed",
+    ExpiredUnfetched "expired_unfetched",
     Busy "busy",
     Held "held",
     Refused "refused",
@@ -106,13 +110,20 @@ impl Counts {
         }
     }
 
-    /// Each name with its sum since the last reset.
+    /// The sum since the last reset.
+    pub fn get(&self, count: Count) -> u64 {
+        self.since_reset(count as usize)
+    }
+
+    /// Each name with that sum.
     pub fn sums(&self) -> impl Iterator<Item = (&'static str, u64)> + '_ {
-        TEXTS.iter().zip(&self.at_reset.0).enumerate().map(|(kind, (text, at_reset))| {
-            // First: another thread may reset it meanwhile.
-            let before = at_reset.load(Relaxed);
-            (*text, self.sum(kind).saturating_sub(before))
-        })
+        TEXTS.iter().enumerate().map(|(kind, text)| (*text, self.since_reset(kind)))
+    }
+
+    fn since_reset(&self, kind: usize) -> u64 {
+        // First: another thread may reset it meanwhile.
+        let before = self.at_reset.0[kind].load(Relaxed);
+        self.sum(kind).saturating_sub(before)
     }
 
     /// Begins anew at 0.

@@ -1,5 +1,7 @@
 //! A server that runs by itself: it leaves the process that started it, and says in a file which process it is.
 use crate::listen::OwnFile;
+use nix::sys::wait::{waitpid, WaitStatus};
+use nix::unistd::{dup2, fork, setsid, ForkResult, Pid};
 use std::fs::{self, File};
 use std::io::{self, Read, Write};
 use std::os::fd::AsRawFd;
@@ -19,30 +21,24 @@ pub struct Starter(UnixStream);
 pub fn detach() -> io::Result<Starter> {
     let (mut starter, server) = UnixStream::pair()?;
     // SAFETY: this process has one thread.
-    match unsafe { libc::fork() } {
-        -1 => Err(io::Error::last_os_error()),
-        0 => {
-            // SAFETY: the call has no arguments. It does not fail in a new process.
-            unsafe { libc::setsid() };
+    match unsafe { fork() }? {
+        ForkResult::Child => {
+            setsid()?;
             Ok(Starter(server))
         }
-        server_process => {
+        ForkResult::Parent { child } => {
             drop(server);
             let is_ready = starter.read_exact(&mut [0]).is_ok();
-            process::exit(if is_ready { 0 } else { status_of(server_process) })
+            process::exit(if is_ready { 0 } else { status_of(child) })
         }
     }
 }
 
 /// Waits for the end of a process.
-fn status_of(process: i32) -> i32 {
-    let mut status = 0;
-    // SAFETY: the pointer is to a number that lives.
-    let ended = unsafe { libc::waitpid(process, &mut status, 0) };
-    if ended == process && libc::WIFEXITED(status) {
-        libc::WEXITSTATUS(status)
-    } else {
-        1
+fn status_of(process: Pid) -> i32 {
+    match waitpid(process, None) {
+        Ok(WaitStatus::Exited(_, status)) => status,
+        _ => 1,
     }
 }
 
@@ -52,10 +48,7 @@ impl Starter {
         env::set_current_dir("/")?;
         let nowhere = File::options().read(true).write(true).open("/dev/null")?;
         for stream in 0..if keeps_output { 1 } else { STREAMS } {
-            // SAFETY: the call takes two numbers of open files.
-            if unsafe { libc::dup2(nowhere.as_raw_fd(), stream) } == -1 {
-                return Err(io::Error::last_os_error());
-            }
+            dup2(nowhere.as_raw_fd(), stream)?;
         }
         self.0.write_all(&[0])
     }

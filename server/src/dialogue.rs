@@ -7,6 +7,7 @@ use crate::meta::Verb;
 use crate::output::Output;
 use crate::request::{parse, refusal, words, Keys, Order, Refusal, Request, ERROR, FORMAT, LONGEST_KEY};
 use crate::store::{Fault, Store};
+use memchr::memchr;
 use std::io::{self, Write};
 use std::mem;
 use std::os::fd::RawFd;
@@ -124,7 +125,7 @@ impl Dialogue {
     }
 
     fn line(&mut self, store: &Store, input: &[u8], out: &mut Output) -> Step {
-        let end = find(&input[..input.len().min(LONGEST_LINE)], b'\n');
+        let end = memchr(b'\n', &input[..input.len().min(LONGEST_LINE)]);
         let Some(end) = end else { return self.part_of_line(input, out) };
         let (text, rest) = (input[..end].strip_suffix(b"\r").unwrap_or(&input[..end]), &input[end + 1..]);
         let end = end + 1;
@@ -141,7 +142,7 @@ impl Dialogue {
             Ok(Request::Keys(..)) => line(out, FORMAT.text),
             Ok(request) => match order_of(&request) {
                 Some(order) => return self.block(store, &request, is_quiet, &order, rest, out).behind(end),
-                None => match Listing::of(store, &request) {
+                None => match Listing::of(&request) {
                     Some(listing) => self.state = State::List(listing),
                     None => run(store, &request, b"", is_quiet, out),
                 },
@@ -182,7 +183,7 @@ impl Dialogue {
         let refuses = mem::take(&mut self.refuses_block) && input.len() < whole;
         if length > store.options.longest || refuses {
             let (count, why) = if refuses { (Count::NoMemory, Fault::NoRoom) } else { (Count::TooLarge, Fault::TooLong) };
-            store.counts.add(count);
+            store.books.counts.add(count);
             self.refuse(Refusal { text: store.refuse(order, why).text(), block: whole }, is_quiet, out);
             return Step(0, None);
         }
@@ -208,7 +209,7 @@ impl Dialogue {
     }
 
     fn rest(&mut self, input: &[u8]) -> Step {
-        let Some(end) = input.iter().position(|byte| *byte == b'\n') else { return Step(input.len(), Some(Turn::Needs(1))) };
+        let Some(end) = memchr(b'\n', input) else { return Step(input.len(), Some(Turn::Needs(1))) };
         self.state = State::Line;
         Step(end + 1, None)
     }
@@ -230,7 +231,7 @@ impl Dialogue {
             !out.is_full()
         };
         let looked = match keys.expiry {
-            Some(expiry) => store.look_and_touch(found, store.clock.deadline(expiry), each),
+            Some(expiry) => store.look_and_touch(found, store.books.clock.deadline(expiry), each),
             None => store.look(found, each),
         };
         if looked < batch.count {
@@ -268,13 +269,6 @@ impl Step {
 /// Whether no key is too long.
 fn have_right_length(keys: &[u8]) -> bool {
     keys.len() <= LONGEST_KEY || words(keys).all(|key| key.len() <= LONGEST_KEY)
-}
-
-/// Where this byte is first.
-fn find(bytes: &[u8], sought: u8) -> Option<usize> {
-    // SAFETY: the C library looks at these bytes alone.
-    let at = unsafe { libc::memchr(bytes.as_ptr().cast(), sought.into(), bytes.len()) };
-    (!at.is_null()).then(|| at as usize - bytes.as_ptr() as usize)
 }
 
 /// Whether this is the first line of a request of HTTP. A web page can make a browser send one, with commands in its body.

@@ -1,50 +1,82 @@
 //! Items that have expired, or that a flush has hit, go after a while though nobody asks for them.
 use crate::counts::Count;
-use crate::index::{Outcome, Token};
-use crate::room::Leaving;
-use crate::store::{Found, Store};
+use crate::store::Store;
+use crate::walk::{self, Position};
 use std::time::Duration;
 
 /// How often each worker looks at some items, and at how many.
 pub const PAUSE: Duration = Duration::from_secs(1);
 pub const LOOKED_AT: usize = 4096;
 
+/// How far the workers have come in their walk over all items.
+#[derive(Debug)]
+pub(crate) struct Round {
+    position: Position,
+    /// When the oldest item was made that was live.
+    oldest: Option<u64>,
+    /// The same, of the last round.
+    oldest_before: Option<u64>,
+}
+
+impl Default for Round {
+    fn default() -> Round {
+        Round { position: walk::START, oldest: None, oldest_before: None }
+    }
+}
+
 impl Store {
-    /// Looks at the next entries of the queue, and removes the items that are not live.
+    /// Looks at the next items, and removes those that are not live. If another worker is doing that, it does nothing.
     pub fn expire(&self) {
-        for entry in self.queue.look(LOOKED_AT) {
-            let mut dead = None;
-            self.index.peek(entry.hash, &mut |seen| {
-                if let Ok(Some((item, token))) = seen {
-                    let leaving = self.leaving(item);
-                    dead = (!leaving.is_live).then(|| (item.key().to_vec(), token, leaving));
+        let Ok(mut round) = self.round.try_lock() else { return };
+        let (now, mut looked, mut dead) = (self.books.clock.now(), 0, Vec::new());
+        while looked < LOOKED_AT {
+            looked += 1;
+            let next = walk::look(round.position, |item| {
+                looked += 1;
+                if item.is_live(now, &self.books.flushes) {
+                    round.oldest = Some(item.born().min(round.oldest.unwrap_or(u64::MAX)));
+                } else {
+                    dead.push(self.index.hash_of(item.key()));
                 }
             });
-            if let Some((key, token, leaving)) = dead {
-                self.remove_dead(&key, token, leaving);
+            dead.drain(..).for_each(|hash| self.remove_dead(hash));
+            match next {
+                Some(position) => round.position = position,
+                None => {
+                    *round = Round { oldest_before: round.oldest, ..Round::default() };
+                    return;
+                }
             }
         }
-        self.tidy();
     }
 
-    /// Removes the key's item if it has this token and is not live. The turn keeps a new time to live from coming between.
-    fn remove_dead(&self, key: &[u8], token: Token, leaving: Leaving) {
-        let _turn = self.turns.wait(key);
-        if !matches!(self.find(key, |_, _| ()), Ok(Found::Dead(found, _)) if found == token) {
-            return;
+    /// Removes the item with this hash if it is not live. The lock keeps a new time to live from coming between.
+    fn remove_dead(&self, hash: u64) {
+        let _lock = self.key_locks.lock(hash);
+        let mut dead = None;
+        self.index.peek(hash, &mut |seen| {
+            dead = seen
+                .ok()
+                .flatten()
+                .map(|(item, token)| (token, self.books.leaving(item)))
+                .filter(|(_, leaving)| !leaving.is_live);
+        });
+        let Some((token, leaving)) = dead else { return };
+        if self.index.remove(hash, token).is_ok() {
+            self.books.counts.add(Count::Expired);
+            self.books.count_unfetched(leaving);
         }
-        if matches!(self.index.remove_if(key, token), Ok(Outcome::Done(_))) {
-            self.counts.add(Count::Expired);
-            self.room.count_unfetched(leaving);
-        }
+    }
+
+    /// When the oldest item was made, as the last round over all items found.
+    pub(crate) fn oldest(&self) -> Option<u64> {
+        self.round.try_lock().ok()?.oldest_before
     }
 
     /// What a worker does each second, beside answering clients.
     pub fn tidy_up(&self) {
         self.expire();
         self.seats.look();
-        if let Some(ceiling) = &self.ceiling {
-            ceiling.look(&self.room, self.seats.bytes(), 0);
-        }
+        self.books.budget.look(0);
     }
 }

@@ -1,17 +1,10 @@
 //! What the server asks of an index of items.
 use crate::item::{Item, NewItem};
+use cefrodil_map::{AbsentError, IfError, InsertError};
 use std::time::Duration;
 
 /// Which put of a key stored its item: memcached's `cas unique`. Never compare those of two keys.
 pub type Token = u64;
-
-/// One put of one key. It names the item as long as the key has it.
-#[derive(Clone, Copy, Debug, PartialEq, Eq)]
-pub struct Stamp {
-    /// The key's hash, by `Index::hash_of`.
-    pub hash: u64,
-    pub token: Token,
-}
 
 /// Why the index did nothing.
 #[derive(Clone, Copy, Debug, PartialEq, Eq)]
@@ -20,17 +13,40 @@ pub enum Refused {
     Full,
     /// Other threads disturbed each try.
     Held,
-}
-
-/// What became of a call with a condition.
-#[derive(Clone, Copy, Debug, PartialEq, Eq)]
-pub enum Outcome {
-    /// It is done. A put returns its token.
-    Done(Token),
-    /// The key has another token than the one that was asked for, or has one at all.
+    /// The key has another token than the one that was asked for, or has one though it must be absent.
     Changed,
     /// The key is absent.
     Absent,
+}
+
+impl From<InsertError> for Refused {
+    fn from(why: InsertError) -> Refused {
+        match why {
+            InsertError::Held => Refused::Held,
+            _ => Refused::Full,
+        }
+    }
+}
+
+impl From<AbsentError> for Refused {
+    fn from(why: AbsentError) -> Refused {
+        match why {
+            AbsentError::Present { .. } => Refused::Changed,
+            AbsentError::Insert(why) => why.into(),
+            _ => Refused::Held,
+        }
+    }
+}
+
+impl From<IfError> for Refused {
+    fn from(why: IfError) -> Refused {
+        match why {
+            IfError::NotThere { .. } => Refused::Absent,
+            IfError::Changed { .. } => Refused::Changed,
+            IfError::Busy | IfError::Held => Refused::Held,
+            _ => Refused::Full,
+        }
+    }
 }
 
 /// What a lookup sees of a key: its item and token, if it is there.
@@ -44,34 +60,27 @@ pub trait Index: Send + Sync {
     /// Looks the keys up in order, and calls `each` with the position of each.
     fn look(&self, keys: &[&[u8]], each: &mut dyn FnMut(usize, Seen<'_>));
 
-    /// Looks up the item with this hash.
-    fn look_hash(&self, hash: u64, see: &mut dyn FnMut(Seen<'_>));
-
-    /// Looks up the items with these hashes in order, and calls `each` with the position of each.
-    fn look_hashes(&self, hashes: &[u64], each: &mut dyn FnMut(usize, Seen<'_>));
-
-    /// Looks up the item with this hash, for tidying: the index does not take it for a use of the item.
+    /// Looks up the item with this hash. The index does not take it for a use of the item.
     fn peek(&self, hash: u64, see: &mut dyn FnMut(Seen<'_>));
 
-    /// Does the same for the item of this put, if it is still there.
-    fn peek_stamped(&self, stamp: Stamp, see: &mut dyn FnMut(Seen<'_>)) {
-        self.peek(stamp.hash, &mut |seen| see(seen.map(|seen| seen.filter(|(_, token)| *token == stamp.token))));
-    }
-
-    /// Puts the item, whatever its key has, which has this hash. Then calls `see` with it, and with the one that it has replaced.
-    fn put(&self, hash: u64, item: NewItem, see: &mut dyn FnMut(&Item, Option<&Item>)) -> Result<Token, Refused>;
+    /// Puts the item, whatever its key has, which has this hash.
+    fn put(&self, hash: u64, item: NewItem) -> Result<Token, Refused>;
 
     /// Puts the item if its key is absent.
-    fn put_new(&self, item: NewItem) -> Result<Outcome, Refused>;
+    fn put_new(&self, item: NewItem) -> Result<Token, Refused>;
 
     /// Puts the item if its key has this token.
-    fn put_if(&self, token: Token, item: NewItem) -> Result<Outcome, Refused>;
+    fn put_if(&self, token: Token, item: NewItem) -> Result<Token, Refused>;
 
-    /// Removes the key if it has this token.
-    fn remove_if(&self, key: &[u8], token: Token) -> Result<Outcome, Refused>;
+    /// Removes the item with this hash if it has this token.
+    fn remove(&self, hash: u64, token: Token) -> Result<Token, Refused>;
 
-    /// Removes the item of this put, if it is still there.
-    fn remove_stamped(&self, stamp: Stamp) -> Result<Outcome, Refused>;
+    /// Removes the item that is to give way next, and calls `see` with it: one whose hash is in the same shard as this one, if that has one. Returns
+    /// whether it has removed one.
+    fn evict(&self, near: u64, see: &mut dyn FnMut(&Item)) -> bool;
+
+    /// How many items there are.
+    fn len(&self) -> usize;
 
     /// For how long calls have given up, since a thread stopped within a change of the index. Zero unless one did lately.
     fn stalled(&self) -> Duration;

@@ -1,20 +1,28 @@
-//! Memory of large items. A client that is sent one holds it. So it stays as long, also if it leaves the index meanwhile.
+//! Memory of items that lie in no chunk of small ones. A client that is sent a large item holds it. So it stays as long, also if it leaves the index
+//! meanwhile.
 use crate::item::Item;
+use crate::places;
 use crate::slabs::address_of;
 use std::alloc::{alloc, dealloc, Layout};
 use std::mem::{align_of, size_of};
-use std::sync::atomic::{fence, AtomicU64, AtomicUsize, Ordering::Acquire, Ordering::Relaxed, Ordering::Release};
+use std::sync::atomic::{fence, AtomicU32, AtomicU64, Ordering::Acquire, Ordering::Relaxed, Ordering::Release};
 
-/// The bytes of the smallest one. A smaller item is copied into the answer, so that several are sent together.
+/// The bytes of the smallest item that clients hold. A smaller one is copied into the answer, so that several are sent together.
 pub const LEAST: usize = 1 << 14;
 
-/// What lies before a large item: `HAS_PLACE`, and `ONE` for each client that holds it. Who brings it to 0 frees the item.
-type Holds = AtomicUsize;
+/// What lies before an item.
+#[repr(C)]
+struct Before {
+    /// `HAS_PLACE`, and `ONE` for each client that holds the item. Who brings it to 0 frees the item.
+    holds: AtomicU32,
+    /// Where it is among all such items. Only the owner changes it, before others see the item.
+    place: u32,
+}
 
-const HAS_PLACE: usize = 1;
-const ONE: usize = 2;
+const HAS_PLACE: u32 = 1;
+const ONE: u32 = 2;
 
-const BEFORE: usize = size_of::<Holds>();
+const BEFORE: usize = size_of::<Before>();
 
 /// The bytes of all items that have left the index and are held.
 static LEFT: AtomicU64 = AtomicU64::new(0);
@@ -33,28 +41,37 @@ pub fn left() -> u64 {
     LEFT.load(Relaxed)
 }
 
-fn with_holds(layout: Layout) -> Layout {
-    Layout::from_size_align(layout.size() + BEFORE, align_of::<Holds>()).expect("an item has less bytes than the address space")
+fn before(at: usize) -> *mut Before {
+    (at - BEFORE) as *mut Before
 }
 
-/// Memory of this layout for an item, or null. If it is for a large one, it has a place.
+fn with_before(layout: Layout) -> Layout {
+    Layout::from_size_align(layout.size() + BEFORE, align_of::<Item>()).expect("an item has less bytes than the address space")
+}
+
+/// Memory of this layout for an item, or null.
 ///
 /// # Safety
 ///
 /// The same as for `std::alloc::alloc`.
 pub unsafe fn take(layout: Layout) -> *mut u8 {
-    // SAFETY: the caller says that it may be called. The word is at the beginning of the block, which is aligned for it.
+    // SAFETY: the caller says that it may be called. The block begins with room for what lies before the item, and is aligned for it.
     unsafe {
-        if layout.size() < LEAST {
-            return alloc(layout);
-        }
-        let block = alloc(with_holds(layout));
+        let block = alloc(with_before(layout));
         if block.is_null() {
             return block;
         }
-        block.cast::<Holds>().write(Holds::new(HAS_PLACE));
+        block.cast::<Before>().write(Before { holds: AtomicU32::new(HAS_PLACE), place: places::NONE });
         block.add(BEFORE)
     }
+}
+
+/// Notes that an item is complete, whose memory is from `take`. No other thread knows of it. Returns whether there is memory for that.
+pub fn note(item: &Item) -> bool {
+    let place = places::take(item);
+    // SAFETY: this lies before the item, and nobody else uses it so far.
+    unsafe { (*before(address_of(item))).place = place.unwrap_or(places::NONE) };
+    place.is_some()
 }
 
 /// Frees memory that `take` returned for this layout. A large item is freed when no client holds it.
@@ -63,10 +80,11 @@ pub unsafe fn take(layout: Layout) -> *mut u8 {
 ///
 /// The same as for `std::alloc::dealloc`. `take` returned the memory.
 pub unsafe fn give_back(at: *mut u8, layout: Layout) {
-    // SAFETY: the caller says that `take` returned it.
+    // SAFETY: the caller says that `take` returned it. Who holds it does not look at its place.
     unsafe {
-        if layout.size() < LEAST {
-            return dealloc(at, layout);
+        let place = (*before(at as usize)).place;
+        if place != places::NONE {
+            places::give_back(place);
         }
         // First, since who holds it may free it right after that.
         LEFT.fetch_add(layout.size() as u64, Relaxed);
@@ -76,16 +94,15 @@ pub unsafe fn give_back(at: *mut u8, layout: Layout) {
 
 /// # Safety
 ///
-/// It is the memory of a large item, which the caller has in this way, and does not use again.
-unsafe fn leave(at: *mut u8, layout: Layout, part: usize) {
+/// It is the memory of an item, which the caller has in this way, and does not use again.
+unsafe fn leave(at: *mut u8, layout: Layout, part: u32) {
     // SAFETY: the caller says so. Who subtracts the last part is the only one to use it.
     unsafe {
-        let block = at.sub(BEFORE);
         // Release: what this thread has read of it comes before it is freed.
-        if (*block.cast::<Holds>()).fetch_sub(part, Release) == part {
+        if (*before(at as usize)).holds.fetch_sub(part, Release) == part {
             fence(Acquire);
             LEFT.fetch_sub(layout.size() as u64, Relaxed);
-            dealloc(block, with_holds(layout));
+            dealloc(at.sub(BEFORE), with_before(layout));
         }
     }
 }
@@ -115,9 +132,9 @@ impl Held {
         }
     }
 
-    fn holds(&self) -> &Holds {
-        // SAFETY: the word lies before the item, and as long as that.
-        unsafe { &*((self.0 as usize - BEFORE) as *const Holds) }
+    fn holds(&self) -> &AtomicU32 {
+        // SAFETY: it lies before the item, and as long as that.
+        unsafe { &(*before(self.0 as usize)).holds }
     }
 }
 
@@ -137,4 +154,4 @@ impl Drop for Held {
     }
 }
 
-const _: () = assert!(align_of::<Item>() <= align_of::<Holds>());
+const _: () = assert!(BEFORE % align_of::<Item>() == 0 && align_of::<Before>() <= align_of::<Item>());

@@ -2,6 +2,7 @@
 use mio::event::Source;
 use mio::net::{TcpListener, TcpStream, UnixListener, UnixStream};
 use mio::{Interest, Registry, Token};
+use nix::sys::stat::{umask, Mode};
 use std::fmt::{self, Display, Formatter};
 use std::fs;
 use std::io::{self, ErrorKind, IoSlice, Read, Write};
@@ -98,11 +99,9 @@ fn listen_in(path: &Path, mode: u32) -> io::Result<Listener> {
         }
     }
     // So the file never has another mode. The server has one thread so far.
-    // SAFETY: the call takes a number, and can't fail.
-    let before = unsafe { libc::umask(!mode & 0o777) };
+    let before = umask(Mode::from_bits_truncate(!mode & 0o777));
     let bound = UnixListener::bind(path);
-    // SAFETY: as above.
-    unsafe { libc::umask(before) };
+    umask(before);
     Ok(Listener::Unix(bound?, OwnFile::new(path)?))
 }
 

@@ -3,10 +3,11 @@ use crate::command::text;
 use crate::index::Token;
 use crate::item::Item;
 use crate::output::Output;
-use crate::queue::{Cursor, Entry};
 use crate::request::Request;
 use crate::seat::{Seen, State};
+use crate::slabs::address_of;
 use crate::store::Store;
+use crate::walk::{self, Position};
 use std::io::Write;
 use std::mem::ManuallyDrop;
 use std::net::{SocketAddr, TcpStream};
@@ -16,7 +17,7 @@ use std::os::unix::net::UnixStream;
 /// The class of all items. The others are empty.
 pub const CLASS: u64 = 1;
 
-/// A part has so many items or clients at most.
+/// A part has so many clients at most.
 const PART: usize = 64;
 
 /// What is listed, and what of it comes next.
@@ -27,24 +28,20 @@ pub enum Listing {
     Clients(usize),
 }
 
-/// Items in the order of their entries in the queues.
+/// Items in the order in which they lie in memory. One that gets another value meanwhile may come twice, or not at all.
 #[derive(Clone, Copy, Debug)]
 pub struct Items {
     write: fn(&Store, &Item, Token, &mut Output),
-    next: Option<Cursor>,
-    /// Items that are spared meanwhile come again at the end of their queue. So no more entries are looked at than there are at first.
-    entries: usize,
+    next: Option<Position>,
     /// How many are to be listed.
     most: u64,
 }
 
 impl Listing {
     /// The list that answers a request.
-    pub fn of(store: &Store, request: &Request) -> Option<Listing> {
-        let items = |write, is_empty: bool, most| {
-            let entries = if is_empty { 0 } else { store.queue.entries() };
-            Some(Listing::Items(Items { write, next: Some(Cursor::default()), entries, most }))
-        };
+    pub fn of(request: &Request) -> Option<Listing> {
+        let items =
+            |write, is_empty: bool, most| Some(Listing::Items(Items { write, next: (!is_empty).then_some(walk::START), most }));
         match *request {
             Request::Dump(class, most) => items(write_cached, class != CLASS, if most == 0 { u64::MAX } else { most }),
             Request::Crawl(has_class) => items(write_crawled, !has_class, u64::MAX),
@@ -64,17 +61,17 @@ impl Listing {
 
 impl Items {
     fn part(&mut self, store: &Store, out: &mut Output) -> bool {
-        let Some(cursor) = self.next.filter(|_| self.entries > 0) else { return false };
-        let (entries, next) = store.queue.look_from(cursor, PART.min(self.entries));
-        self.next = next;
-        self.entries -= entries.len();
-        for Entry { hash, number } in entries {
+        let Some(position) = self.next else { return false };
+        let mut found = Vec::new();
+        self.next = walk::look(position, |item| found.push((store.index.hash_of(item.key()), address_of(item))));
+        for (hash, address) in found {
             if self.most == 0 {
                 return false;
             }
             store.index.peek(hash, &mut |seen| {
-                if let Some((item, token)) = seen.ok().flatten() {
-                    if item.number() == Some(number) && store.is_live(item) {
+                // Another item of this key, or one of another index, is not what was found.
+                if let Some((item, token)) = seen.ok().flatten().filter(|(item, _)| address_of(item) == address) {
+                    if store.books.is_live(item) {
                         self.most -= 1;
                         (self.write)(store, item, token, out);
                     }
@@ -88,7 +85,7 @@ impl Items {
 fn write_cached(store: &Store, item: &Item, _: Token, out: &mut Output) {
     out.extend_from_slice(b"ITEM ");
     out.extend_from_slice(item.key());
-    text!(out, " [{} b; {} s]\r\n", item.value().len(), store.clock.unix_end(item.deadline()));
+    text!(out, " [{} b; {} s]\r\n", item.value().len(), store.books.clock.unix_end(item.deadline()));
 }
 
 fn write_crawled(store: &Store, item: &Item, token: Token, out: &mut Output) {
@@ -99,8 +96,8 @@ fn write_crawled(store: &Store, item: &Item, token: Token, out: &mut Output) {
             _ => text!(out, "%{byte:02X}"),
         }
     }
-    let end = Some(store.clock.unix_end(item.deadline())).filter(|end| *end > 0).map_or(-1, |end| end as i64);
-    let (born, fetched) = (store.clock.unix_time_of(item.born()), if item.was_fetched() { "yes" } else { "no" });
+    let end = Some(store.books.clock.unix_end(item.deadline())).filter(|end| *end > 0).map_or(-1, |end| end as i64);
+    let (born, fetched) = (store.books.clock.unix_time_of(item.born()), if item.was_fetched() { "yes" } else { "no" });
     text!(out, " exp={end} la={born} cas={token} fetch={fetched} cls={CLASS} size={}\n", item.size());
 }
 
@@ -110,7 +107,7 @@ fn list_client(store: &Store, place: &mut usize, out: &mut Output) -> bool {
     if let Some(file) = listeners.get(*place) {
         *place += 1;
         write_address(out, *file, "addr", true);
-        text!(out, "STAT {file}:state conn_listening\r\nSTAT {file}:secs_since_last_cmd {}\r\n", store.clock.uptime());
+        text!(out, "STAT {file}:state conn_listening\r\nSTAT {file}:secs_since_last_cmd {}\r\n", store.books.clock.uptime());
         return true;
     }
     let Some((index, Seen { file, turn, state })) = store.seats.seen_from(*place - listeners.len()) else { return false };
@@ -123,7 +120,7 @@ fn list_client(store: &Store, place: &mut usize, out: &mut Output) -> bool {
         State::Skipped => "conn_swallow",
         State::Sent => "conn_mwrite",
     };
-    let silent = store.clock.uptime().saturating_sub(turn.into());
+    let silent = store.books.clock.uptime().saturating_sub(turn.into());
     text!(out, "STAT {file}:state {state}\r\nSTAT {file}:secs_since_last_cmd {silent}\r\n");
     true
 }

@@ -1,15 +1,14 @@
 //! The program `cefrodild`.
 use cefrodild::allocator;
 use cefrodild::audit::Audit;
-use cefrodild::ceiling::Ceiling;
+use cefrodild::books::Books;
 use cefrodild::complain::complain;
 use cefrodild::daemon;
 use cefrodild::files;
 use cefrodild::listen::{Listener, Place};
+use cefrodild::map_index::MapIndex;
 use cefrodild::memory::Spare;
-use cefrodild::objects::Objects;
 use cefrodild::options::{parse, Asked, Options, HELP};
-use cefrodild::room::Room;
 use cefrodild::server::{named, Server};
 use cefrodild::slabs;
 use cefrodild::store::Store;
@@ -79,14 +78,12 @@ fn serve(options: Options) -> Result<(), Box<dyn Error>> {
         complain(format_args!("{why}. When the sizes of values change, the server may take more memory"));
     }
     let log = options.audit.as_deref().map(Audit::create).transpose()?.map(Arc::new);
-    let room = Arc::new(Room::new(0));
-    let index = Objects::open(items, threads, &room, log.clone())?;
-    let ceiling = Ceiling::new((memory + memory / PART_OF_LOSS) as u64)?;
-    if ceiling.room() == 0 {
+    let books = Arc::new(Books::new(0, &options));
+    let index = MapIndex::open(items, threads, &books, log.clone())?;
+    if books.budget.bound_process((memory + memory / PART_OF_LOSS) as u64)? == 0 {
         return Err("the index takes all of the memory limit: choose a smaller -n".into());
     }
-    room.set_limit(ceiling.room());
-    let store = Arc::new(Store::new(Box::new(index), room, options).below(ceiling));
+    let store = Arc::new(Store::new(Box::new(index), books, options));
     let told: String = listeners.iter().map(|listener| format!("cefrodild: listening on {listener}\n")).collect();
     Server::run(store, listeners, || {
         // If nobody reads that, the server goes on.

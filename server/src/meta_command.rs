@@ -24,7 +24,7 @@ fn with(token: u64) -> Facts {
 
 /// Carries out a command whose block is this, if it has one.
 pub fn run(store: &Store, meta: &Meta, data: &[u8], out: &mut Output) {
-    store.counts.add(Count::MetaCommands);
+    store.books.counts.add(Count::MetaCommands);
     match meta.verb {
         Verb::Get => get(store, meta, out),
         Verb::Set => set(store, meta, data, out),
@@ -37,7 +37,7 @@ fn get(store: &Store, meta: &Meta, out: &mut Output) {
     let mut is_found = false;
     let each = |_, item: &Item, token| {
         is_found = true;
-        let left = Some(store.clock.left(item.deadline()));
+        let left = Some(store.books.clock.left(item.deadline()));
         let facts = Facts { flags: Some(item.flags), size: Some(item.value().len()), left, ..with(token) };
         if meta.with_value {
             out.extend_from_slice(b"VA ");
@@ -50,7 +50,7 @@ fn get(store: &Store, meta: &Meta, out: &mut Output) {
         true
     };
     match meta.expiry {
-        Some(expiry) => store.look_and_touch(&[meta.order.key], store.clock.deadline(expiry), each),
+        Some(expiry) => store.look_and_touch(&[meta.order.key], store.books.clock.deadline(expiry), each),
         None => store.look(&[meta.order.key], each),
     };
     if !is_found && !meta.is_quiet {
@@ -86,7 +86,7 @@ fn tell(meta: &Meta, answered: Result<Answer, Fault>, out: &mut Vec<u8>) {
 }
 
 fn change(store: &Store, meta: &Meta, out: &mut Vec<u8>) {
-    let deadline = meta.expiry.map(|expiry| store.clock.deadline(expiry));
+    let deadline = meta.expiry.map(|expiry| store.books.clock.deadline(expiry));
     let change = if meta.subtracts { Change::Subtract(meta.delta) } else { Change::Add(meta.delta) };
     let mut changed = store.change(meta.order.key, change, meta.order.compare, deadline);
     let mut is_quiet = meta.is_quiet;
@@ -101,7 +101,7 @@ fn change(store: &Store, meta: &Meta, out: &mut Vec<u8>) {
     match changed {
         Ok(Changed::Changed(..)) if is_quiet => {}
         Ok(Changed::Changed(number, token, deadline)) => {
-            let facts = Facts { left: Some(store.clock.left(deadline)), ..with(token) };
+            let facts = Facts { left: Some(store.books.clock.left(deadline)), ..with(token) };
             answer_number(meta, number, &facts, out);
         }
         Ok(Changed::NotFound) => answer(meta, "NF", &Facts::default(), out),
@@ -116,7 +116,7 @@ fn make(store: &Store, meta: &Meta, change: Change, deadline: Option<u64>) -> Re
     let number = meta.initial.to_string();
     let order = Order { how: How::Add, compare: None, flags: 0, expiry: meta.made_expiry, ..meta.order };
     match store.store(&order, number.as_bytes())? {
-        Answer::Done(token) => Ok(Changed::Changed(meta.initial, token, store.clock.deadline(meta.made_expiry))),
+        Answer::Done(token) => Ok(Changed::Changed(meta.initial, token, store.books.clock.deadline(meta.made_expiry))),
         _ => store.change(meta.order.key, change, meta.order.compare, deadline),
     }
 }

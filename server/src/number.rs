@@ -59,13 +59,7 @@ pub fn length(text: &[u8]) -> Option<usize> {
 /// The digits of the largest number.
 const DIGITS: usize = u64::MAX.ilog10() as usize + 1;
 
-/// Writes a number: each answer with a value has two, so this does no more than it must.
+/// Writes a number.
 pub fn write(out: &mut Vec<u8>, number: u64) {
-    let (mut digits, mut start, mut rest) = ([0; DIGITS], DIGITS, number);
-    while start == DIGITS || rest > 0 {
-        start -= 1;
-        digits[start] = b'0' + (rest % 10) as u8;
-        rest /= 10;
-    }
-    out.extend_from_slice(&digits[start..]);
+    out.extend_from_slice(itoa::Buffer::new().format(number).as_bytes());
 }

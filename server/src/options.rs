@@ -1,6 +1,6 @@
 //! The command line, with memcached's names.
 use crate::listen::Place;
-use crate::objects::BYTES_OF_AN_ENTRY;
+use crate::map_index::BYTES_OF_AN_ENTRY;
 use std::net::{IpAddr, SocketAddr};
 use std::path::PathBuf;
 
@@ -26,7 +26,6 @@ cefrodild: a cache server that speaks memcached's text protocol
 -I, --max-item-size=N    longest value in bytes, or with k or m behind it, 1k to 128m (1m), and at most
                          half of the memory limit
 -o, --extended=LIST      idle_timeout=N: leave clients that are silent for N seconds (0: none)
-    --one-queue          no small queue for new keys: items give way by age and use alone
     --audit=FILE         log changes and answers for mccheck; one shard
 -h, --help               print this
 -V, --version            print the version
@@ -77,8 +76,6 @@ pub struct Options {
     pub connections: usize,
     /// The longest value.
     pub longest: usize,
-    /// Whether new keys have no small queue of their own.
-    pub one_queue: bool,
     /// For so many seconds a client may be silent.
     pub idle_timeout: Option<u32>,
     /// Memcached's options that were given and change nothing here.
@@ -96,7 +93,7 @@ pub enum Asked {
 }
 
 /// The names of an option: its letter, its long name, and whether a value follows.
-const NAMES: [(char, &str, bool); 25] = [
+const NAMES: [(char, &str, bool); 24] = [
     ('p', "port", true),
     ('l', "listen", true),
     ('s', "unix-socket", true),
@@ -118,7 +115,6 @@ const NAMES: [(char, &str, bool); 25] = [
     ('k', "lock-memory", false),
     ('B', "protocol", true),
     ('f', "slab-growth-factor", true),
-    ('Q', "one-queue", false),
     ('A', "audit", true),
     ('h', "help", false),
     ('V', "version", false),
@@ -152,8 +148,8 @@ const EXTENDED: [&str; 24] = [
     "worker_logbuf_size",
 ];
 
-/// The letters of options that have a long name alone.
-const UNUSED: [char; 2] = ['A', 'Q'];
+/// The letter of the option that has a long name alone.
+const UNUSED: char = 'A';
 
 /// What the words have said so far.
 struct Given {
@@ -210,7 +206,6 @@ impl Given {
             'o' => value.split(',').try_for_each(|one| extended(options, word, one))?,
             'B' if value != "ascii" => return Err(format!("{word}: there is no protocol but ascii: leave it out")),
             'R' | 'b' | 'k' | 'B' | 'f' => options.idle.push(word.to_owned()),
-            'Q' => options.one_queue = true,
             _ => options.audit = Some(value),
         }
         Ok(())
@@ -281,7 +276,7 @@ fn option(word: &str, words: &mut impl Iterator<Item = String>) -> Result<(char,
         (NAMES.iter().find(|(_, known, _)| *known == name), value)
     } else {
         let short = word.strip_prefix('-').ok_or_else(unknown)?;
-        let letter = short.chars().next().filter(|letter| !UNUSED.contains(letter)).ok_or_else(unknown)?;
+        let letter = short.chars().next().filter(|letter| *letter != UNUSED).ok_or_else(unknown)?;
         let value = Some(&short[letter.len_utf8()..]).filter(|value| !value.is_empty());
         (NAMES.iter().find(|(known, ..)| *known == letter), value)
     };

@@ -1,9 +1,10 @@
 //! Clients that are connected: how many at a time, and what they hold.
+use crate::books::Books;
 use crate::holders::{Cut, Holders, Home};
-use crate::large::{left, Held};
+use crate::large::Held;
 use mio::{Token, Waker};
 use std::os::fd::RawFd;
-use std::sync::atomic::{AtomicI32, AtomicU32, AtomicU64, AtomicUsize, Ordering::Acquire, Ordering::Relaxed, Ordering::Release};
+use std::sync::atomic::{AtomicI32, AtomicU32, AtomicUsize, Ordering::Acquire, Ordering::Relaxed, Ordering::Release};
 use std::sync::{Arc, Mutex, MutexGuard, OnceLock, PoisonError};
 
 /// So many bytes of each client don't count. A command that fits these is never cut off.
@@ -15,8 +16,7 @@ pub const FREE: usize = 1 << 13;
 #[derive(Debug)]
 pub struct Seats {
     taken: AtomicUsize,
-    most_bytes: u64,
-    bytes: AtomicU64,
+    books: Arc<Books>,
     places: Box<[Place]>,
     /// Where a free place is sought.
     next: AtomicUsize,
@@ -68,13 +68,13 @@ pub struct Seat {
 }
 
 impl Seats {
-    /// For so many clients at a time, whose buffers take so many bytes.
-    pub fn new(most: usize, most_bytes: usize) -> Arc<Seats> {
+    /// For so many clients at a time.
+    pub fn new(most: usize, books: Arc<Books>) -> Arc<Seats> {
         let place = |_| Place { file: AtomicI32::new(NOBODY), turn: AtomicU32::new(0), state: AtomicU32::new(0) };
-        let (taken, next, bytes) = (AtomicUsize::new(0), AtomicUsize::new(0), AtomicU64::new(0));
+        let (taken, next) = (AtomicUsize::new(0), AtomicUsize::new(0));
         let (places, holders) = ((0..most).map(place).collect(), Mutex::default());
         let listeners = OnceLock::new();
-        Arc::new(Seats { taken, most_bytes: most_bytes as u64, bytes, places, next, holders, listeners })
+        Arc::new(Seats { taken, books, places, next, holders, listeners })
     }
 
     /// Takes a seat, if one is free. Only one thread calls it.
@@ -95,15 +95,11 @@ impl Seats {
         self.taken.load(Relaxed)
     }
 
-    /// What the buffers of all clients take, and the items that are kept for them alone.
-    pub fn bytes(&self) -> u64 {
-        self.bytes.load(Relaxed) + left()
-    }
-
     /// Cuts clients off if all hold too much.
     pub fn look(&self) {
-        if self.bytes() > self.most_bytes {
-            self.holders().cut(self.most_bytes);
+        let budget = &self.books.budget;
+        if budget.buffers() > budget.most_buffers() {
+            self.holders().cut(budget.most_buffers());
         }
     }
 
@@ -172,7 +168,7 @@ impl Seat {
         let (bytes, before) = (bytes as u64, self.bytes);
         if bytes != before {
             self.bytes = bytes;
-            self.seats.bytes.fetch_add(bytes.wrapping_sub(before), Relaxed);
+            self.seats.books.budget.change_buffers(before, bytes);
         }
     }
 
@@ -184,7 +180,7 @@ impl Seat {
         }
         let mut holders = self.seats.holders();
         self.number = holders.note(self.number, self.home.as_ref(), (bytes.saturating_sub(FREE)) as u64, item);
-        holders.cut(self.seats.most_bytes);
+        holders.cut(self.seats.books.budget.most_buffers());
     }
 
     /// Whether it is to be cut off, and what it has held since when.
@@ -213,7 +209,7 @@ impl Seat {
 impl Drop for Seat {
     fn drop(&mut self) {
         self.leave();
-        self.seats.bytes.fetch_sub(self.bytes, Relaxed);
+        self.count(0);
         self.place().file.store(NOBODY, Release);
         self.seats.taken.fetch_sub(1, Relaxed);
     }

@@ -82,7 +82,7 @@ impl Workers {
     fn hand(&mut self, mut stream: Stream) {
         let Some(seat) = self.store.seats.take() else {
             static LAST: Last = Last::new(None);
-            self.store.counts.add(Count::Rejected);
+            self.store.books.counts.add(Count::Rejected);
             complain_at_times(
                 &LAST,
                 format_args!("clients are turned away: {} are connected (-c)", self.store.options.connections),
@@ -91,7 +91,7 @@ impl Workers {
             let _ = stream.write(b"ERROR Too many open connections\r\n");
             return;
         };
-        self.store.counts.add(Count::Connections);
+        self.store.books.counts.add(Count::Connections);
         self.handed += 1;
         let inbox = &self.inboxes[self.handed % self.inboxes.len()];
         if let Err(why) = inbox.hand(Connection::new(stream, seat)) {

@@ -6,7 +6,7 @@ use std::alloc::Layout;
 use std::io;
 use std::mem::{align_of, size_of};
 use std::ptr;
-use std::sync::atomic::{AtomicU64, Ordering::Acquire, Ordering::Relaxed, Ordering::Release};
+use std::sync::atomic::{AtomicU16, AtomicU64, Ordering::Acquire, Ordering::Relaxed, Ordering::Release};
 use std::sync::{Mutex, MutexGuard, OnceLock, PoisonError};
 
 /// The bytes of a chunk, and those of its blocks together.
@@ -37,6 +37,8 @@ pub struct Slabs {
     unused: Mutex<Unused>,
     /// The place in it is the number of blocks in a chunk.
     lists: [Mutex<List>; MOST_BLOCKS + 1],
+    /// How many blocks each chunk has; 0: none. It changes with the lock of their list, and stays the same while a block of the chunk is taken.
+    blocks: Box<[AtomicU16]>,
 }
 
 /// Chunks without blocks.
@@ -53,11 +55,10 @@ struct Unused {
 #[derive(Debug)]
 struct List(*mut Chunk);
 
-/// What is at the beginning of a chunk. The lock of its list guards all but `blocks` and `items`.
+/// What is at the beginning of a chunk. The lock of its list guards all but `items`.
 #[repr(C)]
 struct Chunk {
-    /// How many blocks it has, and the bytes of each. Both stay the same while a block is taken.
-    blocks: usize,
+    /// The bytes of each block.
     bytes: usize,
     /// How many blocks were ever taken, and how many are taken now.
     begun: usize,
@@ -89,7 +90,9 @@ pub fn set_up(bytes: usize) -> io::Result<()> {
     let start = (start as usize).next_multiple_of(CHUNK);
     let unused = Mutex::new(Unused { next: start, empty: Vec::new(), returned: Vec::new() });
     let lists = [const { Mutex::new(List(ptr::null_mut())) }; MOST_BLOCKS + 1];
-    SLABS.set(Slabs { start, end: start + bytes / CHUNK * CHUNK, unused, lists }).map_err(|_| io::ErrorKind::AlreadyExists.into())
+    let blocks = (0..bytes / CHUNK).map(|_| AtomicU16::new(0)).collect();
+    let slabs = Slabs { start, end: start + bytes / CHUNK * CHUNK, unused, lists, blocks };
+    SLABS.set(slabs).map_err(|_| io::ErrorKind::AlreadyExists.into())
 }
 
 /// Memory of this layout, or null.
@@ -120,19 +123,28 @@ pub unsafe fn give_back(at: *mut u8, layout: Layout) {
     }
 }
 
-/// Notes that an item is complete.
-pub fn note(item: &Item) {
-    if SLABS.get().is_some_and(|slabs| slabs.has(address_of(item))) {
-        // SAFETY: the item lies in a chunk. The release comes behind all that was written to the item.
-        unsafe { Chunk::word(address_of(item)).fetch_or(bit(address_of(item)), Release) };
+/// Notes that an item is complete. Returns whether there is memory for that.
+pub fn note(item: &Item) -> bool {
+    if SLABS.get().is_none_or(|slabs| !slabs.has(address_of(item))) {
+        return large::note(item);
     }
+    // SAFETY: the item lies in a chunk. The release comes behind all that was written to the item.
+    unsafe { Chunk::word(address_of(item)).fetch_or(bit(address_of(item)), Release) };
+    true
 }
 
 /// Calls `each` with all items of the chunk in which this one lies. None of them is freed meanwhile, and `each` must not free one.
 pub fn look_around(item: &Item, each: impl FnMut(&Item)) {
     if let Some(slabs) = SLABS.get().filter(|slabs| slabs.has(address_of(item))) {
-        slabs.look(chunk_of(address_of(item)), each);
+        slabs.look((address_of(item) - slabs.start) / CHUNK, each);
     }
+}
+
+/// Calls `each` in the same way with all items of the chunk with this number. Returns whether there are chunks from that number on.
+pub fn look_in(number: usize, each: impl FnMut(&Item)) -> bool {
+    let Some(slabs) = SLABS.get().filter(|slabs| number < slabs.used()) else { return false };
+    slabs.look(number, each);
+    true
 }
 
 /// Where an item lies.
@@ -169,6 +181,7 @@ impl Slabs {
                 chunk.write(Chunk::new(blocks));
                 list.add(chunk);
             }
+            self.blocks_of(chunk).store(blocks as u16, Relaxed);
         }
         let chunk = list.0;
         // SAFETY: the chunk is in the list, so it has a free block, and the lock guards it.
@@ -186,9 +199,10 @@ impl Slabs {
     /// It is a block that `take` returned, and nobody uses it.
     unsafe fn give_back(&self, at: *mut u8) {
         let chunk = chunk_of(at as usize);
-        // SAFETY: the chunk has a block, so it stays a chunk of such blocks until the lock is taken. Then the lock guards it.
+        // The block is taken so far, so this stays the same until the lock is taken.
+        let blocks = self.blocks_of(chunk).load(Relaxed) as usize;
+        // SAFETY: the lock guards the chunk.
         unsafe {
-            let blocks = (*chunk).blocks;
             let mut list = lock(&self.lists[blocks]);
             Chunk::give_back(chunk, at);
             if (*chunk).taken == blocks - 1 {
@@ -198,15 +212,31 @@ impl Slabs {
                 return;
             }
             list.remove(chunk);
+            self.blocks_of(chunk).store(0, Relaxed);
         }
         lock(&self.unused).give_back(chunk as usize);
     }
 
-    fn look(&self, chunk: *mut Chunk, mut each: impl FnMut(&Item)) {
-        // SAFETY: the caller borrows an item in the chunk, so `blocks` stays the same. While this has the lock, no block is freed or taken. A
-        // block with its bit has a complete item, of which only atomic fields change.
+    fn blocks_of(&self, chunk: *mut Chunk) -> &AtomicU16 {
+        &self.blocks[(chunk as usize - self.start) / CHUNK]
+    }
+
+    /// How many chunks were ever used.
+    fn used(&self) -> usize {
+        (lock(&self.unused).next - self.start) / CHUNK
+    }
+
+    fn look(&self, number: usize, mut each: impl FnMut(&Item)) {
+        let chunk = (self.start + number * CHUNK) as *mut Chunk;
+        let blocks = self.blocks[number].load(Relaxed);
+        let _list = lock(&self.lists[blocks as usize]);
+        // Without the lock it may have become a chunk of other blocks, which the next look finds.
+        if blocks == 0 || self.blocks[number].load(Relaxed) != blocks {
+            return;
+        }
+        // SAFETY: while this has the lock, the chunk has such blocks, and none is freed or taken. A block with its bit has a complete item, of which
+        // only atomic fields change.
         unsafe {
-            let _list = lock(&self.lists[(*chunk).blocks]);
             for place in 0..(*chunk).begun {
                 let at = Chunk::block(chunk, place);
                 if Chunk::word(at as usize).load(Acquire) & bit(at as usize) != 0 {
@@ -277,7 +307,7 @@ impl List {
 impl Chunk {
     fn new(blocks: usize) -> Chunk {
         let (free, before, next) = (ptr::null_mut(), ptr::null_mut(), ptr::null_mut());
-        Chunk { blocks, bytes: ROOM / blocks / ALIGN * ALIGN, begun: 0, taken: 0, free, before, next, items: Default::default() }
+        Chunk { bytes: ROOM / blocks / ALIGN * ALIGN, begun: 0, taken: 0, free, before, next, items: Default::default() }
     }
 
     /// The block at this place.

@@ -1,8 +1,8 @@
 //! The answer of `stats`.
 use crate::clock::unix_time;
 use crate::command::{line, text, version};
+use crate::counts::Count;
 use crate::listing::CLASS;
-use crate::queue::Cursor;
 use crate::request::ERROR;
 use crate::store::Store;
 use crate::usage;
@@ -14,8 +14,7 @@ pub fn answer(store: &Store, what: &[u8], out: &mut Vec<u8>) {
     match what {
         b"" => general(store, out),
         b"reset" => {
-            store.counts.reset();
-            store.room.reset_gone();
+            store.books.counts.reset();
             line(out, "RESET");
         }
         b"settings" => settings(store, out),
@@ -31,7 +30,7 @@ pub fn answer(store: &Store, what: &[u8], out: &mut Vec<u8>) {
 
 fn general(store: &Store, out: &mut Vec<u8>) {
     let (version, own) = (version!(), env!("CARGO_PKG_VERSION"));
-    text!(out, "STAT pid {}\r\nSTAT uptime {}\r\n", process::id(), store.clock.uptime());
+    text!(out, "STAT pid {}\r\nSTAT uptime {}\r\n", process::id(), store.books.clock.uptime());
     text!(out, "STAT time {}\r\nSTAT version {version}\r\nSTAT cefrodild {own}\r\n", unix_time());
     let (user, system) = usage::times();
     text!(out, "STAT pointer_size 64\r\nSTAT rusage_user {:.6}\r\n", user.as_secs_f64());
@@ -40,72 +39,70 @@ fn general(store: &Store, out: &mut Vec<u8>) {
     text!(out, "STAT curr_connections {}\r\nSTAT threads {}\r\n", store.seats.taken(), store.options.threads);
     // Clients are always accepted. If there are too many, they are told so.
     text!(out, "STAT accepting_conns 1\r\nSTAT listen_disabled_num 0\r\n");
-    text!(out, "STAT connection_structures {}\r\nSTAT buffer_bytes {}\r\n", store.seats.taken(), store.seats.bytes());
-    for (name, sum) in store.counts.sums() {
+    text!(out, "STAT connection_structures {}\r\nSTAT buffer_bytes {}\r\n", store.seats.taken(), store.books.budget.buffers());
+    for (name, sum) in store.books.counts.sums() {
         text!(out, "STAT {name} {sum}\r\n");
     }
     text!(out, "STAT stalled_seconds {}\r\n", store.index.stalled().as_secs());
-    for (name, number) in store.room.gone() {
-        text!(out, "STAT {name} {number}\r\n");
-    }
-    text!(out, "STAT bytes {}\r\nSTAT curr_items {}\r\n", store.room.used(), store.room.items());
-    text!(out, "STAT bytes_waiting {}\r\nSTAT bytes_limit {}\r\n", store.room.waiting(), store.room.limit());
+    text!(out, "STAT bytes {}\r\nSTAT curr_items {}\r\n", store.books.budget.used(), store.index.len() as u64);
+    text!(out, "STAT bytes_waiting {}\r\nSTAT bytes_limit {}\r\n", store.books.budget.waiting(), store.books.budget.limit());
     text!(out, "STAT limit_maxbytes {}\r\n", store.options.memory);
     line(out, "END");
 }
 
-/// The sum with this name.
-fn sum(store: &Store, sought: &str) -> u64 {
-    let gone = store.room.gone().into_iter().chain(store.counts.sums());
-    gone.filter(|(name, _)| *name == sought).map(|(_, sum)| sum).sum()
-}
-
-/// Writes counts of the class that has all items, each with the name that it has there and the one that it has elsewhere.
-fn write_counts(store: &Store, class: &str, names: &[(&str, &str)], out: &mut Vec<u8>) {
-    for (name, sought) in names {
-        text!(out, "STAT {class}:{name} {}\r\n", sum(store, sought));
+/// Writes counts of the class that has all items, with the names that they have there.
+fn write_counts(store: &Store, class: &str, counts: &[(&str, Count)], out: &mut Vec<u8>) {
+    for (name, count) in counts {
+        text!(out, "STAT {class}:{name} {}\r\n", store.books.counts.get(*count));
     }
 }
 
 /// All items are of one class.
 fn items(store: &Store, out: &mut Vec<u8>) {
-    let (number, class) = (store.room.items(), format_args!("items:{CLASS}").to_string());
+    let (number, class) = (store.index.len() as u64, format_args!("items:{CLASS}").to_string());
     if number > 0 {
         text!(out, "STAT {class}:number {number}\r\nSTAT {class}:age {}\r\n", age(store));
-        text!(out, "STAT {class}:mem_requested {}\r\nSTAT {class}:evicted_time 0\r\n", store.room.used());
-        let names = [("evicted", "evictions"), ("outofmemory", "store_no_memory"), ("reclaimed", "reclaimed")];
-        let others = ["expired_unfetched", "evicted_unfetched", "crawler_reclaimed"].map(|name| (name, name));
-        write_counts(store, &class, &[&names[..], &others].concat(), out);
+        text!(out, "STAT {class}:mem_requested {}\r\nSTAT {class}:evicted_time 0\r\n", store.books.budget.used());
+        let counts = [
+            ("evicted", Count::Evicted),
+            ("outofmemory", Count::NoMemory),
+            ("reclaimed", Count::Reclaimed),
+            ("expired_unfetched", Count::ExpiredUnfetched),
+            ("evicted_unfetched", Count::EvictedUnfetched),
+            ("crawler_reclaimed", Count::Expired),
+        ];
+        write_counts(store, &class, &counts, out);
     }
     line(out, "END");
 }
 
-/// The seconds since the item was stored that is first in the main queue.
+/// The seconds since the oldest item was stored.
 fn age(store: &Store) -> u64 {
-    let (first, mut age) = (store.queue.look_from(Cursor::default(), 1).0, 0);
-    for entry in first {
-        store.index.peek(entry.hash, &mut |seen| {
-            if let Ok(Some((item, _))) = seen {
-                age = unix_time().saturating_sub(store.clock.unix_time_of(item.born()));
-            }
-        });
-    }
-    age
+    store.oldest().map_or(0, |born| unix_time().saturating_sub(store.books.clock.unix_time_of(born)))
 }
 
 /// The class has pages of a megabyte, and chunks as large as an item is on average.
 fn slabs(store: &Store, out: &mut Vec<u8>) {
     const PAGE: u64 = 1 << 20;
-    let (number, used) = (store.room.items(), store.room.used());
+    let (number, used) = (store.index.len() as u64, store.books.budget.used());
     if number > 0 {
         let size = (used / number).max(1);
-        let free = store.room.limit().saturating_sub(used) / size;
+        let free = store.books.budget.limit().saturating_sub(used) / size;
         let class = CLASS.to_string();
         text!(out, "STAT {class}:chunk_size {size}\r\nSTAT {class}:chunks_per_page {}\r\n", (PAGE / size).max(1));
         text!(out, "STAT {class}:total_pages {}\r\nSTAT {class}:total_chunks {}\r\n", used.div_ceil(PAGE), number + free);
         text!(out, "STAT {class}:used_chunks {number}\r\nSTAT {class}:free_chunks {free}\r\nSTAT {class}:free_chunks_end 0\r\n");
-        let names = ["get_hits", "cmd_set", "delete_hits", "incr_hits", "decr_hits", "cas_hits", "cas_badval", "touch_hits"];
-        write_counts(store, &class, &names.map(|name| (name, name)), out);
+        let counts = [
+            ("get_hits", Count::GetHits),
+            ("cmd_set", Count::Sets),
+            ("delete_hits", Count::DeleteHits),
+            ("incr_hits", Count::IncrHits),
+            ("decr_hits", Count::DecrHits),
+            ("cas_hits", Count::CasHits),
+            ("cas_badval", Count::CasBadValue),
+            ("touch_hits", Count::TouchHits),
+        ];
+        write_counts(store, &class, &counts, out);
     }
     text!(out, "STAT active_slabs {}\r\nSTAT total_malloced {used}\r\n", u64::from(number > 0));
     line(out, "END");

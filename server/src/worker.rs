@@ -6,8 +6,7 @@ use crate::expire::PAUSE;
 use crate::holders::Home;
 use crate::store::Store;
 use mio::{Events, Interest, Poll, Token, Waker};
-use std::collections::HashMap;
-use std::hash::{BuildHasherDefault, Hasher};
+use slab::Slab;
 use std::io::{self, ErrorKind};
 use std::mem;
 use std::sync::{Arc, Mutex, MutexGuard, PoisonError};
@@ -36,33 +35,14 @@ struct Mail {
     is_last: bool,
 }
 
-/// The hash of a token. Tokens are counted, so no client can choose them.
-#[derive(Debug, Default)]
-struct Counted(u64);
-
-impl Hasher for Counted {
-    fn write(&mut self, bytes: &[u8]) {
-        bytes.iter().for_each(|byte| self.write_usize((*byte).into()));
-    }
-
-    fn write_usize(&mut self, number: usize) {
-        // An odd number with bits everywhere: so each bit of a token changes the upper bits of the hash.
-        self.0 = (self.0 ^ number as u64).wrapping_mul(0x9e37_79b9_7f4a_7c15);
-    }
-
-    fn finish(&self) -> u64 {
-        self.0
-    }
-}
-
 /// The state of a worker's thread.
 #[derive(Debug)]
 pub struct Worker {
     store: Arc<Store>,
     poll: Poll,
     mail: Arc<Mutex<Mail>>,
-    connections: HashMap<Token, Connection, BuildHasherDefault<Counted>>,
-    next_token: usize,
+    /// The place of each is its token.
+    connections: Slab<Box<Connection>>,
     /// Whose turn it is, though no event came.
     ready: Vec<Token>,
     /// When the worker ends, if it was told to.
@@ -104,10 +84,11 @@ impl Worker {
         let poll = Poll::new()?;
         let waker = Arc::new(Waker::new(poll.registry(), WAKE)?);
         let inbox = Inbox { mail: Arc::default(), waker: Arc::clone(&waker) };
-        let (connections, ready, mail) = (HashMap::default(), Vec::new(), Arc::clone(&inbox.mail));
-        let (next_token, woke, end) = (0, Instant::now(), None);
+        // It need not grow later, when the system may refuse memory.
+        let connections = Slab::with_capacity(store.options.connections);
+        let (ready, mail, woke, end) = (Vec::new(), Arc::clone(&inbox.mail), Instant::now(), None);
         let next_tidy = woke + PAUSE;
-        Ok((Worker { store, poll, mail, connections, next_token, ready, end, next_tidy, woke, waker }, inbox))
+        Ok((Worker { store, poll, mail, connections, ready, end, next_tidy, woke, waker }, inbox))
     }
 
     /// Answers clients until the inbox is dropped.
@@ -124,7 +105,7 @@ impl Worker {
             self.tidy_up_at_times();
             mem::swap(&mut ready, &mut self.ready);
             for event in &events {
-                if let Some(connection) = self.connections.get_mut(&event.token()) {
+                if let Some(connection) = self.connections.get_mut(event.token().0) {
                     connection.note(event);
                 }
                 ready.push(event.token());
@@ -157,12 +138,12 @@ impl Worker {
         let Some(most) = self.store.options.idle_timeout else { return };
         let (now, before) = (self.second(), self.connections.len());
         self.connections.retain(|_, client| now.saturating_sub(client.last_turn()) <= most);
-        self.store.counts.add_many(Count::IdleKicks, (before - self.connections.len()) as u64);
+        self.store.books.counts.add_many(Count::IdleKicks, (before - self.connections.len()) as u64);
     }
 
     /// When it woke, in seconds since the server started.
     fn second(&self) -> u32 {
-        self.store.clock.second_of(self.woke)
+        self.store.books.clock.second_of(self.woke)
     }
 
     fn has_ended(&self) -> bool {
@@ -178,13 +159,13 @@ impl Worker {
             return;
         }
         let second = self.second();
-        let Some(connection) = self.connections.get_mut(&token) else { return };
+        let Some(connection) = self.connections.get_mut(token.0) else { return };
         let next = connection.turn(&self.store);
         connection.note_turn(second);
         match next {
             Ok(Next::Turn) => self.ready.push(token),
             Ok(Next::Event) if self.end.is_none() || !connection.is_idle() => {}
-            _ => drop(self.connections.remove(&token)),
+            _ => drop(self.connections.remove(token.0)),
         }
     }
 
@@ -197,20 +178,21 @@ impl Worker {
         if is_last && self.end.is_none() {
             self.end = Some(Instant::now() + GRACE);
             // Each has a last turn, for what it has sent.
-            self.connections.values_mut().for_each(Connection::read_again);
-            self.ready.extend(self.connections.keys());
+            for (place, connection) in &mut self.connections {
+                connection.read_again();
+                self.ready.push(Token(place));
+            }
         }
     }
 
     fn add(&mut self, mut client: Connection) {
-        let token = Token(self.next_token);
-        self.next_token += 1;
+        let second = self.second();
+        let entry = self.connections.vacant_entry();
+        let token = Token(entry.key());
         client.settle(Home { waker: Arc::clone(&self.waker), token });
-        client.note_turn(self.second());
-        let interest = Interest::READABLE | Interest::WRITABLE;
-        let has_room = self.connections.try_reserve(1).map_err(io::Error::from);
-        match has_room.and_then(|()| self.poll.registry().register(client.stream(), token, interest)) {
-            Ok(()) => drop(self.connections.insert(token, client)),
+        client.note_turn(second);
+        match self.poll.registry().register(client.stream(), token, Interest::READABLE | Interest::WRITABLE) {
+            Ok(()) => drop(entry.insert(Box::new(client))),
             Err(why) => {
                 static LAST: Last = Last::new(None);
                 complain_at_times(&LAST, format_args!("clients can't be registered: {why}"));

@@ -1,43 +1,27 @@
 //! Commands that change what a key has.
+use crate::budget::{cost, Claim};
 use crate::counts::Count;
-use crate::evict::Kept;
-use crate::index::{Outcome, Refused, Stamp, Token};
+use crate::index::{Refused, Token};
 use crate::item::{new_item, Item, NewItem};
 use crate::number;
-use crate::queue::Entry;
 use crate::request::{Change, How, Order};
-use crate::room::cost;
 use crate::store::{Answer, Changed, Fault, Found, Store};
 
 /// How often a call tries again that others' changes of its key disturbed.
 const TRIES: u32 = 1000;
 
 /// An item from this size on is freed as soon as it can be. Of smaller ones some wait.
-const LARGE: usize = 1 << 15;
-
-/// An item that is to be replaced.
-struct Older {
-    /// How many bytes its value has.
-    length: usize,
-    /// That of its entry in the queues.
-    number: Option<u16>,
-}
-
-impl Older {
-    fn of(item: &Item) -> Older {
-        Older { length: item.value().len(), number: item.number() }
-    }
-}
+const LARGE: u64 = 1 << 15;
 
 impl Store {
     /// Stores this value as it is ordered.
     pub fn store(&self, order: &Order, data: &[u8]) -> Result<Answer, Fault> {
-        self.counts.add(Count::Sets);
+        self.books.counts.add(Count::Sets);
         let stored = if order.is_plain() { self.set(order, data) } else { self.store_if(order, data) };
         match stored {
-            Err(Fault::NoRoom) => self.counts.add(Count::NoMemory),
-            Err(Fault::TooLong) => self.counts.add(Count::TooLarge),
-            Ok(Answer::Done(_)) => self.counts.add(Count::Stored),
+            Err(Fault::NoRoom) => self.books.counts.add(Count::NoMemory),
+            Err(Fault::TooLong) => self.books.counts.add(Count::TooLarge),
+            Ok(Answer::Done(_)) => self.books.counts.add(Count::Stored),
             _ => {}
         }
         stored.map_err(|why| self.refuse(order, why))
@@ -52,21 +36,18 @@ impl Store {
     }
 
     fn set(&self, order: &Order, data: &[u8]) -> Result<Answer, Fault> {
-        let born = self.clock.now();
-        let put = self.put(order.key, data.len(), None, |hash| {
-            let mut new = None;
+        let (born, hash) = (self.books.clock.now(), self.index.hash_of(order.key));
+        let claim = self.make_room(hash, cost(order.key.len(), data.len()))?;
+        let put = self.put(claim, || {
             let fresh = || self.fresh(order, born, data);
             let item = fresh().or_else(|| self.with_more_memory(data.len(), fresh)).ok_or(Refused::Full)?;
-            let token = self.index.put(hash, item, &mut |item, old| {
-                new = item.note_number(old.and_then(|old| old.number()));
-            })?;
-            Ok((Outcome::Done(token), new))
+            self.index.put(hash, item)
         })?;
         Ok(put.map_or(Answer::NotStored, Answer::Done))
     }
 
     fn fresh(&self, order: &Order, born: u64, data: &[u8]) -> Option<NewItem> {
-        new_item(born, order.flags, self.clock.deadline(order.expiry), order.key, &[data])
+        new_item(born, order.flags, self.books.clock.deadline(order.expiry), order.key, &[data])
     }
 
     /// What is to be put over an item that was found at this time.
@@ -80,20 +61,20 @@ impl Store {
     }
 
     fn store_if(&self, order: &Order, data: &[u8]) -> Result<Answer, Fault> {
-        let _turn = matches!(order.how, How::Append | How::Prepend).then(|| self.turns.wait(order.key));
+        let _lock = matches!(order.how, How::Append | How::Prepend).then(|| self.lock(order.key));
         for _ in 0..TRIES {
             let found = self.find(order.key, |item, now| {
-                item.mark_used();
-                (self.over(order, data, item, now), Older::of(item))
+                item.note_fetched();
+                self.over(order, data, item, now)
             })?;
             let (next, over) = match (found, order.how, order.compare) {
                 (Found::Absent | Found::Dead(..), How::Set | How::Replace, Some(_)) => return Ok(Answer::NotFound),
                 (Found::Live(..), How::Add, _) => return Ok(Answer::NotStored),
                 (Found::Live(_, token), _, Some(compare)) if token != compare => return Ok(Answer::Exists),
                 (Found::Absent | Found::Dead(..), How::Replace | How::Append | How::Prepend, _) => return Ok(Answer::NotStored),
-                (Found::Absent, ..) => (self.fresh(order, self.clock.now(), data), Found::Absent),
-                (Found::Dead(token, number), ..) => (self.fresh(order, self.clock.now(), data), Found::Dead(token, number)),
-                (Found::Live((next, older), token), ..) => (next, Found::Live(older, token)),
+                (Found::Absent, ..) => (self.fresh(order, self.books.clock.now(), data), Found::Absent),
+                (Found::Dead(token), ..) => (self.fresh(order, self.books.clock.now(), data), Found::Dead(token)),
+                (Found::Live(next, token), ..) => (next, Found::Live((), token)),
             };
             let next = next.ok_or(Fault::NoRoom)?;
             if next.value().len() > self.options.longest {
@@ -107,59 +88,40 @@ impl Store {
     }
 
     /// Puts an item over what was found. `None`: that is not there any more.
-    fn put_over(&self, key: &[u8], found: Found<Older>, next: NewItem) -> Result<Option<Token>, Fault> {
-        let (kept, number) = match found {
-            Found::Live(Older { length, number }, token) => {
-                (Some(Kept { stamp: self.stamp(key, token), bytes: cost(key.len(), length) }), number)
+    fn put_over(&self, key: &[u8], found: Found<()>, next: NewItem) -> Result<Option<Token>, Fault> {
+        let (hash, bytes) = (self.index.hash_of(key), cost(key.len(), next.value().len()));
+        match found {
+            Found::Absent => self.put(self.make_room(hash, bytes)?, || self.index.put_new(next)),
+            Found::Dead(token) => self.put(self.make_room(hash, bytes)?, || self.index.put_if(token, next)),
+            Found::Live((), token) => {
+                let put = self.put(self.make_room_later(bytes)?, || self.index.put_if(token, next))?;
+                // So the old value does not give way to the new one. Nor does that to itself: others in another shard are looked at first.
+                self.balance(!hash, bytes);
+                Ok(put)
             }
-            Found::Dead(_, number) => (None, number),
-            Found::Absent => (None, None),
-        };
-        let new = next.note_number(number);
-        self.put(key, next.value().len(), kept, |_| {
-            let outcome = match found {
-                Found::Live(_, token) | Found::Dead(token, _) => self.index.put_if(token, next),
-                Found::Absent => self.index.put_new(next),
-            };
-            Ok((outcome?, new))
-        })
+        }
     }
 
-    fn stamp(&self, key: &[u8], token: Token) -> Stamp {
-        Stamp { hash: self.index.hash_of(key), token }
-    }
-
-    /// Makes room for an item with a value of this length, and puts it. `put` gets the key's hash, and returns the number of a new entry that the
-    /// item is to have in the queues.
-    fn put(
-        &self,
-        key: &[u8],
-        length: usize,
-        kept: Option<Kept>,
-        put: impl FnOnce(u64) -> Result<(Outcome, Option<u16>), Refused>,
-    ) -> Result<Option<Token>, Fault> {
-        let (bytes, hash) = (cost(key.len(), length), self.index.hash_of(key));
-        let expected = self.make_room(bytes, kept)?;
-        let outcome = put(hash);
-        drop(expected);
-        if length >= LARGE {
+    /// Puts an item for which there is room. `None`: its key has no longer what it had.
+    fn put(&self, claim: Claim<'_>, put: impl FnOnce() -> Result<Token, Refused>) -> Result<Option<Token>, Fault> {
+        let (put, bytes) = (put(), claim.bytes());
+        match put {
+            Ok(_) => claim.keep(),
+            Err(_) => drop(claim),
+        }
+        if bytes >= LARGE {
             self.index.sweep();
             self.seats.look();
         }
-        if let Ok((Outcome::Done(token), new)) = outcome {
-            if let Some(number) = new {
-                self.enqueue(Entry { hash, number }, bytes);
-            }
-            return Ok(Some(token));
+        put.map(Some).or_else(|why| self.not_put(why))
+    }
+
+    fn not_put(&self, why: Refused) -> Result<Option<Token>, Fault> {
+        if matches!(why, Refused::Changed | Refused::Absent) {
+            return Ok(None);
         }
-        self.room.give_back(bytes);
-        match outcome {
-            Err(why) => {
-                self.disturbed(why);
-                Err(Fault::NoRoom)
-            }
-            Ok(_) => Ok(None),
-        }
+        self.disturbed(why);
+        Err(Fault::NoRoom)
     }
 
     /// Deletes the key's value, if it has this token.
@@ -178,18 +140,13 @@ impl Store {
             let token = match found {
                 Found::Absent => return Ok(Found::Absent),
                 Found::Live((), token) if !is_meant(token) => return Ok(Found::Live(false, token)),
-                Found::Live((), token) | Found::Dead(token, _) => token,
+                Found::Live((), token) | Found::Dead(token) => token,
             };
-            match self.index.remove_if(key, token) {
-                Ok(Outcome::Done(_)) => {
-                    self.tidy();
-                    return Ok(match found {
-                        Found::Dead(token, number) => Found::Dead(token, number),
-                        _ => Found::Live(true, token),
-                    });
-                }
-                Ok(Outcome::Absent) => return Ok(Found::Absent),
-                Ok(Outcome::Changed) => {}
+            match self.index.remove(self.index.hash_of(key), token) {
+                Ok(_) if matches!(found, Found::Dead(_)) => return Ok(Found::Dead(token)),
+                Ok(_) => return Ok(Found::Live(true, token)),
+                Err(Refused::Absent) => return Ok(Found::Absent),
+                Err(Refused::Changed) => {}
                 Err(why) => return Err(self.disturbed(why)),
             }
         }
@@ -198,24 +155,23 @@ impl Store {
 
     /// Adds to the key's number or subtracts from it. The item gets the deadline, if there is one.
     pub fn change(&self, key: &[u8], change: Change, compare: Option<Token>, deadline: Option<u64>) -> Result<Changed, Fault> {
-        let _turn = self.turns.wait(key);
+        let _lock = self.lock(key);
         for _ in 0..TRIES {
             let found = self.find(key, |item, born| {
-                item.mark_used();
+                item.note_fetched();
                 let number = change.of(number::unsigned(item.value())?);
                 let deadline = deadline.unwrap_or(item.deadline());
-                let next = new_item(born, item.flags, deadline, key, &[number.to_string().as_bytes()]);
-                Some((next, number, Older::of(item)))
+                Some((new_item(born, item.flags, deadline, key, &[number.to_string().as_bytes()]), number))
             })?;
-            let (next, number, older, token) = match found {
+            let (next, number, token) = match found {
                 Found::Absent | Found::Dead(..) => return Ok(Changed::NotFound),
                 Found::Live(_, token) if compare.is_some_and(|compare| compare != token) => return Ok(Changed::Exists),
                 Found::Live(None, _) => return Ok(Changed::NotNumeric),
-                Found::Live(Some((next, number, older)), token) => (next, number, older, token),
+                Found::Live(Some((next, number)), token) => (next, number, token),
             };
             let next = next.ok_or(Fault::NoRoom)?;
             let deadline = next.deadline();
-            if let Some(token) = self.put_over(key, Found::Live(older, token), next)? {
+            if let Some(token) = self.put_over(key, Found::Live((), token), next)? {
                 return Ok(Changed::Changed(number, token, deadline));
             }
         }

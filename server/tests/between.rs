@@ -1,6 +1,6 @@
 //! Two clients at one key: one acts when the other's command has looked at the key and is about to change it.
 mod plain;
-use cefrodild::room::cost;
+use cefrodild::budget::cost;
 use plain::client::{Client, MEGABYTE};
 use std::sync::atomic::Ordering::SeqCst;
 use std::sync::mpsc::channel;
@@ -101,8 +101,12 @@ fn a_command_that_is_disturbed_often_is_done_all_the_same() {
         let mut client = client_with("1");
         assert_eq!(client.ask_beside_often(command, 100, |other| set(other, "7")), answer, "{command}");
         assert_eq!(value(&mut client), next, "{command}");
-        let items = u64::from(!next.is_empty());
-        assert_eq!((client.store.room.items(), client.store.room.used()), (items, items * cost(1, next.len())), "{command}");
+        let items = usize::from(!next.is_empty());
+        assert_eq!(
+            (client.store.index.len(), client.store.books.budget.used()),
+            (items, items as u64 * cost(1, next.len())),
+            "{command}"
+        );
     }
 }
 
@@ -113,7 +117,7 @@ fn a_command_that_is_disturbed_all_the_time_changes_nothing_and_says_so() {
         let answer = client.ask_beside_often(command, usize::MAX, |other| set(other, "7"));
         assert_eq!(answer, "SERVER_ERROR busy, and nothing was changed\n", "{command}");
         assert_eq!(value(&mut client), "7", "{command}");
-        assert_eq!((client.store.room.items(), client.store.room.used()), (1, cost(1, 1)), "{command}");
+        assert_eq!((client.store.index.len(), client.store.books.budget.used()), (1, cost(1, 1)), "{command}");
     }
 }
 
@@ -123,7 +127,7 @@ fn an_item_that_was_not_put_is_not_counted() {
         let mut client = client_with("1");
         client.ask_beside(command, |mut other| set(&mut other, "1"));
         let bytes = cost(1, value(&mut client).len());
-        assert_eq!((client.store.room.items(), client.store.room.used()), (1, bytes), "{command}");
+        assert_eq!((client.store.index.len(), client.store.books.budget.used()), (1, bytes), "{command}");
     }
 }
 
@@ -151,10 +155,10 @@ fn a_new_time_to_live_waits_for_a_change_that_keeps_the_old_one() {
 fn an_item_that_is_touched_in_time_does_not_go() {
     let mut client = Client::new(MEGABYTE);
     client.ask("set n 0 -1 1\n1\nset gone 0 -1 1\n1\n");
-    client.control.touches_after_peek.store(true, SeqCst);
-    client.store.expire();
-    client.control.touches_after_peek.store(false, SeqCst);
-    assert_eq!((value(&mut client), client.store.room.items()), ("1".to_owned(), 2));
+    client.control.touches_before_peek.store(true, SeqCst);
+    client.expire();
+    client.control.touches_before_peek.store(false, SeqCst);
+    assert_eq!((value(&mut client), client.store.index.len()), ("1".to_owned(), 2));
 }
 
 #[test]
@@ -170,6 +174,6 @@ fn a_new_time_to_live_waits_for_the_crawler() {
         }
         sender.send(asking).expect("it is waited for");
     }));
-    client.store.expire();
+    client.expire();
     assert_eq!(threads.recv().expect("there is a thread").join().expect("it is answered"), "NOT_FOUND\n");
 }

@@ -1,9 +1,10 @@
 //! What clients hold takes no room of items away. It is the only test of its process, whose memory it looks at.
-use cefrodild::ceiling::Ceiling;
-use cefrodild::objects::Objects;
+use cefrodild::books::Books;
+use cefrodild::counts::Count;
+use cefrodild::map_index::MapIndex;
 use cefrodild::options::{parse, Asked};
 use cefrodild::request::{How, Order};
-use cefrodild::room::Room;
+use cefrodild::rss_limit::RssLimit;
 use cefrodild::store::Store;
 use std::mem::forget;
 use std::sync::Arc;
@@ -13,15 +14,17 @@ const MEGABYTE: u64 = 1 << 20;
 #[test]
 fn buffers_take_no_room_of_items() {
     let Ok(Asked::Serve(options)) = parse(["-t1".to_owned()]) else { panic!("these are options") };
-    let room = Arc::new(Room::new(0));
-    let index = Objects::open(10_000, 1, &room, None).expect("there is memory");
-    let taken = (1 << 40) - Ceiling::new(1 << 40).expect("the system tells").room();
-    let ceiling = Ceiling::new(taken + 64 * MEGABYTE).expect("the system tells");
-    room.set_limit(ceiling.room());
-    let most = room.limit();
+    let books = Arc::new(Books::new(0, &options));
+    let index = MapIndex::open(10_000, 1, &books, None).expect("there is memory");
+    let taken = RssLimit::new(0).and_then(|limit| limit.resident()).expect("the system tells");
+    let most = books.budget.bound_process(taken + 64 * MEGABYTE).expect("the system tells");
     // As if the process took so much for buffers.
-    forget(ceiling.expect(1 << 40));
-    let store = Store::new(Box::new(index), room, options).below(ceiling);
+    let mut claim = books.budget.claim(1 << 40);
+    claim.expect();
+    forget(claim);
+    books.budget.leave(1 << 40);
+    books.budget.free(1 << 40);
+    let store = Store::new(Box::new(index), books, options);
     let mut seat = store.seats.take().expect("a seat is free");
     seat.count(1 << 40);
     let set = |key: &[u8]| {
@@ -30,9 +33,10 @@ fn buffers_take_no_room_of_items() {
         store.tidy_up();
     };
     (0..10).for_each(|key: u8| set(&[b'a' + key]));
-    assert!(store.room.limit() > most / 2 && store.room.evicted() == 0, "{} of {most}", store.room.limit());
-    // Nothing is held any more, so the process exceeds its ceiling.
+    let limit = || store.books.budget.limit();
+    assert!(limit() > most / 2 && store.books.counts.get(Count::Evicted) == 0, "{} of {most}", limit());
+    // Nothing is held any more, so the process exceeds its limit.
     seat.count(0);
     set(b"last");
-    assert!(store.room.limit() < most / 2, "{} of {most}", store.room.limit());
+    assert!(limit() < most / 2, "{} of {most}", limit());
 }

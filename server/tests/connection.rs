@@ -221,7 +221,7 @@ fn bytes_are_counted() {
     let mut both = Both::new();
     assert_eq!(both.send(&b"mn\r\n".repeat(100)), Next::Event);
     assert_eq!(both.read_all(400).len(), 400);
-    let of = |sought| both.client.store.counts.sums().find(|(name, _)| *name == sought).map(|(_, sum)| sum);
+    let of = |sought| both.client.store.books.counts.sums().find(|(name, _)| *name == sought).map(|(_, sum)| sum);
     assert_eq!((of("bytes_read"), of("bytes_written")), (Some(400), Some(400)));
 }
 
@@ -249,7 +249,7 @@ fn bytes_that_wait_are_counted_once() {
         both.turn();
         yield_now();
     }
-    let of = |sought| both.client.store.counts.sums().find(|(name, _)| *name == sought).map(|(_, sum)| sum);
+    let of = |sought| both.client.store.books.counts.sums().find(|(name, _)| *name == sought).map(|(_, sum)| sum);
     assert_eq!(of("bytes_written"), Some(waiting as u64));
 }
 
@@ -260,7 +260,7 @@ fn a_client_holds_no_more_than_it_needs() {
     for _ in 0..12 {
         assert_eq!(both.send(&[b'x'; 50_000]), Next::Event);
     }
-    let held = both.client.store.seats.bytes();
+    let held = both.client.store.books.budget.buffers();
     assert!((600_000..701_000).contains(&held), "{held}");
 }
 
@@ -289,7 +289,7 @@ fn what_a_client_began_and_did_not_end_is_not_done() {
             assert!(Instant::now() < end, "{part}: the connection does not end");
             yield_now();
         }
-        assert!(both.read().is_empty() && both.client.store.room.items() == 0, "{part}");
+        assert!(both.read().is_empty() && both.client.store.index.len() == 0, "{part}");
     }
 }
 

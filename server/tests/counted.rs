@@ -11,7 +11,7 @@ fn client() -> Client {
 }
 
 fn sums(client: &Client) -> Vec<(&'static str, u64)> {
-    client.store.counts.sums().collect()
+    client.store.books.counts.sums().collect()
 }
 
 /// Which counts this text adds one to, or so many, in the order of `stats`.

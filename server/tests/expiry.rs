@@ -1,6 +1,7 @@
 //! Times to live and delays, of each command that takes one.
 mod plain;
 use cefrodild::clock::unix_time;
+use cefrodild::counts::Count;
 use cefrodild::expire::LOOKED_AT;
 use plain::client::{Client, MEGABYTE};
 use std::time::{Duration, Instant};
@@ -176,27 +177,26 @@ fn items_that_are_dead_go_though_nobody_asks() {
     let mut client = Client::new(MEGABYTE);
     client.ask("set a 0 -1 1\n1\nset b 0 0 1\n1\nset c 0 -1 1\n1\nset d 0 100 1\n1\n");
     let store = client.store.clone();
-    assert_eq!(store.room.items(), 4);
-    store.expire();
-    assert_eq!((store.room.items(), store.room.evicted()), (2, 0));
+    assert_eq!(store.index.len(), 4);
+    client.expire();
+    assert_eq!((store.index.len(), store.books.counts.get(Count::Evicted)), (2, 0));
     assert_eq!(client.ask("get a b c d\n"), "VALUE b 0 1\n1\nVALUE d 0 1\n1\nEND\n");
-    let reclaimed = store.counts.sums().find(|(name, _)| *name == "crawler_reclaimed");
+    let reclaimed = store.books.counts.sums().find(|(name, _)| *name == "crawler_reclaimed");
     assert_eq!(reclaimed, Some(("crawler_reclaimed", 2)));
     client.ask("flush_all\n");
-    store.expire();
-    assert_eq!((store.room.items(), store.room.used()), (0, 0));
+    client.expire();
+    assert_eq!((store.index.len(), store.books.budget.used()), (0, 0));
 }
 
 #[test]
 fn a_look_for_dead_items_is_bounded_and_the_next_one_goes_on() {
     let mut client = Client::new(8 * MEGABYTE);
-    let dead = LOOKED_AT + 10;
-    (0..dead).for_each(|key| assert_eq!(client.ask(&format!("set {key} 0 -1 0\n\n")), "STORED\n"));
+    // It looks at whole chunks.
+    (0..2 * LOOKED_AT).for_each(|key| assert_eq!(client.ask(&format!("set {key} 0 -1 0\n\n")), "STORED\n"));
     client.store.expire();
-    assert_eq!(client.store.room.items(), 10);
-    client.store.expire();
-    assert_eq!(client.store.room.items(), 0);
-    assert!(client.store.queue.entries() < dead, "it forgets some");
+    assert!(client.store.index.len() > LOOKED_AT / 2);
+    client.expire();
+    assert_eq!(client.store.index.len(), 0);
 }
 
 /// The item is found dead, and gets a new value before it is removed.
@@ -206,7 +206,7 @@ fn a_new_value_is_not_taken_for_the_dead_one() {
     client.ask("set a 0 -1 1\n1\n");
     let mut other = client.beside();
     *client.control.meanwhile.lock().unwrap() = Some(Box::new(move || assert_eq!(other.ask("set a 0 0 1\n2\n"), "STORED\n")));
-    client.store.expire();
+    client.expire();
     assert!(client.control.meanwhile.lock().unwrap().is_none(), "it is about to be removed");
     assert_eq!(client.ask("get a\n"), "VALUE a 0 1\n2\nEND\n");
 }

@@ -1,9 +1,9 @@
 //! Items that have left and are not freed yet, since a thread reads: their bytes are counted and bounded. The index is the real one.
-use cefrodild::item::new_item;
-use cefrodild::objects::Objects;
+use cefrodild::books::Books;
+use cefrodild::counts::Count;
+use cefrodild::map_index::MapIndex;
 use cefrodild::options::{parse, Asked};
 use cefrodild::request::{How, Order};
-use cefrodild::room::{cost, Room};
 use cefrodild::store::{Answer, Fault, Store};
 use std::sync::atomic::{AtomicBool, Ordering::SeqCst};
 use std::sync::mpsc::channel;
@@ -15,9 +15,9 @@ const LIMIT: u64 = 1 << 20;
 
 fn store(limit: u64) -> Store {
     let Ok(Asked::Serve(options)) = parse(["-t2".to_owned()]) else { panic!("these are options") };
-    let room = Arc::new(Room::new(limit));
-    let index = Objects::open(10_000, 2, &room, None).expect("there is memory");
-    Store::new(Box::new(index), room, options)
+    let books = Arc::new(Books::new(limit, &options));
+    let index = MapIndex::open(10_000, 2, &books, None).expect("there is memory");
+    Store::new(Box::new(index), books, options)
 }
 
 fn set(store: &Store, key: &[u8], length: usize) -> Result<Answer, Fault> {
@@ -37,37 +37,14 @@ fn while_it_is_read(store: &Store, key: &[u8], meanwhile: impl Fn() + Sync) {
 fn an_item_is_counted_until_it_is_freed() {
     let store = store(LIMIT);
     assert!(matches!(set(&store, b"key", 1_000), Ok(Answer::Done(_))));
-    let bytes = store.room.used();
+    let bytes = store.books.budget.used();
     while_it_is_read(&store, b"key", || {
         assert!(store.delete(b"key", None).is_ok());
         store.index.sweep();
-        assert_eq!((store.room.used(), store.room.waiting(), store.room.items()), (0, bytes, 0));
+        assert_eq!((store.books.budget.used(), store.books.budget.waiting(), store.index.len()), (0, bytes, 0));
     });
     store.index.sweep();
-    assert_eq!((store.room.used(), store.room.waiting()), (0, 0));
-}
-
-/// The entry of the first key comes to the head of its queue when that has a new item, which has not noted it.
-#[test]
-fn an_item_does_not_give_way_while_it_is_put() {
-    let bytes = cost(3, 1_000);
-    let store = store(100 * bytes);
-    let keys: Vec<_> = (100..200).map(|number| number.to_string()).collect();
-    assert!(keys.iter().all(|key| set(&store, key.as_bytes(), 1_000).is_ok()));
-    let (first, new) = (keys[0].as_bytes(), b"new".as_slice());
-    store.room.take(bytes);
-    let next = new_item(1, 0, u64::MAX, first, &[&[b'y'; 1_000]]).expect("there is memory");
-    let put = store.index.put(store.index.hash_of(first), next, &mut |item, old| {
-        assert!(set(&store, new, 1_000).is_ok());
-        item.note_number(old.and_then(|old| old.number()));
-    });
-    assert!(put.is_ok());
-    let mut found = Vec::new();
-    store.look(&[first, new], |place, _, _| {
-        found.push(place);
-        true
-    });
-    assert_eq!((found, store.room.items()), (vec![0, 1], 99));
+    assert_eq!((store.books.budget.used(), store.books.budget.waiting()), (0, 0));
 }
 
 #[test]
@@ -85,18 +62,18 @@ fn what_waits_for_a_reader_is_bounded() {
                         refused += 1;
                     }
                 }
-                assert!(store.room.used() + store.room.waiting() <= LIMIT + LIMIT / 32);
+                assert!(store.books.budget.used() + store.books.budget.waiting() <= LIMIT + LIMIT / 32);
                 if refused > 0 {
                     break;
                 }
             }
             assert_eq!(refused, 1, "the reader has not ended");
-            assert!(store.room.waiting() > LIMIT / 2, "{}", store.room.waiting());
+            assert!(store.books.budget.waiting() > LIMIT / 2, "{}", store.books.budget.waiting());
         });
         assert!(matches!(set(&store, b"other", size), Ok(Answer::Done(_))));
-        assert!(store.room.waiting() < LIMIT / 2);
+        assert!(store.books.budget.waiting() < LIMIT / 2);
     }
-    assert_eq!(store.room.evicted(), 0, "no other item makes room for what waits");
+    assert_eq!(store.books.counts.get(Count::Evicted), 0, "no other item makes room for what waits");
 }
 
 #[test]
@@ -127,7 +104,7 @@ fn few_large_items_wait_though_nobody_reads() {
     (0..31).for_each(|key: u8| assert!(matches!(set(&store, &[key], 1 << 20), Ok(Answer::Done(_)))));
     for key in 0..20_000_u32 {
         assert!(matches!(set(&store, &key.to_be_bytes(), 1_000), Ok(Answer::Done(_))));
-        assert!(store.room.waiting() <= 32 * LIMIT / 128 + (1 << 20) + 100, "{key} {}", store.room.waiting());
+        assert!(store.books.budget.waiting() <= 32 * LIMIT / 128 + (1 << 20) + 100, "{key} {}", store.books.budget.waiting());
     }
-    assert!(store.room.evicted() >= 20);
+    assert!(store.books.counts.get(Count::Evicted) >= 20);
 }

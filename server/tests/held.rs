@@ -79,7 +79,7 @@ fn a_client_that_reads_late_holds_no_copy() {
         both.stream.write_all(b"get k\r\nget k\r\nmg k v\r\n").expect("it takes commands");
         assert_eq!(both.turn(&client), Next::Event);
     }
-    assert!(client.store.seats.bytes() < 100 * 1_000, "{}", client.store.seats.bytes());
+    assert!(client.store.books.budget.buffers() < 100 * 1_000, "{}", client.store.books.budget.buffers());
     let all = format!("{answer}{answer}{}", answer.replace("VALUE k 0", "VA").replace("\r\nEND", ""));
     assert!(late.iter_mut().all(|both| both.read(&client) == all.as_bytes()));
 }
@@ -96,9 +96,9 @@ fn what_is_sent_stays_when_its_key_has_another_value() {
         }
         let block = if change.contains("20000") { "x".repeat(20_000) + "\n" } else { String::new() };
         client.ask(&format!("{change}{block}"));
-        assert!((1_000_000..1_001_000).contains(&client.store.seats.bytes()), "the item is the clients' now");
+        assert!((1_000_000..1_001_000).contains(&client.store.books.budget.buffers()), "the item is the clients' now");
         assert!(late.read(&client) == answer.as_bytes() && later.read(&client) == answer.as_bytes());
-        assert_eq!(client.store.seats.bytes(), 0, "{change}");
+        assert_eq!(client.store.books.budget.buffers(), 0, "{change}");
     }
 }
 
@@ -116,7 +116,7 @@ fn a_value_that_never_ends_is_refused_and_its_client_stays() {
         assert_eq!(honest.ask(&client, &[&[b'x'; 4_995][..], b"\r\n"].concat()), b"STORED\r\n");
         // A worker wakes for those that are to be cut off.
         stalled.iter_mut().for_each(|both| assert_eq!(both.turn(&client), Next::Event));
-        assert!(client.store.seats.bytes() < 9 * MEGABYTE as u64, "{}", client.store.seats.bytes());
+        assert!(client.store.books.budget.buffers() < 9 * MEGABYTE as u64, "{}", client.store.books.budget.buffers());
     }
     let mut stored = 0;
     for both in &mut stalled {
@@ -189,5 +189,5 @@ fn who_keeps_items_that_have_left_is_cut_off() {
     let nexts: Vec<_> = late.iter_mut().map(|both| both.turn(&client)).collect();
     assert_eq!(nexts.iter().filter(|next| **next == Next::Nothing).count(), 4, "8 MB may be kept: {nexts:?}");
     drop(late);
-    assert_eq!(client.store.seats.bytes(), 0);
+    assert_eq!(client.store.books.budget.buffers(), 0);
 }

@@ -16,7 +16,6 @@ fn each_item_is_listed_once() {
     let mut client = Client::new(MEGABYTE);
     assert_eq!(list(&mut client, "stats cachedump 1 0"), [""; 0]);
     client.ask("set a 0 0 1\n1\nset b 7 0 0\n\nset c 0 0 3\n123\nset a 0 0 2\n12\ndelete c\nget a b\n");
-    // It has an old entry in the queue, too.
     client.ask("delete b\nset b 7 0 0\n\n");
     assert_eq!(list(&mut client, "stats cachedump 1 0"), ["ITEM a [2 b; 0 s]", "ITEM b [0 b; 0 s]"]);
     assert_eq!(list(&mut client, "stats cachedump 1 0 more"), ["ITEM a [2 b; 0 s]", "ITEM b [0 b; 0 s]"]);
@@ -25,6 +24,18 @@ fn each_item_is_listed_once() {
     for class in [0, 2, 63] {
         assert_eq!(list(&mut client, &format!("stats cachedump {class} 0")), [""; 0]);
     }
+}
+
+#[test]
+fn items_of_all_sizes_are_listed() {
+    let (mut client, sizes) = (Client::new(8 * MEGABYTE), [0, 10, 900, 1_000, 20_000, 1_000_000]);
+    for size in sizes {
+        assert_eq!(client.ask(&format!("set {size:07} 0 0 {size}\n{}\n", "x".repeat(size))), "STORED\n");
+    }
+    assert_eq!(list(&mut client, "stats cachedump 1 0"), sizes.map(|size| format!("ITEM {size:07} [{size} b; 0 s]")));
+    sizes.iter().for_each(|size| assert_eq!(client.ask(&format!("touch {size:07} -1\n")), "TOUCHED\n"));
+    client.expire();
+    assert_eq!(client.store.index.len(), 0);
 }
 
 #[test]
@@ -69,7 +80,7 @@ fn crawl(client: &mut Client, classes: &str) -> Vec<String> {
 fn a_crawler_s_list() {
     let mut client = Client::new(MEGABYTE);
     client.ask("set a 5 0 3\nabc\nset b%c 0 0 1\n1\nset gone 0 -1 1\n1\nset \u{e4}-._~ 0 0 1\n1\nget a\n");
-    let size = |key: usize, value: usize| 27 + key + value;
+    let size = |key: usize, value: usize| 26 + key + value;
     let all = [
         format!("key=%C3%A4-._~ exp=-1 cas=4 fetch=no cls=1 size={}", size(6, 1)),
         format!("key=a exp=-1 cas=1 fetch=yes cls=1 size={}", size(1, 3).max(32)),

@@ -1,9 +1,11 @@
 //! What the index writes into the log: each change and each answer, in order.
 use cefrodild::audit::{digest, Audit};
-use cefrodild::index::{Index, Outcome, Stamp};
+use cefrodild::books::Books;
+use cefrodild::counts::Count;
+use cefrodild::index::{Index, Refused};
 use cefrodild::item::{new_item, NewItem};
-use cefrodild::objects::Objects;
-use cefrodild::room::Room;
+use cefrodild::map_index::MapIndex;
+use cefrodild::options::Options;
 use std::fs;
 use std::path::PathBuf;
 use std::process::id;
@@ -11,9 +13,9 @@ use std::sync::Arc;
 
 /// An index with a log, and the path of that.
 struct Logged {
-    objects: Objects,
+    index: MapIndex,
     log: Arc<Audit>,
-    room: Arc<Room>,
+    books: Arc<Books>,
     path: PathBuf,
 }
 
@@ -27,15 +29,14 @@ fn item(key: &[u8], flags: u32) -> NewItem {
 impl Logged {
     fn new(test: &str, items: usize) -> Logged {
         let path = std::env::temp_dir().join(format!("cefrodild-{}-{test}", id()));
-        let (room, log) =
-            (Arc::new(Room::new(0)), Arc::new(Audit::create(path.to_str().expect("it is text")).expect("it can be made")));
-        let objects = Objects::open(items, 1, &room, Some(Arc::clone(&log))).expect("there is memory");
-        Logged { objects, log, room, path }
+        let log = Arc::new(Audit::create(path.to_str().expect("it is text")).expect("it can be made"));
+        let books = Arc::new(Books::new(0, &Options::default()));
+        let index = MapIndex::open(items, 1, &books, Some(Arc::clone(&log))).expect("there is memory");
+        Logged { index, log, books, path }
     }
 
     fn put(&self, key: &[u8], flags: u32) -> u64 {
-        self.room.take(0);
-        self.objects.put(self.objects.hash_of(key), item(key, flags), &mut |_, _| {}).expect("there is room")
+        self.index.put(self.index.hash_of(key), item(key, flags)).expect("there is room")
     }
 
     /// The lines but for the head. This ends the log.
@@ -55,22 +56,22 @@ impl Logged {
 #[test]
 fn each_call_has_its_line() {
     let logged = Logged::new("calls", 100);
-    let (objects, room, key) = (&logged.objects, &logged.room, b"key".as_slice());
-    let hash = objects.hash_of(key);
-    let look = || objects.look(&[key], &mut |_, seen| assert!(seen.is_ok()));
+    let (index, key) = (&logged.index, b"key".as_slice());
+    let hash = index.hash_of(key);
+    let look = || index.look(&[key], &mut |_, seen| assert!(seen.is_ok()));
     look();
     let first = logged.put(key, 1);
     look();
-    room.take(0);
-    let Ok(Outcome::Done(second)) = objects.put_if(first, item(key, 2)) else { panic!("it has this token") };
-    objects.look_hash(hash, &mut |seen| assert!(seen.is_ok()));
-    let Ok(Outcome::Done(third)) = objects.remove_if(key, second) else { panic!("it has this token") };
-    assert_eq!(objects.remove_if(key, second), Ok(Outcome::Absent));
-    assert_eq!(objects.remove_stamped(Stamp { hash, token: second }), Ok(Outcome::Absent));
-    assert_eq!(objects.put_if(second, item(key, 3)), Ok(Outcome::Absent));
-    room.take(0);
-    let Ok(Outcome::Done(fourth)) = objects.put_new(item(key, 4)) else { panic!("it was absent") };
-    let Ok(Outcome::Done(fifth)) = objects.remove_stamped(Stamp { hash, token: fourth }) else { panic!("it has this token") };
+    let second = index.put_if(first, item(key, 2)).expect("it has this token");
+    look();
+    let third = index.remove(hash, second).expect("it has this token");
+    assert_eq!(index.remove(hash, second), Err(Refused::Absent));
+    assert_eq!(index.put_if(second, item(key, 3)), Err(Refused::Absent));
+    let fourth = index.put_new(item(key, 4)).expect("it was absent");
+    let mut evicted = None;
+    assert!(index.evict(hash, &mut |item| evicted = Some(item.flags)) && evicted == Some(4));
+    assert!(!index.evict(hash, &mut |_| panic!("there is none")));
+    let fifth = fourth + 1;
     let line = |kind: &str, at, more: &[u64]| (kind.to_owned(), at, more.to_vec());
     let digest = |flags| digest(&item(key, flags));
     let expected = [
@@ -82,9 +83,8 @@ fn each_call_has_its_line() {
         line("remove", third, &[hash]),
         line("absent", third, &[hash]),
         line("absent", third, &[hash]),
-        line("absent", third, &[hash]),
         line("put", fourth, &[hash, digest(4)]),
-        line("remove", fifth, &[hash]),
+        line("evict", fifth, &[hash]),
     ];
     assert_eq!(logged.lines(), expected);
 }
@@ -92,11 +92,11 @@ fn each_call_has_its_line() {
 #[test]
 fn each_eviction_has_its_line() {
     let logged = Logged::new("evictions", 100);
-    let keys = 2 * logged.objects.capacity();
+    let keys = 2 * logged.index.capacity();
     for number in 0..keys {
         logged.put(number.to_string().as_bytes(), 1);
     }
-    let (evicted, lines) = (logged.room.evicted(), logged.lines());
+    let (evicted, lines) = (logged.books.counts.get(Count::Evicted), logged.lines());
     let evictions = lines.iter().filter(|(kind, ..)| kind == "evict").count();
     assert!(evicted > 0);
     assert_eq!((evictions as u64, lines.len()), (evicted, keys + evictions));
@@ -108,9 +108,9 @@ fn each_eviction_has_its_line() {
 fn what_changed_nothing_is_not_in_the_log() {
     let logged = Logged::new("nothing", 100);
     let token = logged.put(b"key", 1);
-    assert_eq!(logged.objects.put_new(item(b"key", 2)), Ok(Outcome::Changed));
-    assert_eq!(logged.objects.put_if(token + 1, item(b"key", 2)), Ok(Outcome::Changed));
-    assert_eq!(logged.objects.remove_if(b"key", token + 1), Ok(Outcome::Changed));
+    assert_eq!(logged.index.put_new(item(b"key", 2)), Err(Refused::Changed));
+    assert_eq!(logged.index.put_if(token + 1, item(b"key", 2)), Err(Refused::Changed));
+    assert_eq!(logged.index.remove(logged.index.hash_of(b"key"), token + 1), Err(Refused::Changed));
     let lines = logged.lines();
     assert_eq!(lines.iter().map(|(kind, ..)| kind.as_str()).collect::<Vec<_>>(), ["put"]);
 }

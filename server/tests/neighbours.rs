@@ -1,10 +1,10 @@
-//! If the process exceeds its ceiling, items give way with their neighbours. It is the only test of its process, whose memory it looks at.
-use cefrodild::ceiling::Ceiling;
-use cefrodild::objects::Objects;
+//! If the process exceeds its limit, items give way with their neighbours. It is the only test of its process, whose memory it looks at.
+use cefrodild::books::Books;
+use cefrodild::counts::Count;
+use cefrodild::map_index::MapIndex;
 use cefrodild::options::{parse, Asked};
-use cefrodild::queue::Line;
 use cefrodild::request::{How, Order};
-use cefrodild::room::Room;
+use cefrodild::rss_limit::RssLimit;
 use cefrodild::slabs;
 use cefrodild::store::{Answer, Store};
 use std::mem::forget;
@@ -14,16 +14,19 @@ const MEGABYTE: u64 = 1 << 20;
 const SMALL: usize = 500;
 const LARGE: usize = 1_000_000;
 
-/// A store whose items keep two megabytes, since the process exceeds its ceiling all the time.
+/// A store whose items keep two megabytes, since the process exceeds its limit all the time.
 fn store() -> Store {
     let Ok(Asked::Serve(options)) = parse(["-t1".to_owned()]) else { panic!("these are options") };
-    let room = Arc::new(Room::new(0));
-    let index = Objects::open(10_000, 1, &room, None).expect("there is memory");
-    let taken = (1 << 40) - Ceiling::new(1 << 40).expect("the system tells").room();
-    let ceiling = Ceiling::new(taken + 16 * MEGABYTE).expect("the system tells");
-    room.set_limit(ceiling.room());
-    forget(ceiling.expect(1 << 40));
-    Store::new(Box::new(index), room, options).below(ceiling)
+    let books = Arc::new(Books::new(0, &options));
+    let index = MapIndex::open(10_000, 1, &books, None).expect("there is memory");
+    let taken = RssLimit::new(0).and_then(|limit| limit.resident()).expect("the system tells");
+    books.budget.bound_process(taken + 16 * MEGABYTE).expect("the system tells");
+    let mut claim = books.budget.claim(1 << 40);
+    claim.expect();
+    forget(claim);
+    books.budget.leave(1 << 40);
+    books.budget.free(1 << 40);
+    Store::new(Box::new(index), books, options)
 }
 
 fn send(store: &Store, how: How, key: &[u8], length: usize) {
@@ -47,12 +50,13 @@ fn an_old_value_stays_while_its_neighbours_give_way() {
     let keys: Vec<[u8; 4]> = (0..500_u32).map(u32::to_le_bytes).collect();
     keys.iter().for_each(|key| send(&store, How::Set, key, SMALL));
     send(&store, How::Set, b"large", LARGE - SMALL);
-    assert_eq!(store.room.evicted(), 0);
+    assert_eq!(store.books.counts.get(Count::Evicted), 0);
     // There is no room for two large items. The first small ones lie beside this one.
     send(&store, How::Append, &keys[0], LARGE - 100_000);
-    assert!(store.room.evicted() > 5);
-    assert_eq!([0, 1, 2, 499].map(|place| has(&store, &keys[place])), [true, false, false, true]);
-    // What gave way for its place comes back to the main queue. Not all is remembered.
-    let comes_back = |key: &[u8]| store.queue.line_of_new(store.index.hash_of(key)) == Line::Main;
-    assert!(keys.iter().filter(|key| !has(&store, *key) && comes_back(*key)).count() > 50 && !comes_back(b"new"));
+    let evicted = store.books.counts.get(Count::Evicted) as usize;
+    assert!(evicted > 60 && has(&store, &keys[0]), "what was changed stays");
+    // Items that were stored one after the other lie in one chunk, and go together.
+    let gone: Vec<bool> = keys.iter().map(|key| !has(&store, key)).collect();
+    let ends = gone.windows(2).filter(|pair| pair[0] != pair[1]).count();
+    assert!(ends < evicted / 8, "{ends} ends of rows of {evicted} items");
 }

@@ -78,7 +78,6 @@ fn faults() {
         ("-hx", "-hx takes no value"),
         ("-A x", "'-A'"),
         ("-Q", "'-Q'"),
-        ("--one-queue=1", "--one-queue=1 takes no value"),
         ("-\u{e9}", "'-\u{e9}'"),
         ("-n 1000000", "half of the memory"),
         ("-m 1048576 -n 768000001", "768000000"),
@@ -279,7 +278,7 @@ fn a_value_may_have_any_sign_in_it() {
 
 #[test]
 fn the_help_tells_the_values_of_options_that_are_not_there() {
-    let Options { listen, threads, memory, items, connections, longest, one_queue, audit, .. } = options("");
+    let Options { listen, threads, memory, items, connections, longest, audit, .. } = options("");
     let [Place::Host(host, port)] = &listen[..] else { panic!("{listen:?}") };
     let told = [
         ("--port=", format!("({port}; 0")),
@@ -294,5 +293,5 @@ fn the_help_tells_the_values_of_options_that_are_not_there() {
         let line = HELP.lines().find(|line| line.contains(name)).expect(name);
         assert!(line.contains(&value), "{line}: {value}");
     }
-    assert_eq!((audit, one_queue, options("--one-queue").one_queue), (None, false, true));
+    assert_eq!(audit, None);
 }

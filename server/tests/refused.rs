@@ -1,11 +1,11 @@
 //! Memory that the system refuses: each allocation in turn, and all for a while. Clients get an error or are cut off, and the server goes on. The index is the
 //! real one.
+use cefrodild::books::Books;
 use cefrodild::connection::{warm_up, Connection, Next};
 use cefrodild::listen::Stream;
+use cefrodild::map_index::MapIndex;
 use cefrodild::memory::Spare;
-use cefrodild::objects::Objects;
 use cefrodild::options::{parse, Asked};
-use cefrodild::room::Room;
 use cefrodild::slabs;
 use cefrodild::store::Store;
 use cefrodild::worker::Worker;
@@ -62,9 +62,9 @@ const LIMIT: u64 = 1 << 20;
 
 fn store() -> Store {
     let Ok(Asked::Serve(options)) = parse(["-t1".to_owned()]) else { panic!("these are options") };
-    let room = Arc::new(Room::new(LIMIT));
-    let index = Objects::open(10_000, 1, &room, None).expect("there is memory");
-    Store::new(Box::new(index), room, options)
+    let books = Arc::new(Books::new(LIMIT, &options));
+    let index = MapIndex::open(10_000, 1, &books, None).expect("there is memory");
+    Store::new(Box::new(index), books, options)
 }
 
 /// Makes a call, of whose allocations so many succeed and so many are refused then. Returns whether some were.
@@ -198,7 +198,7 @@ fn assert_well(store: &Store, ordinary: &[Step]) {
         let length = client.ask(store, command, &mut room).expect("it goes on");
         assert!(room[..length] == answer[..]);
     }
-    assert!(store.seats.bytes() == 0, "{}", store.seats.bytes());
+    assert!(store.books.budget.buffers() == 0, "{}", store.books.budget.buffers());
 }
 
 /// One test at a time: what has left the index and is held is counted for the process.

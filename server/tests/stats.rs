@@ -1,8 +1,8 @@
 //! What `stats` counts.
 mod plain;
+use cefrodild::budget::cost;
 use cefrodild::clock::unix_time;
 use cefrodild::counts::{take_place, Count, Counts};
-use cefrodild::room::cost;
 use plain::client::{Client, MEGABYTE};
 use std::process;
 use std::sync::atomic::Ordering::SeqCst;
@@ -145,7 +145,8 @@ fn the_process_and_its_time() {
     assert!((before..=unix_time()).contains(&answer.parse().expect("a number")), "{answer}");
     let version = client.ask("version\n").trim_end().replace("VERSION ", "");
     assert_eq!(stats(&mut client, "", "pid version pointer_size"), format!("{} {version} {}", process::id(), usize::BITS));
-    let (before, answer, after) = (client.store.clock.uptime(), stats(&mut client, "", "uptime"), client.store.clock.uptime());
+    let (before, answer, after) =
+        (client.store.books.clock.uptime(), stats(&mut client, "", "uptime"), client.store.books.clock.uptime());
     assert!((before..=after).contains(&answer.parse().expect("a number")), "{answer}");
 }
 
@@ -185,6 +186,17 @@ fn the_class_of_all_items() {
 }
 
 #[test]
+fn the_age_of_the_oldest_item() {
+    let mut client = Client::new(MEGABYTE);
+    client.ask("set a 0 0 1\n1\n");
+    thread::sleep(Duration::from_millis(1_100));
+    client.ask("set b 0 0 1\n1\n");
+    client.expire();
+    let age: u64 = stats(&mut client, "items", "items:1:age").parse().expect("a number");
+    assert!((1..10).contains(&age), "{age}");
+}
+
+#[test]
 fn lookups_of_items_that_are_not_live() {
     let mut client = Client::new(MEGABYTE);
     client.ask("set a 0 -1 1\n1\nset b 0 0 1\n1\nset c 0 -1 1\n1\nget a b x\n");
@@ -218,11 +230,10 @@ fn connections_are_always_accepted() {
 fn items_that_went_by_themselves() {
     const NAMES: &str = "evictions evicted_unfetched reclaimed expired_unfetched crawler_reclaimed";
     let mut client = Client::new(2 * cost(1, 10) as usize);
-    client.ask("set a 0 0 10\n1234567890\nset b 0 0 10\n1234567890\nget a\nset c 0 0 10\n1234567890\n");
-    assert_eq!(stats(&mut client, "", NAMES), "1 1 0 0 0", "b was never read");
+    client.ask("set a 0 0 10\n1234567890\nset b 0 0 10\n1234567890\nget b\nset c 0 0 10\n1234567890\n");
+    assert_eq!(stats(&mut client, "", NAMES), "1 1 0 0 0", "a was never read");
     client.ask("get c\nset d 0 0 10\n1234567890\n");
-    let before = stats(&mut client, "", NAMES);
-    assert!(before.starts_with("2 "), "{before}");
+    assert_eq!(stats(&mut client, "", NAMES), "2 1 0 0 0", "b was read");
     client.ask("stats reset\n");
     assert_eq!(stats(&mut client, "", NAMES), "0 0 0 0 0");
 }
@@ -235,7 +246,7 @@ fn expired_items_that_gave_way_were_not_evicted() {
     assert_eq!(stats(&mut client, "", NAMES), "0 0 1 1 0");
     let mut client = Client::new(MEGABYTE);
     client.ask("set a 0 -1 1\n1\nset b 0 100 1\n1\nget b\ntouch b -1\nset c 0 0 1\n1\n");
-    client.store.expire();
+    client.expire();
     assert_eq!(stats(&mut client, "", NAMES), "0 0 0 1 2", "b was read once");
 }
 
@@ -244,7 +255,7 @@ fn a_reset_keeps_what_is_there() {
     let mut client = Client::new(MEGABYTE);
     assert_eq!(client.ask("set a 0 0 1\n1\nget a b\nstats reset\n").lines().last(), Some("RESET"));
     assert_eq!(stats(&mut client, "", "cmd_get get_hits get_misses cmd_set curr_items"), "0 0 0 0 1");
-    assert!(client.store.counts.sums().all(|(_, sum)| sum == 0));
+    assert!(client.store.books.counts.sums().all(|(_, sum)| sum == 0));
 }
 
 #[test]

@@ -1,8 +1,8 @@
 //! Commands of several threads at once, over a plain index.
 mod plain;
+use cefrodild::books::Books;
 use cefrodild::options::{parse, Asked};
 use cefrodild::request::{Change, How, Order};
-use cefrodild::room::Room;
 use cefrodild::store::{Answer, Changed, Store};
 use plain::Plain;
 use std::sync::atomic::{AtomicBool, Ordering::SeqCst};
@@ -14,8 +14,8 @@ const NEVER: u64 = u64::MAX;
 
 fn store() -> Store {
     let Ok(Asked::Serve(options)) = parse(["-t4".to_owned()]) else { panic!("these are options") };
-    let room = Arc::new(Room::new(1 << 20));
-    Store::new(Box::new(Plain::new(&room, &Arc::default())), room, options)
+    let books = Arc::new(Books::new(1 << 20, &options));
+    Store::new(Box::new(Plain::new(&books, &Arc::default())), books, options)
 }
 
 fn set(how: How) -> Order<'static> {

@@ -1,6 +1,7 @@
 //! The clock, deadlines, and what a flush hits.
 use cefrodild::clock::{unix_time, Clock, NEVER};
-use cefrodild::item::{new_item, Flushes, NewItem};
+use cefrodild::flushes::Flushes;
+use cefrodild::item::{new_item, NewItem};
 use std::sync::atomic::{AtomicU64, Ordering::SeqCst};
 use std::thread;
 use std::time::{Duration, Instant, SystemTime, UNIX_EPOCH};

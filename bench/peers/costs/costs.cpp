@@ -1,8 +1,7 @@
 // What a call of a map of C++ costs, for valgrind's callgrind: values of 32 bytes in a map for 1,000 entries. Run it for a smaller and a larger number
 // of calls, and divide what the second run has more.
 //
-// usage: costs KIND CALLS CACHE [full]     KIND: hit, miss, over (a put over a value) or new; CACHE: 1, or 2 with a small table; objects of the index
-// alone, or objects+ with a small queue; full: the map is full
+// usage: costs KIND CALLS CACHE [full]     KIND: hit, miss, over (a put over a value) or new; CACHE: values or objects; full: the map is full
 #include "cefrodil_object_map.hpp"
 #include <cstdio>
 #include <cstdlib>
@@ -47,10 +46,8 @@ template <class Any> void fill(Any &map, bool is_full) {
     }
 }
 
-template <class Any> int costs(Any &&map, bool is_small, char kind, uint64_t calls, bool is_full) {
-    cefrodil::MapOptions options{1000};
-    options.small_table = is_small;
-    if (map.open(options) != cefrodil::Status::ok) {
+template <class Any> int costs(Any &&map, char kind, uint64_t calls, bool is_full) {
+    if (map.open({1000}) != cefrodil::Status::ok) {
         return 1;
     }
     fill(map, is_full);
@@ -69,5 +66,5 @@ int main(int argc, char **argv) {
     const std::string cache = argv[3];
     const uint64_t calls = std::strtoull(argv[2], nullptr, 10);
     const bool is_full = argc == 5;
-    return cache == "1" || cache == "2" ? costs(Map(), cache == "2", *argv[1], calls, is_full) : costs(Objects(), cache == "objects+", *argv[1], calls, is_full);
+    return cache == "values" ? costs(Map(), *argv[1], calls, is_full) : costs(Objects(), *argv[1], calls, is_full);
 }

@@ -1,7 +1,6 @@
 // How many lookups find their key in a map of C++, for `bench/map_hits.py`: the same work as in src/main.rs.
 //
-// usage: ratio CAPACITY CACHE     CACHE: map, or map+ with a small table; objects by their number with the index alone, or objects+; weights by their
-// weight with one ring, or weights+. It prints a line of 0 and 1: which lookups hit.
+// usage: ratio CAPACITY CACHE     CACHE: map; objects by their number; or weights by their weight. It prints a line of 0 and 1: which lookups hit.
 #include "cefrodil_object_map.hpp"
 #include <cstdio>
 #include <cstdlib>
@@ -35,29 +34,25 @@ template <class Map> void look_all_up(Map &map) {
     std::puts(hits.c_str());
 }
 
-// One shard, so that the map has room for as many entries as were asked for. A small table is a tenth of the main one.
-static int of_map(uint32_t capacity, bool is_small) {
-    cefrodil::MapOptions options{is_small ? capacity * 10 / 11 : capacity, 1, 2};
-    options.small_table = is_small;
+// One shard, so that the map has room for as many entries as were asked for.
+static int of_map(uint32_t capacity) {
     cefrodil::map<uint64_t, uint64_t> map;
-    if (map.open(options) != Status::ok || map.capacity() > capacity || map.capacity() + 1 < capacity) {
+    if (map.open({capacity, 1, 2}) != Status::ok || map.capacity() != capacity) {
         return 1;
     }
     look_all_up(map);
     return 0;
 }
 // If it is bounded by weight alone, its index has room for more.
-static int of_objects(uint32_t capacity, bool is_small, bool is_weighed) {
+static int of_objects(uint32_t capacity, bool is_weighed) {
     using Map = cefrodil::object_map<uint64_t, uint64_t>;
-    cefrodil::MapOptions options{is_weighed ? 2 * capacity : capacity, 1, 2};
-    options.small_table = is_small;
     Map::Rules rules;
     if (is_weighed) {
         rules.weigher = [](const uint64_t &, const uint64_t &) { return uint64_t(1); };
         rules.most_weight = capacity;
     }
     Map map;
-    if (map.open(options, std::move(rules)) != Status::ok) {
+    if (map.open({is_weighed ? 2 * capacity : capacity, 1, 2}, std::move(rules)) != Status::ok) {
         return 1;
     }
     look_all_up(map);
@@ -69,8 +64,6 @@ int main(int argc, char **argv) {
         return 2;
     }
     const auto capacity = static_cast<uint32_t>(std::strtoul(argv[1], nullptr, 10));
-    std::string cache = argv[2];
-    const bool is_small = cache.back() == '+';
-    cache.resize(cache.size() - is_small);
-    return cache == "map" ? of_map(capacity, is_small) : of_objects(capacity, is_small, cache == "weights");
+    const std::string cache = argv[2];
+    return cache == "map" ? of_map(capacity) : of_objects(capacity, cache == "weights");
 }

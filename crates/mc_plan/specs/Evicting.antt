@@ -46,10 +46,10 @@ pub record ReadsAllTwice (sh : Shape) (w : List ℕ) (rs : List Swept) : Type 0 
   pub first_round : ReadsAll sh w first
   pub second_round : ReadsAll sh w second
 
--- a search that found no clear bit is whole: CLOCK has read each item in use twice, and else there are twice as many readings as items
-abbrev pub IsWholeSearch : Policy → Shape → List ℕ → List Swept → Type 0
-IsWholeSearch Clock sh w rs = ReadsAllTwice sh w rs
-IsWholeSearch ScanResistant sh w rs = length rs ≡ 2 * sh.items
+-- a search among this many keys that found no clear bit is whole: CLOCK has read each item in use twice, and else there are twice as many readings as keys
+abbrev pub IsWholeSearch : Policy → ℕ → Shape → List ℕ → List Swept → Type 0
+IsWholeSearch Clock keys sh w rs = ReadsAllTwice sh w rs
+IsWholeSearch ScanResistant keys sh w rs = length rs ≡ 2 * keys
 
 -- the key stands at the item, in this slot, and has these parts
 pub record IsVictim (V : ℕ) (books : Books) (s : State V) (item : ℕ) (r : Victim) : Type 0 where

@@ -10,9 +10,9 @@ use Rattle.mc_search.specs.declared.choice.Choice.{Choice}
 use Rattle.mc_search.specs.declared.pick.Pick.{Pick}
 
 -- one reading more
-pub pick_push : (c d : Choice) (p q : Pick) (rs : List Swept) (i bit : ℕ) → HasPicked c p rs → victim_of rs ≡ None → IsInUse c i → ((j : ℕ) → IsInUse d j ↔ IsInUse c j) → d.items ≡ c.items
+pub pick_push : (c d : Choice) (p q : Pick) (rs : List Swept) (i bit : ℕ) → HasPicked c p rs → victim_of rs ≡ None → IsInUse c i → ((j : ℕ) → IsInUse d j ↔ IsInUse c j) → d.items ≡ c.items → q.items ≡ p.items
     → q.left + 1 ≡ p.left → q.victim ≡ cond (eqb bit 0) (Some i) None → HasPicked d q (rs ++ record { item = i; bit = bit } ∷ [])
-pick_push c d p q rs i bit has none used same items left found =
+pick_push c d p q rs i bit has none used same items most left found =
     let r : Swept = record { item = i; bit = bit } in
     let many = length_push rs r in
     let was = has.left in
@@ -26,6 +26,7 @@ pick_push c d p q rs i bit has none used same items left found =
       marked = λ n e l is.
           let before : n < length rs = omega arith in
           all_marked rs none n e before (sym (ap (λ (x : Swept). x.bit) (get_or_append_left rs (r ∷ []) e n before)) ∙ is);
-      left = omega (arith, was, many, left, items);
+      left = omega (arith, was, many, left, most);
+      few = omega (arith, has.few, most, items);
       found = found ∙ sym (victim_push rs r none);
     }

@@ -7,7 +7,7 @@ use Rattle.mc_search.specs.declared.choice.Choice.{Choice}
 abbrev pub IsInUse : Choice → ℕ → Type 0
 IsInUse c i = (bit_in c.fresh i ≡ 1) ⊎ (bit_in c.proven i ≡ 1)
 
--- no item is both, and both hands are at an item
+-- no item is both, both hands are at an item, and there are as many places for notes as items
 pub record IsChoice (c : Choice) : Type 0 where
   pub fresh : IsItemSet c.fresh
   pub proven : IsItemSet c.proven
@@ -16,4 +16,5 @@ pub record IsChoice (c : Choice) : Type 0 where
   pub apart : (i : ℕ) → bit_in c.fresh i ≡ 1 → bit_in c.proven i ≡ 1 → ⊥
   pub fresh_hand : c.fresh_hand < c.items
   pub proven_hand : c.proven_hand < c.items
-  pub noted : 0 < length c.notes.items
+  pub noted : length c.notes.items ≡ c.items
+  pub some : 0 < c.items

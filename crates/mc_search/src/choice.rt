@@ -1,5 +1,5 @@
 //! Which items are in use, and which of them gives way. An item is new until its bit is found set, or if its key had given way lately. Then it
-//! is proven. A new item gives way, unless more than nine in ten are proven.
+//! is proven. A new item gives way, unless more than nine in ten of those in use are proven.
 ghost use Rattle.std.specs.Prelude.{ℕ, ◌≡◌, ◌≢◌, ◌^◌, ◌<◌, ◌≤◌, ◌↔◌, ◌⊎◌, IfOk, MatchOption, length};
 
 use crate::item_set::ItemSet;
@@ -11,16 +11,15 @@ pub struct Choice {
     items: u32,
     fresh: ItemSet,
     proven: ItemSet,
-    /// While no more than these are proven, a new item gives way.
-    most_proven: u32,
     fresh_hand: u32,
     proven_hand: u32,
-    /// Fingerprints of keys: as many places as the least power of two that isn't below the number of items.
+    /// Fingerprints of keys: as many places as items.
     notes: Vec<u16>,
 }
 
 impl Choice {
     ghost use Rattle.mc_search.specs.Choices.{IsChoice, IsInUse};
+    ghost use Rattle.mc_search.specs.ItemSets.{bit_in};
 
     /// No item is in use. Condition: there are items, and fewer than 2^31.
     pub(crate) fn new(alloc: Global, items: u32) -> Result<Choice, AllocError>
@@ -32,12 +31,11 @@ impl Choice {
     {
         let fresh = ItemSet::new(alloc, items)?;
         let proven = ItemSet::new(alloc, items)?;
-        let notes = vec![in alloc; 0u16; (items as usize).next_power_of_two()]?;
+        let notes = vec![in alloc; 0u16; items as usize]?;
         Ok(Choice {
             items,
             fresh,
             proven,
-            most_proven: items - (items / 10).max(1),
             fresh_hand: 0,
             proven_hand: 0,
             notes,
@@ -54,12 +52,59 @@ impl Choice {
         ensures items { self.new.items ≡ self.old.items }
         ensures takes { (j : ℕ) → IsInUse self.new j ↔ (IsInUse self.old j ⊎ (j ≡ item)) }
     {
-        let place = place_of(&self.notes, mixed);
-        if self.notes[place] == print_of(mixed) {
-            self.notes[place] = 0;
+        if self.take_note(mixed) {
             self.proven.add(item);
             return;
         }
+        self.fresh.add(item);
+    }
+
+    // Whether the key is noted. Its note is cleared.
+    fn take_note(&mut self, mixed: u64) -> bool
+        requires kept { IsChoice self.old }
+        ensures kept { IsChoice self.new }
+        ensures items { self.new.items ≡ self.old.items }
+        ensures sets { (self.new.fresh ≡ self.old.fresh) × (self.new.proven ≡ self.old.proven) }
+    {
+        let place = place_of(&self.notes, mixed);
+        let is_noted = self.notes[place] == print_of(mixed);
+        if is_noted {
+            self.notes[place] = 0;
+        }
+        is_noted
+    }
+
+    fn write_note(&mut self, mixed: u64)
+        requires kept { IsChoice self.old }
+        ensures kept { IsChoice self.new }
+        ensures items { self.new.items ≡ self.old.items }
+        ensures sets { (self.new.fresh ≡ self.old.fresh) × (self.new.proven ≡ self.old.proven) }
+    {
+        let place = place_of(&self.notes, mixed);
+        self.notes[place] = print_of(mixed);
+    }
+
+    // A new item is proven from now on.
+    fn prove(&mut self, item: u32)
+        requires kept { IsChoice self.old }
+        requires fresh { bit_in self.old.fresh item ≡ 1 }
+        ensures kept { IsChoice self.new }
+        ensures items { self.new.items ≡ self.old.items }
+        ensures same { (j : ℕ) → IsInUse self.new j ↔ IsInUse self.old j }
+    {
+        self.fresh.remove(item);
+        self.proven.add(item);
+    }
+
+    // A proven item is new again.
+    fn renew(&mut self, item: u32)
+        requires kept { IsChoice self.old }
+        requires proven { bit_in self.old.proven item ≡ 1 }
+        ensures kept { IsChoice self.new }
+        ensures items { self.new.items ≡ self.old.items }
+        ensures same { (j : ℕ) → IsInUse self.new j ↔ IsInUse self.old j }
+    {
+        self.proven.remove(item);
         self.fresh.add(item);
     }
 
@@ -71,7 +116,8 @@ impl Choice {
         ensures items { self.new.items ≡ self.old.items }
         ensures takes { (j : ℕ) → IsInUse self.new j ↔ (IsInUse self.old j × (j ≢ item)) }
     {
-        if self.proven.has(item) {
+        let is_proven = self.proven.has(item);
+        if is_proven {
             self.proven.remove(item);
             return;
         }
@@ -86,11 +132,9 @@ impl Choice {
         ensures items { self.new.items ≡ self.old.items }
         ensures same { (j : ℕ) → IsInUse self.new j ↔ IsInUse self.old j }
     {
-        if !self.fresh.has(item) {
-            return;
+        if self.fresh.has(item) {
+            self.write_note(mixed);
         }
-        let place = place_of(&self.notes, mixed);
-        self.notes[place] = print_of(mixed);
     }
 
     /// Hands an item in use from a key that gives way, which is noted if the item is new, to a new key. Both keys are mixed.
@@ -101,9 +145,17 @@ impl Choice {
         ensures items { self.new.items ≡ self.old.items }
         ensures same { (j : ℕ) → IsInUse self.new j ↔ IsInUse self.old j }
     {
-        self.note(item, old);
-        self.take_out(item);
-        self.take_in(item, new);
+        let was_new = self.fresh.has(item);
+        if was_new {
+            self.write_note(old);
+        }
+        let is_noted = self.take_note(new);
+        if was_new && is_noted {
+            self.prove(item);
+        }
+        if !was_new && !is_noted {
+            self.renew(item);
+        }
     }
 
     /// The item whose bit is to be read next.
@@ -111,7 +163,7 @@ impl Choice {
         requires { IsChoice self.now }
         ensures { MatchOption result ((j : ℕ) → IsInUse self.now j → ⊥) (IsInUse self.now) }
     {
-        if self.proven.len() <= self.most_proven {
+        if u64::from(self.proven.len()) <= 9 * u64::from(self.fresh.len()) {
             if let Some(item) = self.fresh.next_round(self.fresh_hand) {
                 return Some(item);
             }
@@ -140,8 +192,7 @@ impl Choice {
         if bit == 0 {
             return;
         }
-        self.fresh.remove(item);
-        self.proven.add(item);
+        self.prove(item);
     }
 }
 
@@ -154,15 +205,16 @@ fn after_item(item: u32, items: u32) -> u32
     if next == items { 0 } else { next }
 }
 
-/// Where a key is noted.
+/// Where a key is noted: by 32 bits that name no shard.
 fn place_of(notes: &Vec<u16>, mixed: u64) -> usize
-    requires { 0 < length notes.now.items }
+    requires some { 0 < length notes.now.items }
+    requires few { length notes.now.items < 2 ^ 31 }
     ensures { result < length notes.now.items }
 {
-    (mixed >> 40) as usize & (notes.len() - 1)
+    (((mixed & 0xffff_ffff) * notes.len() as u64) >> 32) as usize
 }
 
-/// A key's fingerprint. It isn't 0, which is no key's.
+/// A key's fingerprint, of the bits above. It isn't 0, which is no key's.
 fn print_of(mixed: u64) -> u16 {
-    (((mixed >> 20) & 0xffff) as u16).max(1)
+    (((mixed >> 32) & 0xffff) as u16).max(1)
 }

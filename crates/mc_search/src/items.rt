@@ -38,11 +38,12 @@ impl FreeItems {
     }
 
     /// The item in use whose bit is to be read next, while the search is not over and some item is in use.
+    #[inline(always)]
     pub fn next(&self, pick: &Pick) -> Option<u32>
         requires { IsConsistent self.now }
         ensures { (rs : List Swept) → IsPicking self.now pick.now rs → MatchOption result
-            (IsOver self.now.list.items rs ⊎ ((j : ℕ) → IsUsedIn self.now j → ⊥))
-            (λ i. IsUsedIn self.now i × (length rs < 2 * self.now.list.items) × (victim_of rs ≡ None)) }
+            (IsOver pick.now.items rs ⊎ ((j : ℕ) → IsUsedIn self.now j → ⊥))
+            (λ i. IsUsedIn self.now i × (length rs < 2 * pick.now.items) × (victim_of rs ≡ None)) }
     {
         match &self.choice {
             Some(choice) => pick.next(choice),
@@ -51,15 +52,17 @@ impl FreeItems {
     }
 
     /// Continues after the bit was read. Condition: the item is in use, and the search is not over.
+    #[inline(always)]
     pub fn after(&mut self, pick: &mut Pick, item: u32, bit: u64)
         requires kept { IsConsistent self.old }
         requires in_use { IsUsedIn self.old item }
-        requires picking { (rs : List Swept) × IsPicking self.old pick.old rs × (length rs < 2 * self.old.list.items) × (victim_of rs ≡ None) }
+        requires picking { (rs : List Swept) × IsPicking self.old pick.old rs × (length rs < 2 * pick.old.items) × (victim_of rs ≡ None) }
         ensures kept { IsConsistent self.new }
         ensures policy { policy_in self.new ≡ policy_in self.old }
         ensures list { self.new.list ≡ self.old.list }
         ensures picking { (rs : List Swept) → IsPicking self.old pick.old rs → victim_of rs ≡ None →
             IsPicking self.new pick.new (rs ++ record { item = item; bit = bit } ∷ []) }
+        ensures most { pick.new.items ≡ pick.old.items }
         ensures left { pick.new.left < pick.old.left }
     {
         match &mut self.choice {

@@ -87,7 +87,7 @@ module _ (V : ℕ) (b : Books) (p q : Pen V) (rs : List Swept) (h : HasSearched 
   searched_in = subst (λ (x : Shape). IsSearchIn x (state_at V p).words rs) shape_p h.searches
 
   -- ---- no bit was clear
-  pub found_recent : 0 < key_count (state_at V p).history → victim_of rs ≡ None → IsWholeSearch (policy_of b.checked) (shape_of b.checked) (state_at V p).words rs → HasFoundRecent V sh p.seat.now q.seat.now
+  pub found_recent : 0 < key_count (state_at V p).history → victim_of rs ≡ None → IsWholeSearch (policy_of b.checked) (key_count (state_at V p).history) (shape_of b.checked) (state_at V p).words rs → HasFoundRecent V sh p.seat.now q.seat.now
   found_recent some none whole =
       let policy : p.seat.now.of.layout.policy ≡ policy_of b.checked = ap (λ (l : Layout). l.policy) (ap (λ (o : Opening). o.layout) p.of ∙ h.layout) in
       let all = append-nil (hand_acts rs) in
@@ -96,7 +96,7 @@ module _ (V : ℕ) (b : Books) (p q : Pen V) (rs : List Swept) (h : HasSearched 
         readings = rs;
         some = some;
         none = none;
-        whole = subst (λ (x : Policy). IsWholeSearch x sh (state_at V p).words rs) (sym policy) (subst (λ (x : Shape). IsWholeSearch (policy_of b.checked) x (state_at V p).words rs) shape_p whole);
+        whole = subst (λ (x : Policy). IsWholeSearch x (key_count (state_at V p).history) sh (state_at V p).words rs) (sym policy) (subst (λ (x : Shape). IsWholeSearch (policy_of b.checked) (key_count (state_at V p).history) x (state_at V p).words rs) shape_p whole);
         made = record {
           of = h.read.of;
           notes = h.read.notes;

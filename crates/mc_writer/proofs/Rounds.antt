@@ -4,6 +4,7 @@ use Rattle.std.proofs.lemmas.Bool.{cases_lt}
 use Rattle.std.proofs.lemmas.List.{get_or_push, get_or_append_left, length_push, map-append}
 use Rattle.std.proofs.lemmas.List.Elements.{Contains-append_left, Contains-append_right}
 use Rattle.mc_words.specs.Checks.{policy_of, shape_of}
+use Rattle.mc_words.specs.History.{key_count}
 use Rattle.mc_words.specs.Standing.{IsFree, NamesItem}
 use Rattle.mc_words.specs.declared.checked.Checked.{Checked}
 use Rattle.mc_words.specs.declared.policy.Policy.{Policy}
@@ -202,7 +203,7 @@ ended_second V b1 b2 p q r items1 items2 more1 more2 told kept is1 is2 clock one
   readings = one.readings ++ two.readings;
   searched = two.searched;
   found = two.found;
-  whole = λ none. subst (λ (x : Policy). IsWholeSearch x (shape_of b2.checked) (state_at V p).words (one.readings ++ two.readings)) (sym clock) (record {
+  whole = λ none. subst (λ (x : Policy). IsWholeSearch x (key_count (state_at V p).history) (shape_of b2.checked) (state_at V p).words (one.readings ++ two.readings)) (sym clock) (record {
     first = one.readings;
     second = two.readings;
     rounds = refl;

@@ -1,5 +1,5 @@
 -- The search for an item that gives way, though no put waits for it.
-use Rattle.std.proofs.Common.{ℕ, ◌≡◌, ◌<◌, ◌⊎◌, ◌∙◌, List, Option, inl, inr, ap, sym, subst}
+use Rattle.std.proofs.Common.{ℕ, ◌≡◌, ◌*◌, ◌<◌, ◌⊎◌, ◌∙◌, List, Option, inl, inr, ap, sym, subst}
 use Rattle.mc_words.specs.Checks.{shape_of}
 use Rattle.mc_words.specs.History.{key_count}
 use Rattle.mc_words.specs.declared.policy.Policy.{Policy}
@@ -33,15 +33,15 @@ state_read V p q b rs layout read =
 
 -- ---- by the choice
 -- it is over, for some item is in use
-picked_over : (V : ℕ) (b : Books) (s : State V) (rs : List Swept) → AreBooksOf V b s → 0 < key_count s.history → IsOver (shape_of b.checked).items rs ⊎ ((j : ℕ) → IsUsedIn b.free j → ⊥) → IsOver (shape_of b.checked).items rs
-picked_over V b s rs known some over = elim over [
+picked_over : (V : ℕ) (b : Books) (s : State V) (keys : ℕ) (rs : List Swept) → AreBooksOf V b s → 0 < key_count s.history → IsOver keys rs ⊎ ((j : ℕ) → IsUsedIn b.free j → ⊥) → IsOver keys rs
+picked_over V b s keys rs known some over = elim over [
   | inl is ↦ is
   | inr none ↦ let used = some_used V b s known some in absurd (none used.0 used.1)
 ]
 
 pub picked_ended : (V : ℕ) (b : Books) (pick : Pick) (p q : Pen V) (rs : List Swept) (told : Option ℕ) → p.cells.now.layout ≡ layout_of V b.checked → 0 < key_count (state_at V p).history → HasPicked V b pick p q rs
-    → IsOver (shape_of b.checked).items rs ⊎ ((j : ℕ) → IsUsedIn b.free j → ⊥) → told ≡ victim_of rs → HasEndedSearch V b p q told
-picked_ended V b pick p q rs told layout some h over is =
+    → pick.items ≡ key_count (state_at V p).history → IsOver pick.items rs ⊎ ((j : ℕ) → IsUsedIn b.free j → ⊥) → told ≡ victim_of rs → HasEndedSearch V b p q told
+picked_ended V b pick p q rs told layout some h keys over is =
     let sh = shape_of b.checked in
     let s = state_at V p in
     let searches = picked_search V b pick p q rs h in
@@ -58,5 +58,7 @@ picked_ended V b pick p q rs told layout some h over is =
         known = subst (λ (x : State V). AreBooksOf V b x) (sym (state_read V p q b rs layout read)) after;
       };
       found = is;
-      whole = λ none. subst (λ (x : Policy). IsWholeSearch x sh s.words rs) (sym policy) (over_without sh.items rs (picked_over V b s rs h.known some over) (sym is ∙ none));
+      whole = λ none.
+          let many = over_without pick.items rs (picked_over V b s pick.items rs h.known some over) (sym is ∙ none) in
+          subst (λ (x : Policy). IsWholeSearch x (key_count s.history) sh s.words rs) (sym policy) (many ∙ ap (λ (n : ℕ). 2 * n) keys);
     }

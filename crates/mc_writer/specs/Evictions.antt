@@ -46,7 +46,7 @@ pub record HasFoundRecent (V : ℕ) (sh : Shape) (before after : WriterRecord) :
   pub readings : List Swept
   pub some : 0 < key_count (state_of V sh before.acts).history
   pub none : victim_of readings ≡ None
-  pub whole : IsWholeSearch before.of.layout.policy sh (state_of V sh before.acts).words readings
+  pub whole : IsWholeSearch before.of.layout.policy (key_count (state_of V sh before.acts).history) sh (state_of V sh before.acts).words readings
   pub made : HasSearchedAnd V sh before after readings []
   pub words : (state_of V sh after.acts).words ≡ (state_of V sh before.acts).words
   pub history : (state_of V sh after.acts).history ≡ (state_of V sh before.acts).history

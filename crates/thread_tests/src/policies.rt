@@ -6,7 +6,7 @@ use mc_cache::{EvictError, Policy};
 use std::test::Fail;
 
 /// The first key; its multiples are the others. The note of the `n`-th key has a place of four by `n`, and says `n`.
-const K: u64 = 0x100_0010_0001;
+const K: u64 = 0x1_4000_0001;
 
 const NEW_KEYS: [(Call, Told); 13] = [
     (Call::Put(K, 10), Told::Stored(1)),

@@ -155,14 +155,15 @@ impl<H: Head, S> BytesMap<H, S> {
         look(pinned.state_or_look(hash, &Any, reply, 1).map(|state| state.object()).ok_or(GetError::Busy))
     }
 
-    /// Evicts the block that would give way to a new key next, in the shard of this hash, or if that shard is empty, in another one. Calls `see` with the
-    /// block, which stays until `see` returns, and with the moment of the eviction. Then the listener hears of the block. `None`: the map is empty.
+    /// Evicts the block that would give way to a new key next, in a shard that the number draws, or if that shard is empty, in another one. Numbers in a
+    /// row draw all shards. Calls `see` with the block, which stays until `see` returns, and with the moment of the eviction. Then the listener hears of
+    /// the block. `None`: the map is empty.
     ///
     /// # Errors
     ///
     /// [`RemoveError`]: nothing was evicted.
-    pub fn evict<R>(&self, near: u64, see: impl FnOnce(&Bytes<H>, u64) -> R) -> Result<Option<R>, RemoveError> {
-        self.inner.evict(near, self.inner.core.tries, see)
+    pub fn evict<R>(&self, draw: u64, see: impl FnOnce(&Bytes<H>, u64) -> R) -> Result<Option<R>, RemoveError> {
+        self.inner.evict(draw, self.inner.core.tries, see)
     }
 
     /// The hashes of all entries, for a program that looks at one after the other, by [`peek_hash`](Self::peek_hash). Those that other threads put or

@@ -7,17 +7,17 @@ use crate::error::RemoveError;
 use crate::stats::Kind;
 use cefrodil::{Evict, EvictError, Reply, TurnError};
 
-/// A hash that is increased by this again and again comes to each shard. It is odd, and its bits look random.
+/// Multiples of this come to each shard, in an order that looks random.
 const STEP: u64 = 0x9e37_79b9_7f4a_7c15;
 
 /// How many hashes are tried for each shard before all shards are taken to be empty: then it isn't so with a chance of 2^-46 at most.
 const HASHES_OF_A_SHARD: u64 = 32;
 
 impl<O: Held, S> ObjectInner<O, S> {
-    /// Evicts the object that would give way next in the shard of this hash, or if that shard is empty, in another one. Calls `see` with it before it
-    /// is retired, and with the moment. `None`: the map is empty.
-    pub fn evict<R>(&self, near: u64, tries: u32, see: impl FnOnce(&O, u64) -> R) -> Result<Option<R>, RemoveError> {
-        let mut hash = near;
+    /// Evicts the object that would give way next in a shard that this number draws, or if that shard is empty, in another one. Calls `see` with it
+    /// before it is retired, and with the moment. `None`: the map is empty.
+    pub fn evict<R>(&self, draw: u64, tries: u32, see: impl FnOnce(&O, u64) -> R) -> Result<Option<R>, RemoveError> {
+        let mut hash = draw.wrapping_mul(STEP);
         for _ in 0..=HASHES_OF_A_SHARD * u64::from(self.shards) {
             if let Evict::Evicted { at, old } = self.evict_in_shard(hash, tries)? {
                 self.core.slots.count(Kind::Evicted);
@@ -59,14 +59,15 @@ impl<O: Held, S> ObjectInner<O, S> {
         }
     }
 
-    /// Evicts objects until the others weigh no more than they may: first some of the shard of this hash. Returns whether it evicted some.
+    /// Evicts objects until the others weigh no more than they may, from shards that the hash of a put draws. The put's own shard would not do: then
+    /// some shards would keep much less than their share. Returns whether it evicted some.
     #[inline(never)]
-    pub fn evict_to_bound(&self, near: u64, tries: u32) -> Result<bool, RemoveError> {
-        let mut has_evicted = false;
+    pub fn evict_to_bound(&self, hash: u64, tries: u32) -> Result<bool, RemoveError> {
+        let mut draws = hash;
         // If there is none, other threads are about to put what weighs too much. They come here, too, after their puts.
-        while self.is_too_heavy() && self.evict(near, tries, |_, _| ())?.is_some() {
-            has_evicted = true;
+        while self.is_too_heavy() && self.evict(draws, tries, |_, _| ())?.is_some() {
+            draws = draws.wrapping_add(1);
         }
-        Ok(has_evicted)
+        Ok(draws != hash)
     }
 }

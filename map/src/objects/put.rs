@@ -270,8 +270,8 @@ impl<O: Held, S> ObjectInner<O, S> {
             self.leaving(word).tell(reason);
         }
         if self.is_too_heavy() {
-            // First those of another shard, if there is one: the object may be alone in its own. If there is no turn, the next put does this.
-            let _ = self.evict_to_bound(!hash, tries);
+            // If there is no turn, the next put does this.
+            let _ = self.evict_to_bound(hash, tries);
         }
         if has_evicted && put.did == Inserted::New {
             put.did = Inserted::Evicted;

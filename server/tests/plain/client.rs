@@ -1,11 +1,14 @@
 //! A client without a connection.
 use super::{Control, Plain};
+use cefrodild::books::Books;
 use cefrodild::dialogue::{Dialogue, Turn};
+use cefrodild::index::Index;
+use cefrodild::map_index::MapIndex;
 use cefrodild::options::{parse, Asked};
 use cefrodild::output::{Output, MOST_WAITING};
-use cefrodild::room::Room;
+use cefrodild::slabs;
 use cefrodild::store::Store;
-use std::sync::Arc;
+use std::sync::{Arc, Once};
 
 pub const MEGABYTE: usize = 1 << 20;
 
@@ -25,9 +28,28 @@ impl Client {
 
     /// The same, with these options.
     pub fn with(memory: usize, options: &str) -> Client {
-        let (room, control) = (Arc::new(Room::new(memory as u64)), Arc::new(Control::default()));
+        let control = Arc::new(Control::default());
+        Client::over(memory, options, control.clone(), |_, books| Box::new(Plain::new(books, &control)))
+    }
+
+    /// The same, over the index of the server.
+    pub fn over_map(memory: usize, options: &str) -> Client {
+        Client::over(memory, options, Arc::default(), |items, books| {
+            Box::new(MapIndex::open(items, 1, books, None).expect("there is memory"))
+        })
+    }
+
+    fn over(
+        memory: usize,
+        options: &str,
+        control: Arc<Control>,
+        index: impl FnOnce(usize, &Arc<Books>) -> Box<dyn Index>,
+    ) -> Client {
+        static ONCE: Once = Once::new();
+        ONCE.call_once(|| slabs::set_up(256 * MEGABYTE).expect("there are addresses"));
         let Ok(Asked::Serve(options)) = parse(options.split(' ').map(str::to_owned)) else { panic!("{options}") };
-        let store = Arc::new(Store::new(Box::new(Plain::new(&room, &control)), room, options));
+        let books = Arc::new(Books::new(memory as u64, &options));
+        let store = Arc::new(Store::new(index(options.items, &books), books, options));
         Client { store, control, dialogue: Dialogue::default(), input: Vec::new() }
     }
 
@@ -35,6 +57,11 @@ impl Client {
     pub fn beside(&self) -> Client {
         let (store, control) = (Arc::clone(&self.store), Arc::clone(&self.control));
         Client { store, control, dialogue: Dialogue::default(), input: Vec::new() }
+    }
+
+    /// Lets the store look at all items, and at those of other tests of this process, until those that are dead have gone.
+    pub fn expire(&self) {
+        (0..50).for_each(|_| self.store.expire());
     }
 
     /// Sends bytes, and returns the answers and whether the connection ends.

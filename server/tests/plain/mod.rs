@@ -3,9 +3,10 @@
 pub mod client;
 pub mod draw;
 
-use cefrodild::index::{Index, Outcome, Refused, Seen, Stamp, Token};
+use cefrodil_map::Reason;
+use cefrodild::books::Books;
+use cefrodild::index::{Index, Refused, Seen, Token};
 use cefrodild::item::{Item, NewItem};
-use cefrodild::room::{cost, Room};
 use std::collections::HashMap;
 use std::hash::{BuildHasher, BuildHasherDefault, DefaultHasher};
 use std::sync::atomic::{AtomicBool, AtomicU64, AtomicUsize, Ordering::SeqCst};
@@ -26,15 +27,12 @@ pub struct Control {
     pub stalled: AtomicU64,
     /// How often what had left was to be freed.
     pub sweeps: AtomicUsize,
-    /// What is found by a peek never expires from then on: another thread has found it before, and gives it a new time to live now.
-    pub touches_after_peek: AtomicBool,
-    /// How many hashes were looked up together, at most.
-    pub most_together: AtomicUsize,
+    /// What is about to be found by a peek never expires from then on: another thread has found it before, and gives it a new time to live now.
+    pub touches_before_peek: AtomicBool,
 }
 
 /// What is under the hash of a key.
 struct Entry {
-    cost: u64,
     item: NewItem,
     token: Token,
 }
@@ -45,21 +43,16 @@ type Items = (HashMap<u64, Entry>, Token);
 /// A map under a mutex.
 pub struct Plain {
     items: Mutex<Items>,
-    room: Arc<Room>,
+    books: Arc<Books>,
     control: Arc<Control>,
 }
 
 impl Plain {
-    pub fn new(room: &Arc<Room>, control: &Arc<Control>) -> Plain {
-        Plain { items: Mutex::default(), room: Arc::clone(room), control: Arc::clone(control) }
+    pub fn new(books: &Arc<Books>, control: &Arc<Control>) -> Plain {
+        Plain { items: Mutex::default(), books: Arc::clone(books), control: Arc::clone(control) }
     }
 
-    fn put_as(
-        &self,
-        item: NewItem,
-        meant: impl FnOnce(Option<Token>) -> bool,
-        see: &mut dyn FnMut(&Item, Option<&Item>),
-    ) -> Result<Outcome, Refused> {
+    fn put_as(&self, item: NewItem, meant: impl FnOnce(Option<Token>) -> bool) -> Result<Token, Refused> {
         if self.control.refuses_puts.load(SeqCst) {
             return Err(Refused::Full);
         }
@@ -67,16 +60,23 @@ impl Plain {
         let hash = self.hash_of(item.key());
         let token = items.get(&hash).map(|entry| entry.token);
         if !meant(token) {
-            return Ok(token.map_or(Outcome::Absent, |_| Outcome::Changed));
+            return Err(token.map_or(Refused::Absent, |_| Refused::Changed));
         }
         *last += 1;
-        see(&item, items.get(&hash).map(|entry| &*entry.item));
-        let entry = Entry { cost: cost(item.key().len(), item.value().len()), item, token: *last };
-        match items.insert(hash, entry) {
-            Some(old) => self.room.give_back(old.cost),
-            None => self.room.add_item(),
+        if let Some(old) = items.insert(hash, Entry { item, token: *last }) {
+            self.left(&old, Reason::Replaced);
         }
-        Ok(Outcome::Done(*last))
+        Ok(*last)
+    }
+
+    fn left(&self, entry: &Entry, reason: Reason) {
+        self.books.left(&entry.item, reason);
+        self.books.freed(&entry.item);
+    }
+
+    fn refuses_removal(&self) -> bool {
+        let one_less = self.control.removals_to_refuse.fetch_update(SeqCst, SeqCst, |left| left.checked_sub(1));
+        self.control.refuses_removals.load(SeqCst) || one_less.is_ok()
     }
 
     fn let_others_act(&self) {
@@ -103,66 +103,62 @@ impl Index for Plain {
         }
     }
 
-    fn look_hash(&self, hash: u64, see: &mut dyn FnMut(Seen<'_>)) {
-        self.peek(hash, see);
-    }
-
-    fn look_hashes(&self, hashes: &[u64], each: &mut dyn FnMut(usize, Seen<'_>)) {
-        self.control.most_together.fetch_max(hashes.len(), SeqCst);
-        hashes.iter().enumerate().for_each(|(position, hash)| self.peek(*hash, &mut |seen| each(position, seen)));
-    }
-
     fn peek(&self, hash: u64, see: &mut dyn FnMut(Seen<'_>)) {
         if self.control.refuses_looks.load(SeqCst) {
             return see(Err(Refused::Held));
         }
         let (items, _) = &*self.items.lock().unwrap();
         let entry = items.get(&hash);
-        see(Ok(entry.map(|entry| (&*entry.item, entry.token))));
-        if let Some(entry) = entry.filter(|_| self.control.touches_after_peek.load(SeqCst)) {
+        if let Some(entry) = entry.filter(|_| self.control.touches_before_peek.load(SeqCst)) {
             entry.item.touch(u64::MAX);
         }
+        see(Ok(entry.map(|entry| (&*entry.item, entry.token))));
     }
 
-    fn put(&self, _: u64, item: NewItem, see: &mut dyn FnMut(&Item, Option<&Item>)) -> Result<Token, Refused> {
-        match self.put_as(item, |_| true, see)? {
-            Outcome::Done(token) => Ok(token),
-            _ => unreachable!("there is no condition"),
-        }
+    fn put(&self, _: u64, item: NewItem) -> Result<Token, Refused> {
+        self.put_as(item, |_| true)
     }
 
-    fn put_new(&self, item: NewItem) -> Result<Outcome, Refused> {
+    fn put_new(&self, item: NewItem) -> Result<Token, Refused> {
         self.let_others_act();
-        self.put_as(item, |token| token.is_none(), &mut |_, _| {})
+        self.put_as(item, |token| token.is_none())
     }
 
-    fn put_if(&self, token: Token, item: NewItem) -> Result<Outcome, Refused> {
+    fn put_if(&self, token: Token, item: NewItem) -> Result<Token, Refused> {
         self.let_others_act();
-        self.put_as(item, |found| found == Some(token), &mut |_, _| {})
+        self.put_as(item, |found| found == Some(token))
     }
 
-    fn remove_if(&self, key: &[u8], token: Token) -> Result<Outcome, Refused> {
-        self.remove_stamped(Stamp { hash: self.hash_of(key), token })
-    }
-
-    fn remove_stamped(&self, stamp: Stamp) -> Result<Outcome, Refused> {
+    fn remove(&self, hash: u64, token: Token) -> Result<Token, Refused> {
         self.let_others_act();
-        let one_less = self.control.removals_to_refuse.fetch_update(SeqCst, SeqCst, |left| left.checked_sub(1));
-        if self.control.refuses_removals.load(SeqCst) || one_less.is_ok() {
+        if self.refuses_removal() {
             return Err(Refused::Held);
         }
         let (items, last) = &mut *self.items.lock().unwrap();
-        match items.get(&stamp.hash) {
-            None => Ok(Outcome::Absent),
-            Some(entry) if entry.token != stamp.token => Ok(Outcome::Changed),
+        match items.get(&hash) {
+            None => Err(Refused::Absent),
+            Some(entry) if entry.token != token => Err(Refused::Changed),
             Some(entry) => {
-                self.room.give_back(entry.cost);
-                self.room.subtract_item();
-                items.remove(&stamp.hash);
+                self.left(entry, Reason::Removed);
+                items.remove(&hash);
                 *last += 1;
-                Ok(Outcome::Done(*last))
+                Ok(*last)
             }
         }
+    }
+
+    /// The item that was stored longest ago.
+    fn evict(&self, _: u64, see: &mut dyn FnMut(&Item)) -> bool {
+        let (items, _) = &mut *self.items.lock().unwrap();
+        let oldest = items.iter().min_by_key(|(_, entry)| entry.token).map(|(hash, _)| *hash);
+        let Some(entry) = oldest.filter(|_| !self.refuses_removal()).and_then(|hash| items.remove(&hash)) else { return false };
+        see(&entry.item);
+        self.left(&entry, Reason::Evicted);
+        true
+    }
+
+    fn len(&self) -> usize {
+        self.items.lock().unwrap().0.len()
     }
 
     fn stalled(&self) -> Duration {

@@ -1,8 +1,8 @@
 //! How many lookups find their key in a cache, for `bench/map_hits.py`. Standard input has the keys, as words of 64 bits. Each that is missed is
 //! put.
 //!
-//! usage: ratio CAPACITY CACHE     CACHE: map; number, objects by their number; objects, by their weight; server. It prints a line of 0 and 1: which
-//! lookups hit.
+//! usage: ratio CAPACITY CACHE     CACHE: map; number, objects by their number; objects, by their weight; or server. It prints a line of 0 and 1:
+//! which lookups hit.
 mod server;
 
 use cefrodil_map::{Map, ObjectMap};

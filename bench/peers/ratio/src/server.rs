@@ -1,10 +1,11 @@
 //! The server's items, by its commands and without a connection.
 use crate::{Cache, Failure};
+use cefrodild::books::Books;
+use cefrodild::budget::cost;
 use cefrodild::dialogue::Dialogue;
-use cefrodild::objects::Objects;
+use cefrodild::map_index::MapIndex;
 use cefrodild::options::{parse, Asked};
 use cefrodild::output::Output;
-use cefrodild::room::{cost, Room};
 use cefrodild::store::Store;
 use std::sync::Arc;
 
@@ -39,10 +40,10 @@ impl Cache for Client {
 
 /// A server that has room for so many items. Its index has room for more.
 pub fn open(capacity: usize) -> Result<Box<dyn Cache>, Failure> {
-    let words = format!("-t1 -n{}", 2 * capacity);
-    let Asked::Serve(options) = parse(words.split(' ').map(str::to_owned))? else { return Err("no options".into()) };
-    let room = Arc::new(Room::new(capacity as u64 * cost(BYTES, BYTES)));
-    let index = Objects::open(options.items, 1, &room, None)?;
-    let store = Store::new(Box::new(index), room, options);
+    let words = ["-t1".to_owned(), format!("-n{}", 2 * capacity)];
+    let Asked::Serve(options) = parse(words)? else { return Err("no options".into()) };
+    let books = Arc::new(Books::new(capacity as u64 * cost(BYTES, BYTES), &options));
+    let index = MapIndex::open(options.items, 1, &books, None)?;
+    let store = Store::new(Box::new(index), books, options);
     Ok(Box::new(Client { store, dialogue: Dialogue::default() }))
 }

@@ -11,7 +11,7 @@ use Rattle.mc_words.specs.Answers as means
 use Rattle.mc_words.specs.Answers.{PutIsSpent, RemoveIsSpent}
 use Rattle.mc_words.specs.Chains.{IsLeastLength, NoChain}
 use Rattle.mc_words.specs.Checks.{policy_of, shape_of}
-use Rattle.mc_words.specs.History.{IsWord}
+use Rattle.mc_words.specs.History.{IsWord, key_count}
 use Rattle.mc_words.specs.KeyParts.{HasParts}
 use Rattle.mc_words.specs.declared.key_parts.KeyParts.{KeyParts}
 use Rattle.mc_words.specs.Places.{IsWidth, moment, slot, slot_number, word_count}
@@ -288,6 +288,12 @@ books_kept V b s free old kept policy same = record {
 pub path_refused : (V : ℕ) (sh : Shape) (s : State V) (k : ℕ) → IsQuiet V sh s → (PutIsSpent sh (quiet_of s) → ⊥) → IsAbsent V sh s.words k → NoChain sh s.words k sh.depth → means.RefusesPath V sh (quiet_of s) (quiet_of s) k
 path_refused V sh s k quiet unspent absent none = record { unspent = unspent; absent = absent_held V sh s k quiet absent; none = none; unchanged = refl }
 
+-- if no item is free, there are as many keys as items
+pub full_books : (V : ℕ) (b : Books) (s : State V) → AreBooksOf V b s → ((j : ℕ) → IsFreeIn b.free j → ⊥) → key_count s.history ≡ (shape_of b.checked).items
+full_books V b s old none =
+    let sh = shape_of b.checked in
+    full_from_named V sh s.words s.history (keys_quiet V sh s old.quiet) (λ i l. old.named i l (none i))
+
 -- what is asked of a put before an item is taken from another key
 pub needs_item : (V : ℕ) (b : Books) (s : State V) (k : ℕ) (path : Path) → AreBooksOf V b s → (PutIsSpent (shape_of b.checked) (quiet_of s) → ⊥) → IsAbsent V (shape_of b.checked) s.words k → IsLeastPath (shape_of b.checked) s.words k path
     → ((j : ℕ) → IsFreeIn b.free j → ⊥) → (needs : means.NeedsItem V (shape_of b.checked) (quiet_of s) k) × (needs.count ≡ length path.places.items)
@@ -299,7 +305,7 @@ needs_item V b s k path old unspent absent least none =
         count = length path.places.items;
         within = least.within;
         least = least_length sh s.words k path least;
-        full = full_from_named V sh s.words s.history (keys_quiet V sh s old.quiet) (λ i l. old.named i l (none i));
+        full = full_books V b s old none;
       },
       refl,
     )

@@ -1,8 +1,10 @@
 -- A put for which a choice looks for an item.
-use Rattle.std.proofs.Common.{ℕ, ◌≡◌, ◌<◌, ◌∙◌, List, [], Option, Some, None, ap, arith, get_or, length, refl, sym, subst}
+use Rattle.std.proofs.Common.{ℕ, ◌≡◌, ◌^◌, ◌<◌, ◌≤◌, ◌∙◌, List, [], Option, Some, None, ap, arith, get_or, length, refl, sym, subst}
 use Rattle.mc_words.specs.Checks.{policy_of, shape_of}
+use Rattle.mc_words.specs.History.{key_count}
 use Rattle.mc_words.specs.declared.policy.Policy.{Policy}
 use Rattle.mc_words.specs.declared.policy.Policy.TheVariants.{ScanResistant}
+use Rattle.mc_words.proofs.Count.{keys_fit}
 use Rattle.mc_theory.specs.States.{State}
 use Rattle.mc_words.specs.Standing.{NamesItem}
 use Rattle.mc_search.specs.Items.{Follows, IsConsistent, IsPicking, IsTied, policy_by, policy_in}
@@ -17,17 +19,30 @@ use Rattle.mc_plan.specs.Books.{AreBooksOf, IsPickingFor}
 use Rattle.mc_plan.specs.Inside.Clerks.{IsReplacing}
 use Rattle.mc_plan.specs.WholeCalls.{PutCall}
 use Rattle.mc_plan.specs.declared.books.Books.{Books}
+use Rattle.mc_plan.proofs.Deeds.QuietStates.{keys_quiet}
 
 -- items that are not CLOCK's have a choice
-choice_by : (f : FreeList) (o : Option Choice) → IsTied f o → policy_by o ≡ ScanResistant → (c : Choice) × (o ≡ Some c) × (c.items ≡ f.items)
+choice_by : (f : FreeList) (o : Option Choice) → IsTied f o → policy_by o ≡ ScanResistant → (c : Choice) × (o ≡ Some c) × Follows f c
 choice_by f None tied is = absurd (cc is)
-choice_by f (Some c) tied is = (c, refl, tied.items)
+choice_by f (Some c) tied is = (c, refl, tied)
 
 -- so a search of theirs begins
 pub picks_now : (f : FreeItems) (p : Pick) → IsConsistent f → policy_in f ≡ ScanResistant → ((c : Choice) → c.items ≡ f.list.items → HasPicked c p []) → IsPicking f p []
 picks_now f p kept is starts =
     let there = choice_by f.list f.choice kept.tied is in
-    (there.0, there.1, starts there.0 there.2)
+    (there.0, there.1, starts there.0 there.2.items)
+
+-- they are few
+pub few_items : (f : FreeItems) → IsConsistent f → policy_in f ≡ ScanResistant → f.list.items < 2 ^ 31
+few_items f kept is =
+    let there = choice_by f.list f.choice kept.tied is in
+    omega (arith, there.2.choice.fresh.few, there.2.choice.fresh_items, there.2.items)
+
+-- and there are no more keys than items
+pub keys_within : (V : ℕ) (b : Books) (s : State V) → AreBooksOf V b s → key_count s.history ≤ b.free.list.items
+keys_within V b s known =
+    let sh = shape_of b.checked in
+    omega (arith, keys_fit V sh s.words s.history (keys_quiet V sh s known.quiet), known.items)
 
 -- the books of a table with a choice are of its policy
 pub picking_policy : (V : ℕ) (b : Books) (pick : Pick) (s : State V) (rs : List Swept) → AreBooksOf V b s → IsPicking b.free pick rs → policy_of b.checked ≡ ScanResistant

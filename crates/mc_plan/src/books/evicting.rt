@@ -1,6 +1,7 @@
 //! A key that is taken out though no put needs its item.
 ghost use Rattle.std.specs.Prelude.{ℕ, ◌≡◌, ◌+◌, ◌*◌, ◌%◌, ◌<◌, ◌≤◌, ◌⊎◌, ◌++◌, [], ◌∷◌, List, Some, None, IfSome, MatchOption, length};
 ghost use Rattle.mc_words.specs.Checks.{policy_of, shape_of};
+ghost use Rattle.mc_words.specs.History.{key_count};
 ghost use Rattle.mc_words.specs.declared.policy.Policy.TheVariants.{ScanResistant};
 ghost use Rattle.mc_theory.specs.States.{State};
 
@@ -16,36 +17,41 @@ impl Books {
     ghost use Rattle.mc_search.specs.Items.{IsPicking, IsUsedIn};
     ghost use Rattle.mc_search.specs.Sweeps.{Swept, IsOver, IsSearch, victim_of};
 
-    /// A search that begins.
+    /// A search that begins. It reads at most twice as many bits as there are keys.
+    #[inline(always)]
     pub fn pick(&self) -> Pick
         requires books { (V : ℕ) × (s : State V) × AreBooksOf V self.now s }
         requires policy { policy_of self.now.checked ≡ ScanResistant }
-        ensures { IsPicking self.now.free result [] }
+        ensures picking { IsPicking self.now.free result [] }
+        ensures keys { (V : ℕ) (s : State V) → AreBooksOf V self.now s → result.items ≡ key_count s.history }
     {
-        Pick::start(self.checked.shape().items)
+        Pick::start(self.key_count() as u32)
     }
 
     /// The item whose bit is to be read next, while the search is not over and some item is in use.
+    #[inline(always)]
     pub fn next_read(&self, pick: &Pick) -> Option<u32>
         requires { (V : ℕ) × (s : State V) × AreBooksOf V self.now s }
         ensures { (rs : List Swept) → IsPicking self.now.free pick.now rs → MatchOption result
-            (IsOver self.now.free.list.items rs ⊎ ((j : ℕ) → IsUsedIn self.now.free j → ⊥))
-            (λ i. IsUsedIn self.now.free i × (length rs < 2 * self.now.free.list.items) × (victim_of rs ≡ None)) }
+            (IsOver pick.now.items rs ⊎ ((j : ℕ) → IsUsedIn self.now.free j → ⊥))
+            (λ i. IsUsedIn self.now.free i × (length rs < 2 * pick.now.items) × (victim_of rs ≡ None)) }
     {
         self.free.next(pick)
     }
 
     /// Continues after the bit was read. The books stay those of the table as it was before the first reading.
     /// Condition: the item is in use, and the search is not over.
+    #[inline(always)]
     pub fn after_read(&mut self, pick: &mut Pick, item: u32, bit: u64)
         requires books { (V : ℕ) × (s : State V) × AreBooksOf V self.old s }
         requires in_use { IsUsedIn self.old.free item }
-        requires picking { (rs : List Swept) × IsPicking self.old.free pick.old rs × (length rs < 2 * self.old.free.list.items) × (victim_of rs ≡ None) }
+        requires picking { (rs : List Swept) × IsPicking self.old.free pick.old rs × (length rs < 2 * pick.old.items) × (victim_of rs ≡ None) }
         ensures books { (V : ℕ) (s : State V) → AreBooksOf V self.old s → AreBooksOf V self.new s }
         ensures waits { (V k : ℕ) (v : List ℕ) (s : State V) (room : Room) → Waits V self.old k v s room → Waits V self.new k v s room }
         ensures picking { (rs : List Swept) → IsPicking self.old.free pick.old rs → victim_of rs ≡ None →
             IsPicking self.new.free pick.new (rs ++ record { item = item; bit = bit } ∷ []) }
         ensures shape { self.new.checked ≡ self.old.checked }
+        ensures most { pick.new.items ≡ pick.old.items }
         ensures left { pick.new.left < pick.old.left }
     {
         self.free.after(pick, item, bit);
@@ -107,7 +113,8 @@ impl Books {
         ensures kept { peek.new ≡ peek.old }
     {
         let victim = self.victim::<V, P>(peek, item);
-        self.free.give_noted(item, self.checked.mixed(victim.key));
+        let noted = self.for_notes(victim.key);
+        self.free.give_noted(item, noted);
         self.version_steps += 2;
         victim
     }

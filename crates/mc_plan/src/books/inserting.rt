@@ -242,7 +242,7 @@ impl Books {
 
     // The key as it is noted: mixed. With CLOCK nothing is noted, and so nothing is mixed.
     #[inline(always)]
-    fn for_notes(&self, key: u64) -> u64 {
+    pub(crate) fn for_notes(&self, key: u64) -> u64 {
         match self.checked.policy() {
             Policy::Clock => 0,
             Policy::ScanResistant => self.checked.mixed(key),
@@ -265,6 +265,9 @@ impl Books {
         ensures shape { self.new.checked ≡ self.old.checked }
         ensures kept { peek.new ≡ peek.old }
     {
+        if self.free.is_empty() {
+            return None;
+        }
         let noted = self.for_notes(key);
         let Some(item) = self.free.take_least(noted) else {
             return None;

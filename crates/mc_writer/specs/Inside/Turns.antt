@@ -1,6 +1,7 @@
 -- What the hand's readings leave of the seat, and what is then decided.
 use Rattle.std.specs.Prelude.{◌≡◌, ℕ, ◌<◌, List, ◌++◌, Option, Some, None, Ok}
 use Rattle.mc_words.specs.Checks.{policy_of, shape_of}
+use Rattle.mc_words.specs.History.{key_count}
 use Rattle.mc_words.specs.KeyParts.{HasParts}
 use Rattle.mc_theory.specs.Lists.{AreAllowed}
 use Rattle.mc_search.specs.Sweeps.{Swept, hand_acts, victim_of}
@@ -71,4 +72,4 @@ pub record HasEndedSearch (V : ℕ) (books : Books) (before after : Pen V) (told
   pub readings : List Swept
   pub searched : HasSearched V books before after readings
   pub found : told ≡ victim_of readings
-  pub whole : told ≡ None → IsWholeSearch (policy_of books.checked) (shape_of books.checked) (state_at V before).words readings
+  pub whole : told ≡ None → IsWholeSearch (policy_of books.checked) (key_count (state_at V before).history) (shape_of books.checked) (state_at V before).words readings

@@ -1,9 +1,10 @@
-use Rattle.std.proofs.Common.{List, ◌∙◌, arith, inl, inr}
+use Rattle.std.proofs.Common.{ℕ, List, ◌∙◌, arith, inl, inr, subst}
 use Rattle.mc_words.specs.Checks.{shape_of}
 use Rattle.mc_search.specs.Sweeps.{Swept, IsOver}
 use Rattle.mc_plan.specs.Books.{IsPickingFor}
 use Rattle.mc_plan.specs.Deciding.{IsFinished}
 use Rattle.mc_plan.specs.WholeCalls.{PutCall}
+use Rattle.mc_plan.proofs.Calls.AfterPlan.{full_books}
 use Rattle.mc_writer.specs.Inside.Pens.{state_at}
 use Rattle.mc_writer.specs.Inside.Turns.{HasPicked, HasRead}
 use Rattle.mc_writer.proofs.Chosen.{finished_chosen, finished_refused}
@@ -18,8 +19,10 @@ picked : (g : Over) (c : After-read_round g) → (rs : List Swept) × HasPicked 
 picked g c =
     let h = c.read_round.ensures.picked in
     let waits = c.read_round.ensures.waits c.args.key c.args.value.now (state_at g.row.V c.args.self.now) c.args.room c.requires.waits in
+    let keys = c.pick-pick.ensures.keys g.row.V (state_at g.row.V c.args.self.now) c.requires.waits.known in
+    let full = full_books g.row.V c.read_round.new.books (state_at g.row.V c.args.self.now) waits.known waits.none in
     let over : IsOver (shape_of c.read_round.new.books.checked).items h.0 = elim h.2 [
-      | inl is ↦ is
+      | inl is ↦ subst (λ (n : ℕ). IsOver n h.0) (c.read_round.ensures.most ∙ keys ∙ full) is
       | inr none ↦ absurd (none 0 (omega (arith, waits.known.items, waits.known.stands), waits.none 0))
     ] in
     (h.0, h.1, over)

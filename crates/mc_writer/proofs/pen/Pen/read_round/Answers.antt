@@ -1,6 +1,5 @@
-use Rattle.std.proofs.Common.{arith, ℕ, ◌≡◌, ◌∙◌, [], inl, inr, refl, subst, sym}
+use Rattle.std.proofs.Common.{arith, ◌≡◌, ◌∙◌, [], refl, subst, sym}
 use Rattle.mc_words.specs.Places.{word_count}
-use Rattle.mc_search.specs.Sweeps.{IsOver}
 use Rattle.mc_words.specs.declared.shape.Shape.{Shape}
 use Rattle.mc_writer.proofs.Pens.{same_then, shape_kept}
 use Rattle.mc_writer.proofs.Picked.{picks_none}
@@ -11,6 +10,7 @@ loop-i-init g c = record {
   same = record { cells = refl; seat = refl };
   shape = refl;
   waits = λ k v s room waits. waits;
+  most = refl;
   picked = ([], picks_none g.row.V c.args.books.now c.args.pick.now c.args.self.now c.requires.shape c.requires.known c.requires.picking);
 }
 
@@ -29,17 +29,10 @@ loop-i-preserved g c =
       same = same_then c.loop-i.invariant.same c.read_used.ensures.same;
       shape = c.read_used.ensures.shape ∙ c.loop-i.invariant.shape;
       waits = λ k v s room waits. c.read_used.ensures.waits k v s room (c.loop-i.invariant.waits k v s room waits);
+      most = c.read_used.ensures.most ∙ c.loop-i.invariant.most;
       picked = (_, (c.read_used.ensures.picked c.args.self.now on.0 on.1 next.2).1);
     }
 
 pub returns-clause-picked : goal.returns-clause-picked
 returns-clause-picked g c =
-    let on = c.loop-i.invariant.picked in
-    let items = on.1.known.items in (
-      on.0,
-      on.1,
-      elim (c.in_default.ensures on.0 on.1.picking) [
-        | inl over ↦ inl (subst (λ (n : ℕ). IsOver n on.0) items over)
-        | inr none ↦ inr none
-      ],
-    )
+    let on = c.loop-i.invariant.picked in (on.0, on.1, c.in_default.ensures on.0 on.1.picking)

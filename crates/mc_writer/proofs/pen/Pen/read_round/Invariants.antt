@@ -12,6 +12,7 @@ invariant-loop-i g l = record {
   same : IsSamePen g.row.V l.fn.self l.self;
   shape : l.books.checked ≡ l.fn.books.checked;
   waits : (k : ℕ) (v : List ℕ) (s : State g.row.V) (room : Room) → Waits g.row.V l.fn.books k v s room → Waits g.row.V l.books k v s room;
+  most : l.pick.items ≡ l.fn.pick.items;
   picked : (rs : List Swept) × HasPicked g.row.V l.books l.pick l.fn.self l.self rs;
 }
 

@@ -1,4 +1,4 @@
-// Threads whose keys move from a small table to the main one: no key is lost, no removal is undone, and no update is.
+// Threads write a map that is full: no removal is undone, no update is lost, and no key counts twice.
 #include "cefrodil_map.hpp"
 #include "must.h"
 #include <algorithm>
@@ -36,39 +36,14 @@ static uint64_t next_random(uint64_t &state) {
 }
 
 static void open_full(Numbers &numbers, uint32_t entries, uint32_t passes = 64) {
-    MUST(numbers.open({entries, 1, passes, 10000, true}) == Status::ok);
+    MUST(numbers.open({entries, 1, passes}) == Status::ok);
     for (uint64_t key = 0; key < 2 * entries; key++) {
         MUST(numbers.insert(1000000 + key, 0).status == Status::ok);
     }
 }
 
-// One thread puts a new key, and then all look it up at once. One of them moves it, and each finds it.
-static void a_key_is_found_while_it_moves() {
-    Numbers numbers;
-    open_full(numbers, 400);
-    std::atomic<uint64_t> begun{0}, ended{0}, lost{0};
-    const uint64_t rounds = 10000 / fewer;
-    in_threads([&](uint64_t thread) {
-        for (uint64_t round = 1; round <= rounds; round++) {
-            if (thread == 0) {
-                MUST(numbers.insert_or_assign(round, round).status == Status::ok);
-                begun = round;
-            }
-            while (begun != round) {
-                std::this_thread::yield();
-            }
-            lost += numbers.find(round) != round;
-            ended++;
-            while (thread == 0 && ended != threads * round) {
-                std::this_thread::yield();
-            }
-        }
-    });
-    MUST(lost == 0 && numbers.size() <= numbers.capacity());
-}
-
-// Each thread writes keys of its own, erases them, and looks up those of others. Other keys keep the main table full, so all go through the small
-// one and move when they are found. A number of a write that has returned is even if it put that, and odd if it erased what was there.
+// Each thread writes keys of its own, erases them, and looks up those of others. Other keys keep the map full. A number of a write that has returned is
+// even if it put that, and odd if it erased what was there.
 static void no_lookup_is_older_than_a_write_that_has_returned(uint32_t passes) {
     constexpr uint64_t keys = 4;
     Numbers numbers;
@@ -98,7 +73,7 @@ static void no_update_is_lost() {
         uint64_t beginning, count;
     };
     cefrodil::map<uint64_t, Count> counts;
-    MUST(counts.open({40, 1, 64, 10000, true}) == Status::ok);
+    MUST(counts.open({40, 1}) == Status::ok);
     std::atomic<uint64_t> beginnings{0};
     std::vector<std::tuple<uint64_t, uint64_t, uint64_t>> made[threads], all;
     in_threads([&](uint64_t thread) {
@@ -120,7 +95,7 @@ static void no_update_is_lost() {
     MUST(std::adjacent_find(all.begin(), all.end()) == all.end() && std::get<2>(*longest) > 10 / fewer);
 }
 
-// Erasures beside lookups that move the same keys. When all have ended, each key that is there counts once, and `clear` leaves none.
+// Erasures beside lookups of the same keys. When all have ended, each key that is there counts once, and `clear` leaves none.
 static void sizes_stay_right() {
     Numbers numbers;
     open_full(numbers, 100);
@@ -136,44 +111,25 @@ static void sizes_stay_right() {
             }
         }
     });
-    // The first lookup of a key may move it, and evict another one.
-    uint64_t there[2] = {0, 0};
-    for (uint64_t n = 0; n < 600; n++) {
-        there[n / 300] += numbers.contains(n % 300);
+    uint64_t there = 0;
+    for (uint64_t key = 0; key < 300; key++) {
+        there += numbers.contains(key);
     }
     const uint64_t size = numbers.size();
     uint64_t old = 0;
     for (uint64_t key = 0; key < 200; key++) {
         old += numbers.erase(1000000 + key) == Status::ok;
     }
-    MUST(there[0] >= there[1] && there[1] + old == size && numbers.size() == there[1] && size <= numbers.capacity());
+    MUST(there + old == size && numbers.size() == there && size <= numbers.capacity());
     MUST(numbers.clear() == Status::ok && numbers.size() == 0 && !numbers.contains(1));
-}
-
-// Of several threads that miss a key one computes, though keys move.
-static void computations_of_keys_that_move() {
-    Numbers numbers;
-    open_full(numbers, 200);
-    std::atomic<uint64_t> wrong{0};
-    in_threads([&](uint64_t thread) {
-        uint64_t state = thread + 1;
-        for (uint64_t number = 0; number < 10000 / fewer; number++) {
-            const uint64_t key = next_random(state) % 400;
-            wrong += numbers.find_or_compute(key, [&] { return key; }).value != key;
-            number % 8 == 0 ? void(numbers.erase(key)) : void();
-        }
-    });
-    MUST(wrong == 0);
 }
 
 int main(int argc, char **argv) {
     fewer = argc > 1 ? std::strtoull(argv[1], nullptr, 10) : 1;
     alarm(argc > 1 ? 240 : 100); // so that a flight which never ends fails the test
-    a_key_is_found_while_it_moves();
     no_lookup_is_older_than_a_write_that_has_returned(64);
     no_lookup_is_older_than_a_write_that_has_returned(2);
     no_update_is_lost();
     sizes_stay_right();
-    computations_of_keys_that_move();
-    return outcome("map_tiers_threads");
+    return outcome("map_races");
 }

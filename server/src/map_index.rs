@@ -1,9 +1,8 @@
 //! The index of items: a map of objects over Cefrodil's index.
-use crate::answers;
 use crate::audit::{digest, Audit};
-use crate::index::{Index, Outcome, Refused, Seen, Stamp, Token};
+use crate::books::Books;
+use crate::index::{Index, Refused, Seen, Token};
 use crate::item::{About, Item, NewItem};
-use crate::room::{cost, Leaving, Room};
 use cefrodil_map::{BytesMap, GetError, IfError, Inserted, Look, OpenError, Put, Reason};
 use std::cell::Cell;
 use std::hash::{BuildHasher, RandomState};
@@ -15,9 +14,8 @@ pub const BYTES_OF_AN_ENTRY: usize = 56;
 
 /// The map, and its log if there is one.
 #[derive(Debug)]
-pub struct Objects {
+pub struct MapIndex {
     map: BytesMap<About>,
-    room: Arc<Room>,
     audit: Option<Arc<Audit>>,
 }
 
@@ -49,24 +47,23 @@ pub fn shards_for(items: usize) -> Option<u32> {
     Some(shards as u32)
 }
 
-/// The bytes of an item.
-fn cost_of(item: &Item) -> u64 {
-    cost(item.key().len(), item.value().len())
+fn seen(found: Result<Look<&Item>, GetError>) -> Seen<'_> {
+    match found {
+        Ok(Look::Found { result, since, .. }) => Ok(Some((result, since))),
+        Ok(_) => Ok(None),
+        Err(_) => Err(Refused::Held),
+    }
 }
 
-impl Objects {
-    /// Opens an index for at least so many items. `room` hears of each item, and of the bytes of what leaves it, and again when they are freed.
-    pub fn open(items: usize, threads: usize, room: &Arc<Room>, audit: Option<Arc<Audit>>) -> Result<Objects, OpenError> {
-        let ([freeing, leaving], is_logged) = ([Arc::clone(room), Arc::clone(room)], audit.is_some());
-        let (hasher, freed) = (RandomState::new(), move |item: &Item| freeing.free(cost_of(item)));
+impl MapIndex {
+    /// Opens an index for at least so many items. `books` hears of each item that leaves it, and again when that is freed.
+    pub fn open(items: usize, threads: usize, books: &Arc<Books>, audit: Option<Arc<Audit>>) -> Result<MapIndex, OpenError> {
+        let ([freeing, leaving], is_logged) = ([Arc::clone(books), Arc::clone(books)], audit.is_some());
+        let (hasher, freed) = (RandomState::new(), move |item: &Item| freeing.freed(item));
         let hash_of = hasher.clone();
         let listener = move |item: &Item, reason| {
-            leaving.leave(cost_of(item));
-            if reason != Reason::Replaced {
-                leaving.subtract_item();
-            }
+            leaving.left(item, reason);
             if reason == Reason::Evicted {
-                leaving.count_gone(Leaving { is_live: true, was_fetched: item.was_fetched() });
                 EVICTED.set(is_logged.then(|| hash_of.hash_one(item.key())));
             }
         };
@@ -77,7 +74,7 @@ impl Objects {
         } else if let Some(shards) = shards_for(items) {
             builder = builder.shards(shards);
         }
-        Ok(Objects { map: builder.open()?, room: Arc::clone(room), audit })
+        Ok(MapIndex { map: builder.open()?, audit })
     }
 
     /// The most items that it holds.
@@ -93,13 +90,6 @@ impl Objects {
             Look::Absent { at } => audit.line(format_args!("absent {at} {hash}")),
             _ => {}
         }
-    }
-
-    fn note_put(&self, logged: Option<(u64, u64)>, put: Put) {
-        if put.did != Inserted::Renewed {
-            self.room.add_item();
-        }
-        self.log_put(logged, put);
     }
 
     fn log_put(&self, logged: Option<(u64, u64)>, put: Put) {
@@ -121,15 +111,15 @@ impl Objects {
         self.audit.is_some().then(|| (self.hash_of(item.key()), digest(item)))
     }
 
-    fn failed(&self, hash: impl FnOnce() -> u64, why: IfError) -> Result<Outcome, Refused> {
+    fn failed(&self, hash: u64, why: IfError) -> Refused {
         if let IfError::NotThere { at } = why {
-            self.log_change("absent", at, hash);
+            self.log_change("absent", at, || hash);
         }
-        answers::of_condition(why)
+        why.into()
     }
 }
 
-impl Index for Objects {
+impl Index for MapIndex {
     fn hash_of(&self, key: &[u8]) -> u64 {
         self.map.hash_of(key)
     }
@@ -139,7 +129,7 @@ impl Index for Objects {
             if let Ok(found) = found {
                 self.log_look(|| self.hash_of(keys[position]), found);
             }
-            each(position, answers::seen(found));
+            each(position, seen(found));
         };
         match keys {
             [key] => self.map.look(key, |look| found(0, look)),
@@ -147,76 +137,47 @@ impl Index for Objects {
         }
     }
 
-    fn look_hash(&self, hash: u64, see: &mut dyn FnMut(Seen<'_>)) {
-        self.map.look_hash(hash, |found| {
-            if let Ok(found) = found {
-                self.log_look(|| hash, found);
-            }
-            see(answers::seen(found));
-        });
-    }
-
-    fn look_hashes(&self, hashes: &[u64], each: &mut dyn FnMut(usize, Seen<'_>)) {
-        self.map.look_hashes(hashes, |position, found| {
-            if let Ok(found) = found {
-                self.log_look(|| hashes[position], found);
-            }
-            each(position, answers::seen(found));
-        });
-    }
-
     fn peek(&self, hash: u64, see: &mut dyn FnMut(Seen<'_>)) {
-        self.map.peek_hash(hash, |found| see(answers::seen(found)));
+        self.map.peek_hash(hash, |found| see(seen(found)));
     }
 
-    fn put(&self, hash: u64, item: NewItem, see: &mut dyn FnMut(&Item, Option<&Item>)) -> Result<Token, Refused> {
+    fn put(&self, hash: u64, item: NewItem) -> Result<Token, Refused> {
         let logged = self.logged(&item);
-        let (put, ()) = self.map.put_seen(hash, item, see).map_err(answers::of_put)?;
-        self.note_put(logged, put);
+        let (put, ()) = self.map.put_seen(hash, item, |_, _| ())?;
+        self.log_put(logged, put);
         Ok(put.at)
     }
 
-    fn put_new(&self, item: NewItem) -> Result<Outcome, Refused> {
+    fn put_new(&self, item: NewItem) -> Result<Token, Refused> {
         let logged = self.logged(&item);
-        match self.map.put_if_absent(item) {
-            Ok(put) => {
-                self.note_put(logged, put);
-                Ok(Outcome::Done(put.at))
-            }
-            Err(why) => answers::of_new(why),
-        }
+        let put = self.map.put_if_absent(item)?;
+        self.log_put(logged, put);
+        Ok(put.at)
     }
 
-    fn put_if(&self, token: Token, item: NewItem) -> Result<Outcome, Refused> {
+    fn put_if(&self, token: Token, item: NewItem) -> Result<Token, Refused> {
         let (logged, hash) = (self.logged(&item), self.hash_of(item.key()));
-        match self.map.replace_if(token, item) {
-            Ok(put) => {
-                self.note_put(logged, put);
-                Ok(Outcome::Done(put.at))
-            }
-            Err(why) => self.failed(|| hash, why),
-        }
+        let put = self.map.replace_if(token, item).map_err(|why| self.failed(hash, why))?;
+        self.log_put(logged, put);
+        Ok(put.at)
     }
 
-    fn remove_if(&self, key: &[u8], token: Token) -> Result<Outcome, Refused> {
-        let hash = || self.hash_of(key);
-        match self.map.remove_if(key, token) {
-            Ok(at) => {
-                self.log_change("remove", at, hash);
-                Ok(Outcome::Done(at))
-            }
-            Err(why) => self.failed(hash, why),
-        }
+    fn remove(&self, hash: u64, token: Token) -> Result<Token, Refused> {
+        let at = self.map.remove_stamped(hash, token).map_err(|why| self.failed(hash, why))?;
+        self.log_change("remove", at, || hash);
+        Ok(at)
     }
 
-    fn remove_stamped(&self, stamp: Stamp) -> Result<Outcome, Refused> {
-        match self.map.remove_stamped(stamp.hash, stamp.token) {
-            Ok(at) => {
-                self.log_change("remove", at, || stamp.hash);
-                Ok(Outcome::Done(at))
-            }
-            Err(why) => self.failed(|| stamp.hash, why),
-        }
+    fn evict(&self, near: u64, see: &mut dyn FnMut(&Item)) -> bool {
+        let evicted = self.map.evict(near, |item, at| {
+            self.log_change("evict", at, || self.hash_of(item.key()));
+            see(item);
+        });
+        evicted.is_ok_and(|evicted| evicted.is_some())
+    }
+
+    fn len(&self) -> usize {
+        self.map.len()
     }
 
     fn stalled(&self) -> Duration {

@@ -1,79 +1,80 @@
-//! The bytes of items and the seats of clients, each by itself.
-use cefrodild::room::{Leaving, Room};
+//! The bytes of items and of clients' buffers, what is counted of items that go, and the seats of clients.
+use cefrodild::books::{Books, Leaving};
+use cefrodild::budget::Budget;
+use cefrodild::counts::Count;
+use cefrodild::options::Options;
 use cefrodild::seat::{Seat, Seats, FREE};
+use std::sync::Arc;
 use std::thread::sleep;
 use std::time::Duration;
 
+/// Seats of so many clients, whose buffers may take so many bytes.
+fn seats(most: usize, most_buffers: usize) -> Arc<Seats> {
+    Seats::new(most, Arc::new(Books::new(0, &Options { memory: 2 * most_buffers, ..Options::default() })))
+}
+
 #[test]
-fn bytes_and_items_are_added_and_subtracted() {
-    let room = Room::new(100);
-    let state = || (room.used(), room.items(), room.is_over());
-    assert_eq!(state(), (0, 0, false));
-    room.take(60);
-    room.add_item();
-    room.take(40);
-    room.add_item();
-    assert_eq!(state(), (100, 2, false));
-    room.take(1);
-    assert_eq!(state(), (101, 2, true));
-    room.give_back(60);
-    room.subtract_item();
-    assert_eq!(state(), (41, 1, false));
-    room.set_limit(40);
-    assert_eq!((room.limit(), state()), (40, (41, 1, true)));
-    // One leaves before it is counted.
-    room.subtract_item();
-    room.subtract_item();
-    assert_eq!(room.items(), 0);
-    room.add_item();
-    assert_eq!(room.items(), 0);
+fn bytes_are_added_and_subtracted() {
+    let budget = Budget::new(100, 0);
+    let state = || (budget.used(), budget.is_over());
+    assert_eq!(state(), (0, false));
+    budget.claim(60).keep();
+    budget.claim(40).keep();
+    assert_eq!(state(), (100, false));
+    let claim = budget.claim(1);
+    assert_eq!((state(), claim.bytes()), ((101, true), 1));
+    drop(claim);
+    assert_eq!(state(), (100, false), "it was not put");
+    budget.leave(60);
+    assert_eq!(state(), (40, false));
+    budget.set_limit(39);
+    assert_eq!((budget.limit(), state()), (39, (40, true)));
 }
 
 #[test]
 fn what_has_left_is_counted_until_it_is_freed() {
-    let room = Room::new(320);
-    let state = || (room.used(), room.waiting(), room.is_crowded());
-    room.take(320);
-    room.leave(320);
+    let budget = Budget::new(320, 0);
+    let state = || (budget.used(), budget.waiting(), budget.is_crowded());
+    budget.claim(320).keep();
+    budget.leave(320);
     assert_eq!(state(), (0, 320, false));
-    room.take(10);
+    budget.claim(10).keep();
     assert_eq!(state(), (10, 320, false), "a part of the limit is beside it");
-    room.take(1);
+    budget.claim(1).keep();
     assert_eq!(state(), (11, 320, true));
-    room.free(320);
+    budget.free(320);
     assert_eq!(state(), (11, 0, false));
-    assert_eq!(room.taken(), 331);
 }
 
 #[test]
 fn what_has_left_should_not_take_much() {
-    let room = Room::new(1_280);
-    room.take(11);
-    room.leave(10);
-    assert!(!room.has_many_waiting());
-    room.leave(1);
-    assert!(room.has_many_waiting(), "it is more than a part in 128");
+    for limit in [1_280, 12_800] {
+        let (budget, part) = (Budget::new(limit, 0), limit / 128);
+        budget.claim(part + 1).keep();
+        budget.leave(part);
+        assert!(!budget.has_many_waiting());
+        budget.leave(1);
+        assert!(budget.has_many_waiting());
+    }
 }
 
 #[test]
 fn what_gave_way_is_counted() {
-    let room = Room::new(0);
-    assert_eq!(room.evicted(), 0);
+    let books = Books::new(0, &Options::default());
     for (is_live, was_fetched, times) in [(true, true, 1), (true, false, 2), (false, true, 4), (false, false, 8)] {
-        (0..times).for_each(|_| room.count_gone(Leaving { is_live, was_fetched }));
+        (0..times).for_each(|_| books.count_gone(Leaving { is_live, was_fetched }));
     }
-    room.count_unfetched(Leaving { is_live: false, was_fetched: false });
-    room.count_unfetched(Leaving { is_live: false, was_fetched: true });
-    assert_eq!(room.evicted(), 3);
-    let counts = [("evictions", 3), ("evicted_unfetched", 2), ("reclaimed", 12), ("expired_unfetched", 9)];
-    assert_eq!(room.gone(), counts);
-    room.reset_gone();
-    assert!(room.gone().iter().all(|(_, count)| *count == 0));
+    books.count_unfetched(Leaving { is_live: false, was_fetched: false });
+    books.count_unfetched(Leaving { is_live: false, was_fetched: true });
+    let counts = [Count::Evicted, Count::EvictedUnfetched, Count::Reclaimed, Count::ExpiredUnfetched];
+    assert_eq!(counts.map(|count| books.counts.get(count)), [3, 2, 12, 9]);
+    books.counts.reset();
+    assert_eq!(counts.map(|count| books.counts.get(count)), [0; 4]);
 }
 
 #[test]
 fn so_many_seats() {
-    let seats = Seats::new(2, 100);
+    let seats = seats(2, 100);
     let (first, second) = (seats.take(), seats.take());
     assert!(first.is_some() && second.is_some() && seats.take().is_none());
     assert_eq!(seats.taken(), 2);
@@ -86,33 +87,24 @@ fn so_many_seats() {
 }
 
 #[test]
-fn items_that_wait_are_looked_at_from_a_small_part_of_the_limit_on() {
-    let room = Room::new(12_800);
-    room.take(101);
-    room.leave(100);
-    assert_eq!((room.waiting(), room.has_many_waiting()), (100, false));
-    room.leave(1);
-    assert_eq!((room.waiting(), room.has_many_waiting()), (101, true));
-}
-
-#[test]
 fn what_clients_hold_is_counted() {
-    let seats = Seats::new(2, 100_000);
+    let books = Arc::new(Books::new(0, &Options { memory: 200_000, ..Options::default() }));
+    let seats = Seats::new(2, Arc::clone(&books));
     let take = || seats.take().expect("a seat is free");
     let (mut first, mut second) = (take(), take());
     first.hold(60, None);
     second.hold(40_000, None);
-    assert_eq!((seats.bytes(), first.bytes(), second.bytes()), (40_060, 60, 40_000));
+    assert_eq!((books.budget.buffers(), first.bytes(), second.bytes()), (40_060, 60, 40_000));
     first.hold(59_000, None);
     drop(second);
-    assert_eq!(seats.bytes(), 59_000);
+    assert_eq!(books.budget.buffers(), 59_000);
     first.hold(0, None);
-    assert_eq!(seats.bytes(), 0);
+    assert_eq!(books.budget.buffers(), 0);
 }
 
 #[test]
 fn who_holds_most_for_longest_is_cut_off() {
-    let seats = Seats::new(3, 1_000);
+    let seats = seats(3, 1_000);
     let take = || seats.take().expect("a seat is free");
     let (mut first, mut second, mut third) = (take(), take(), take());
     let are_cut = |seats: [&Seat; 3]| seats.map(|seat| seat.cut().is_some());
@@ -134,7 +126,7 @@ fn who_holds_most_for_longest_is_cut_off() {
 
 #[test]
 fn who_has_held_less_for_much_longer_is_cut_off() {
-    let seats = Seats::new(2, 1_000);
+    let seats = seats(2, 1_000);
     let (mut first, mut second) = (seats.take().expect("a seat is free"), seats.take().expect("a seat is free"));
     first.hold(FREE + 400, None);
     sleep(Duration::from_millis(20));
@@ -144,11 +136,12 @@ fn who_has_held_less_for_much_longer_is_cut_off() {
 
 #[test]
 fn a_few_bytes_of_each_client_do_not_count() {
-    let seats = Seats::new(100, 0);
+    let books = Arc::new(Books::new(0, &Options::default()));
+    let seats = Seats::new(100, Arc::clone(&books));
     let mut all: Vec<_> = (0..100).map_while(|_| seats.take()).collect();
     all.iter_mut().for_each(|seat| seat.hold(FREE, None));
     assert!(all.iter().all(|seat| seat.cut().is_none()));
-    assert_eq!(seats.bytes(), 100 * FREE as u64);
+    assert_eq!(books.budget.buffers(), 100 * FREE as u64);
     all[50].hold(FREE + 1, None);
     assert_eq!(all.iter().position(|seat| seat.cut().is_some()), Some(50));
 }

@@ -1,0 +1,54 @@
+//! The addresses of items that lie in no chunk of small ones, so that all items can be found.
+use crate::item::Item;
+use crate::memory::may_fail;
+use std::sync::{Mutex, MutexGuard, PoisonError};
+
+/// What has no place.
+pub const NONE: u32 = u32::MAX;
+
+static PLACES: Mutex<Places> = Mutex::new(Places { all: Vec::new(), free: Vec::new() });
+
+/// Each place has the address of an item, or 0 if it is free.
+#[derive(Debug)]
+struct Places {
+    all: Vec<usize>,
+    /// The free places. Its capacity is that of `all`, so that it never grows when an item is freed.
+    free: Vec<u32>,
+}
+
+fn places() -> MutexGuard<'static, Places> {
+    PLACES.lock().unwrap_or_else(PoisonError::into_inner)
+}
+
+/// Gives the item a place. `None`: there is no memory for one.
+pub fn take(item: &Item) -> Option<u32> {
+    let (mut places, address) = (places(), item as *const Item as usize);
+    if let Some(place) = places.free.pop() {
+        places.all[place as usize] = address;
+        return Some(place);
+    }
+    let more = places.all.len().max(1);
+    if places.all.len() == places.all.capacity() {
+        may_fail(|| places.all.try_reserve_exact(more).and_then(|()| places.free.try_reserve_exact(2 * more))).ok()?;
+    }
+    places.all.push(address);
+    u32::try_from(places.all.len() - 1).ok()
+}
+
+/// Frees a place.
+pub fn give_back(place: u32) {
+    let mut places = places();
+    places.all[place as usize] = 0;
+    places.free.push(place);
+}
+
+/// Calls `each` with the items at so many places, from this one on. None of them is freed meanwhile, and `each` must not free one. Returns whether
+/// there are places behind these.
+pub fn look(first: usize, count: usize, mut each: impl FnMut(&Item)) -> bool {
+    let places = places();
+    for address in places.all.iter().skip(first).take(count).filter(|address| **address != 0) {
+        // SAFETY: an item gives its place back before it is freed, which takes the lock. Of a complete item only atomic fields change.
+        each(unsafe { &*(*address as *const Item) });
+    }
+    first + count < places.all.len()
+}

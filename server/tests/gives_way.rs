@@ -1,0 +1,122 @@
+//! Which items give way, by commands over the index of the server.
+mod plain;
+use cefrodild::budget::cost;
+use cefrodild::counts::Count;
+use plain::client::Client;
+use std::ops::Range;
+
+/// So many items have room.
+const ITEMS: usize = 200;
+
+/// Keys of scans begin here.
+const SCANNED: usize = 1_000;
+
+/// Popular keys.
+fn popular() -> Range<usize> {
+    0..50
+}
+
+/// The index has room for more items than the memory.
+fn client() -> Client {
+    Client::over_map(ITEMS * cost(4, 1) as usize, "-t1 -n1000")
+}
+
+/// Stores a value of one byte.
+fn set(client: &mut Client, key: usize) {
+    assert_eq!(client.ask(&format!("set {key:04} 0 0 1\n5\n")), "STORED\n");
+}
+
+/// Whether the key is there. This is a use of it.
+fn has(client: &mut Client, key: usize) -> bool {
+    client.ask(&format!("get {key:04}\n")) != "END\n"
+}
+
+/// Stores so many new keys, as a scan does. No two scans of a test have the same ones.
+fn scan(client: &mut Client, first: &mut usize, count: usize) {
+    (*first..*first + count).for_each(|key| set(client, key));
+    *first += count;
+}
+
+/// A full store, in which the popular keys were read.
+fn full(client: &mut Client, first: &mut usize) {
+    popular().for_each(|key| set(client, key));
+    assert!(popular().all(|key| has(client, key)));
+    scan(client, first, 2 * ITEMS);
+    assert_eq!(client.store.index.len(), ITEMS);
+}
+
+#[test]
+fn scans_evict_no_key_that_is_read_between() {
+    let (mut client, mut first) = (client(), SCANNED);
+    full(&mut client, &mut first);
+    for _ in 0..4 {
+        scan(&mut client, &mut first, 5 * ITEMS / 2);
+        let there = popular().filter(|key| has(&mut client, *key)).count();
+        assert!(there >= popular().len() - 2, "{there}");
+    }
+    assert_eq!(client.store.index.len(), ITEMS, "it stays full");
+}
+
+#[test]
+fn most_keys_that_come_back_are_kept_and_those_that_do_not_are_evicted() {
+    let (mut client, mut first) = (client(), SCANNED);
+    full(&mut client, &mut first);
+    (300..310).for_each(|key| set(&mut client, key));
+    scan(&mut client, &mut first, 2 * ITEMS);
+    assert!((300..310).all(|key| !has(&mut client, key)));
+    // The index remembers them.
+    (300..310).for_each(|key| set(&mut client, key));
+    (310..320).for_each(|key| set(&mut client, key));
+    scan(&mut client, &mut first, 2 * ITEMS);
+    let there = |keys: Range<usize>, client: &mut Client| keys.filter(|key| has(client, *key)).count();
+    assert!(there(300..310, &mut client) >= 7);
+    assert_eq!(there(310..320, &mut client), 0);
+}
+
+/// Commands that use the key 0007.
+const USES: [&str; 11] = [
+    "get 0007\n",
+    "touch 0007 100\n",
+    "gat 100 0007\n",
+    "mg 0007 T100\n",
+    "set 0007 0 0 1\n6\n",
+    "replace 0007 0 0 1\n6\n",
+    "append 0007 0 0 0\n\n",
+    "prepend 0007 0 0 0\n\n",
+    "incr 0007 1\n",
+    "ma 0007\n",
+    "ms 0007 1\n6\n",
+];
+
+#[test]
+fn a_new_key_that_is_used_is_kept() {
+    for command in USES {
+        let (mut client, mut first) = (client(), SCANNED);
+        full(&mut client, &mut first);
+        (306..308).for_each(|key| set(&mut client, key));
+        client.ask(&command.replace("0007", "0307"));
+        scan(&mut client, &mut first, 2 * ITEMS);
+        assert!(has(&mut client, 307) && !has(&mut client, 306), "{command}");
+    }
+}
+
+#[test]
+fn an_item_gives_way_though_all_were_read() {
+    let mut client = Client::over_map(1_500 * cost(4, 1) as usize, "-t1 -n3000");
+    for key in 1_000..2_500 {
+        assert_eq!(client.ask(&format!("set {key} 0 0 1\n5\nmg {key}\n")), "STORED\nHD\n");
+    }
+    assert_eq!(client.ask("set last 0 0 1\n5\n"), "STORED\n");
+    assert_eq!((client.store.books.counts.get(Count::Evicted), client.store.index.len()), (1, 1_500));
+}
+
+#[test]
+fn a_value_that_was_changed_does_not_give_way_to_itself() {
+    let mut client = Client::over_map(100_000, "-t1 -n10000");
+    for (command, length) in [("append", 20_000), ("prepend", 10_000), ("append", 15_000)] {
+        (0..200).for_each(|key| drop(client.ask(&format!("set {key} 0 0 900\n{}\n", "x".repeat(900)))));
+        client.ask(&format!("set main 0 0 1\nx\n{command} main 0 0 {length}\n{}\n", "x".repeat(length)));
+        assert_eq!(client.ask("mg main s\n"), format!("HD s{}\n", length + 1));
+        assert!(client.store.books.budget.used() <= 100_000);
+    }
+}
