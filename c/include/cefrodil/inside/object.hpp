@@ -57,7 +57,8 @@ template <class K, class V> struct Object : Retired {
     static uint64_t generation_of(uint64_t head) noexcept { return head / (all_kinds + 1); }
     Kind kind() const noexcept { return kind_of(head.load(std::memory_order_acquire)); }
     uint64_t generation() const noexcept { return generation_of(head.load(std::memory_order_acquire)); }
-    // It is what it will be, and may be put. Called again, it moves the object to another generation.
+    // It is what it will be, and may be put. Called again, it moves the object to another generation. It is the last step before a put: what a call
+    // reads of its own object after it would be a race with the end of the object, as ThreadSanitizer sees it.
     void end_making(Kind its_kind, uint64_t generation) noexcept {
         head.store(generation * (all_kinds + 1) + its_kind, std::memory_order_release);
     }

@@ -154,7 +154,10 @@ template <class K, class V> class Objects {
     // Puts over what was put at that moment, in the generation that the object has.
     Status replace(uint64_t index, uint64_t since, Own &object, Change &change) noexcept {
         const auto is_new = [] { return false; };
-        return offered(index, object, change, is_new, [&](Slot<1> &slot) { return slot.handle.try_swap_if(index, since, object->word()); });
+        return offered(index, object, change, is_new, [&](Slot<1> &slot) {
+            object->end_making(object->kind(), object->generation());
+            return slot.handle.try_swap_if(index, since, object->word());
+        });
     }
     // What gave way is no older value of the key: it is another key's, or had ended.
     void gave_way(Change &change) noexcept {
@@ -210,11 +213,9 @@ template <class K, class V> class Objects {
     }
     // With the key's lock. The object gets the generation of now, or, if it was computed, must have that.
     bool begins(Each &object, bool is_computed) noexcept {
-        const uint64_t now = generation_.now();
-        if (!is_computed) {
-            object.end_making(object.kind(), now);
-        }
-        return object.generation() == now;
+        const uint64_t now = generation_.now(), own = object.generation();
+        object.end_making(object.kind(), is_computed ? own : now);
+        return !is_computed || own == now;
     }
     template <class Take> Status removed(uint64_t index, Change &change, Take take) noexcept {
         if (is_too_deep()) {
