@@ -143,7 +143,7 @@ impl Index for MapIndex {
 
     fn put(&self, hash: u64, item: NewItem) -> Result<Token, Refused> {
         let logged = self.logged(&item);
-        let (put, ()) = self.map.put_seen(hash, item, |_, _| ())?;
+        let put = self.map.put_hashed(hash, item)?;
         self.log_put(logged, put);
         Ok(put.at)
     }
