@@ -1,5 +1,5 @@
 //! Accepts the clients that wait, so many at a time.
-use crate::complain::{complain_at_times, Last};
+use crate::log::Seldom;
 use std::io::{self, ErrorKind};
 use std::time::Duration;
 
@@ -17,8 +17,8 @@ pub fn accept_some<T>(mut accept: impl FnMut() -> io::Result<T>, mut hand: impl 
             Err(why) if why.kind() == ErrorKind::WouldBlock => return None,
             Err(why) if matches!(why.kind(), ErrorKind::Interrupted | ErrorKind::ConnectionAborted) => {}
             Err(why) => {
-                static LAST: Last = Last::new(None);
-                complain_at_times(&LAST, format_args!("clients can't be accepted: {why}"));
+                static SELDOM: Seldom = Seldom::new(1);
+                SELDOM.log(format_args!("clients can't be accepted: {why}"));
                 return Some(PAUSE);
             }
         }

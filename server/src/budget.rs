@@ -1,7 +1,7 @@
 //! The memory that the server may take, for items and for what clients hold, and what it does take.
 use crate::allocator;
-use crate::complain::{complain_at_times, Last};
 use crate::large::left;
+use crate::log::Seldom;
 use crate::rss_limit::RssLimit;
 use std::io;
 use std::sync::atomic::{AtomicU64, Ordering::Relaxed};
@@ -158,8 +158,8 @@ impl Budget {
         let taken = match self.taken_by_process(rss) {
             Ok(taken) => taken,
             Err(why) => {
-                static LAST: Last = Last::new(None);
-                complain_at_times(&LAST, format_args!("the server's memory can't be read: {why}"));
+                static SELDOM: Seldom = Seldom::new(1);
+                SELDOM.log(format_args!("the server's memory can't be read: {why}"));
                 return false;
             }
         };

@@ -1,17 +1,17 @@
 //! A client's connection: its buffers, and what it may take in one turn.
-use crate::complain::{complain_few, Told};
 use crate::counts::Count;
 use crate::dialogue::{Dialogue, Turn};
 use crate::holders::{Cut, Home};
 use crate::input::Input;
 use crate::listen::Stream;
+use crate::log::Seldom;
 use crate::output::Output;
 use crate::seat::{Seat, State};
 use crate::store::Store;
 use mio::event::Event;
 use std::fmt::Arguments;
 use std::io::{self, ErrorKind, Read};
-use std::os::fd::AsRawFd;
+use std::os::fd::{AsRawFd, RawFd};
 
 /// Buffers from this size on are counted also within a turn.
 const LARGE: usize = 1 << 17;
@@ -60,9 +60,9 @@ impl Connection {
         Connection { seat, stream, dialogue, input, needs: 1, output, is_ending, is_dry, is_half_closed }
     }
 
-    /// The connection, for registering it.
-    pub fn stream(&mut self) -> &mut Stream {
-        &mut self.stream
+    /// Its open file.
+    pub fn file(&self) -> RawFd {
+        self.stream.as_raw_fd()
     }
 
     /// Who serves it from now on.
@@ -145,8 +145,8 @@ impl Connection {
 
     /// Tells the operator of this client.
     fn tell(&self, what: Arguments) {
-        static TOLD: Told = Told::new((None, 0));
-        complain_few(&TOLD, MOST_TOLD, format_args!("{} {what}", self.stream));
+        static SELDOM: Seldom = Seldom::new(MOST_TOLD);
+        SELDOM.log(format_args!("{} {what}", self.stream));
     }
 
     /// What the client's own buffers take.

@@ -27,13 +27,13 @@ enum Way {
 }
 
 impl Store {
-    /// Counts the bytes of an item with this hash that is about to be put, and makes room for it.
-    pub(crate) fn make_room(&self, hash: u64, bytes: u64) -> Result<Claim<'_>, Fault> {
+    /// Counts the bytes of an item that is about to be put, and makes room for it.
+    pub(crate) fn make_room(&self, bytes: u64) -> Result<Claim<'_>, Fault> {
         let mut claim = self.claim(bytes)?;
         if self.books.budget.is_time_to_look() {
             claim.expect();
         }
-        if self.balance(hash, bytes) && self.wait_for_frees() {
+        if self.balance(bytes) && self.wait_for_frees() {
             Ok(claim)
         } else {
             Err(Fault::NoRoom)
@@ -56,22 +56,21 @@ impl Store {
         Ok(self.books.budget.claim(bytes))
     }
 
-    /// Evicts items until the others are within the budget, with an item of so many bytes that is about to be put or was: first one in the shard of
-    /// this hash. Returns whether they are.
-    pub(crate) fn balance(&self, near: u64, bytes: u64) -> bool {
+    /// Evicts items until the others are within the budget, with an item of so many bytes that is about to be put or was. Returns whether they are.
+    pub(crate) fn balance(&self, bytes: u64) -> bool {
         if self.books.budget.is_time_to_look() {
-            self.look_at_memory(near, bytes);
+            self.look_at_memory(bytes);
         }
-        self.evict_enough(near, Way::Alone)
+        self.evict_enough(Way::Alone)
     }
 
     /// Looks at the memory of the process. If that exceeds its limit, items give way with their neighbours.
-    fn look_at_memory(&self, near: u64, bytes: u64) {
+    fn look_at_memory(&self, bytes: u64) {
         for _ in 0..LOOKS_OF_A_PUT {
             if !self.books.budget.look(bytes) {
                 break;
             }
-            self.evict_enough(near, Way::WithNeighbours);
+            self.evict_enough(Way::WithNeighbours);
             self.index.sweep();
         }
     }
@@ -85,7 +84,7 @@ impl Store {
         let (budget, limit) = (&self.books.budget, self.books.budget.limit());
         let cut = (TIMES_OF_CUT * bytes as u64).min(limit / PART_OF_CUT);
         budget.set_limit(budget.used().saturating_sub(cut));
-        self.evict_enough(self.books.clock.now(), Way::Alone);
+        self.evict_enough(Way::Alone);
         budget.set_limit(limit);
         self.index.sweep();
         allocator::trim();
@@ -102,14 +101,10 @@ impl Store {
     }
 
     /// Evicts items until the others are within the limit. Returns whether they are.
-    fn evict_enough(&self, near: u64, way: Way) -> bool {
+    fn evict_enough(&self, way: Way) -> bool {
         let mut failed = 0;
-        // If many items give way to one, they are of all shards.
-        for near in (0..).map(|step| near.wrapping_add(step)) {
-            if !self.books.budget.is_over() {
-                break;
-            }
-            if self.evict(near, way) {
+        while self.books.budget.is_over() {
+            if self.evict(way) {
                 continue;
             }
             failed += 1;
@@ -137,9 +132,10 @@ impl Store {
     }
 
     /// Evicts one item, or also its neighbours. Returns whether it has.
-    fn evict(&self, near: u64, way: Way) -> bool {
+    fn evict(&self, way: Way) -> bool {
         let mut neighbours = Vec::new();
-        let has_evicted = self.index.evict(near, &mut |item| {
+        // The time draws a shard.
+        let has_evicted = self.index.evict(self.books.clock.now(), &mut |item| {
             if way == Way::WithNeighbours {
                 look_around(item, |other| neighbours.push((self.index.hash_of(other.key()), address_of(other))));
             }

@@ -63,8 +63,8 @@ pub trait Index: Send + Sync {
     /// Looks up the item with this hash. The index does not take it for a use of the item.
     fn peek(&self, hash: u64, see: &mut dyn FnMut(Seen<'_>));
 
-    /// Puts the item, whatever its key has, which has this hash.
-    fn put(&self, hash: u64, item: NewItem) -> Result<Token, Refused>;
+    /// Puts the item, whatever its key has.
+    fn put(&self, item: NewItem) -> Result<Token, Refused>;
 
     /// Puts the item if its key is absent.
     fn put_new(&self, item: NewItem) -> Result<Token, Refused>;
@@ -75,9 +75,9 @@ pub trait Index: Send + Sync {
     /// Removes the item with this hash if it has this token.
     fn remove(&self, hash: u64, token: Token) -> Result<Token, Refused>;
 
-    /// Removes the item that is to give way next, and calls `see` with it: one whose hash is in the same shard as this one, if that has one. Returns
-    /// whether it has removed one.
-    fn evict(&self, near: u64, see: &mut dyn FnMut(&Item)) -> bool;
+    /// Removes the item that is to give way next in a shard that the number draws, or in another one, and calls `see` with it. Returns whether it has
+    /// removed one.
+    fn evict(&self, draw: u64, see: &mut dyn FnMut(&Item)) -> bool;
 
     /// How many items there are.
     fn len(&self) -> usize;

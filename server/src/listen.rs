@@ -1,7 +1,5 @@
 //! Where the server listens, and what it accepts there.
-use mio::event::Source;
 use mio::net::{TcpListener, TcpStream, UnixListener, UnixStream};
-use mio::{Interest, Registry, Token};
 use nix::sys::stat::{umask, Mode};
 use std::fmt::{self, Display, Formatter};
 use std::fs;
@@ -130,22 +128,6 @@ impl Listener {
             Listener::Unix(listener, _) => Ok(Stream::Unix(listener.accept()?.0)),
         }
     }
-
-    fn source(&mut self) -> &mut dyn Source {
-        match self {
-            Listener::Tcp(listener) => listener,
-            Listener::Unix(listener, _) => listener,
-        }
-    }
-}
-
-impl Stream {
-    fn source(&mut self) -> &mut dyn Source {
-        match self {
-            Stream::Tcp(stream) => stream,
-            Stream::Unix(stream) => stream,
-        }
-    }
 }
 
 impl AsRawFd for Listener {
@@ -207,24 +189,3 @@ impl Write for Stream {
         Ok(())
     }
 }
-
-/// Both are registered as what they have.
-macro_rules! registered {
-    ($($kind:ty),*) => {$(
-        impl Source for $kind {
-            fn register(&mut self, registry: &Registry, token: Token, interest: Interest) -> io::Result<()> {
-                self.source().register(registry, token, interest)
-            }
-
-            fn reregister(&mut self, registry: &Registry, token: Token, interest: Interest) -> io::Result<()> {
-                self.source().reregister(registry, token, interest)
-            }
-
-            fn deregister(&mut self, registry: &Registry) -> io::Result<()> {
-                self.source().deregister(registry)
-            }
-        }
-    )*};
-}
-
-registered!(Listener, Stream);

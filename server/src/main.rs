@@ -2,10 +2,10 @@
 use cefrodild::allocator;
 use cefrodild::audit::Audit;
 use cefrodild::books::Books;
-use cefrodild::complain::complain;
 use cefrodild::daemon;
 use cefrodild::files;
 use cefrodild::listen::{Listener, Place};
+use cefrodild::log::log;
 use cefrodild::map_index::MapIndex;
 use cefrodild::memory::Spare;
 use cefrodild::options::{parse, Asked, Options, HELP};
@@ -41,12 +41,12 @@ fn main() -> ExitCode {
         Ok(Asked::Version) => return tell(concat!("cefrodild ", env!("CARGO_PKG_VERSION"), "\n")),
         Ok(Asked::Serve(options)) => {
             if let Err(why) = serve(options) {
-                complain(format_args!("{why}"));
+                log(format_args!("{why}"));
                 return ExitCode::from(1);
             }
         }
         Err(why) => {
-            complain(format_args!("{why}"));
+            log(format_args!("{why}"));
             return ExitCode::from(2);
         }
     }
@@ -58,7 +58,7 @@ fn tell(text: &str) -> ExitCode {
     match io::stdout().write_all(text.as_bytes()).and_then(|()| io::stdout().flush()) {
         Ok(()) => ExitCode::SUCCESS,
         Err(why) => {
-            complain(format_args!("standard output: {why}"));
+            log(format_args!("standard output: {why}"));
             ExitCode::from(1)
         }
     }
@@ -67,7 +67,7 @@ fn tell(text: &str) -> ExitCode {
 fn serve(options: Options) -> Result<(), Box<dyn Error>> {
     let Options { threads, memory, items, verbosity, .. } = options;
     for word in &options.idle {
-        complain(format_args!("{word} changes nothing here"));
+        log(format_args!("{word} changes nothing here"));
     }
     let starter = options.detaches.then(daemon::detach).transpose()?;
     let listeners = prepare(&options)?;
@@ -75,11 +75,11 @@ fn serve(options: Options) -> Result<(), Box<dyn Error>> {
     let _own_file = file.map(|file| daemon::write_number(file).map_err(|why| named(&file.display(), &why))).transpose()?;
     allocator::set_up();
     if let Err(why) = reserve_addresses(memory, threads) {
-        complain(format_args!("{why}. When the sizes of values change, the server may take more memory"));
+        log(format_args!("{why}. When the sizes of values change, the server may take more memory"));
     }
-    let log = options.audit.as_deref().map(Audit::create).transpose()?.map(Arc::new);
+    let audit = options.audit.as_deref().map(Audit::create).transpose()?.map(Arc::new);
     let books = Arc::new(Books::new(0, &options));
-    let index = MapIndex::open(items, threads, &books, log.clone())?;
+    let index = MapIndex::open(items, threads, &books, audit.clone())?;
     if books.budget.bound_process((memory + memory / PART_OF_LOSS) as u64)? == 0 {
         return Err("the index takes all of the memory limit: choose a smaller -n".into());
     }
@@ -90,7 +90,7 @@ fn serve(options: Options) -> Result<(), Box<dyn Error>> {
         drop(io::stdout().write_all(told.as_bytes()).and_then(|()| io::stdout().flush()));
         starter.map_or(Ok(()), |starter| starter.tell_ready(verbosity > 0))
     })?;
-    log.map_or(Ok(()), |log| log.end()).map_err(Into::into)
+    audit.map_or(Ok(()), |audit| audit.end()).map_err(Into::into)
 }
 
 /// Reserves addresses for small items, unless too few would be left for all else.

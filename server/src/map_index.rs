@@ -141,9 +141,9 @@ impl Index for MapIndex {
         self.map.peek_hash(hash, |found| see(seen(found)));
     }
 
-    fn put(&self, hash: u64, item: NewItem) -> Result<Token, Refused> {
+    fn put(&self, item: NewItem) -> Result<Token, Refused> {
         let logged = self.logged(&item);
-        let put = self.map.put_hashed(hash, item)?;
+        let put = self.map.put(item)?;
         self.log_put(logged, put);
         Ok(put.at)
     }
@@ -156,8 +156,8 @@ impl Index for MapIndex {
     }
 
     fn put_if(&self, token: Token, item: NewItem) -> Result<Token, Refused> {
-        let (logged, hash) = (self.logged(&item), self.hash_of(item.key()));
-        let put = self.map.replace_if(token, item).map_err(|why| self.failed(hash, why))?;
+        let logged = self.logged(&item);
+        let put = self.map.replace_if(token, item).map_err(|why| self.failed(logged.map_or(0, |(hash, _)| hash), why))?;
         self.log_put(logged, put);
         Ok(put.at)
     }
@@ -168,8 +168,8 @@ impl Index for MapIndex {
         Ok(at)
     }
 
-    fn evict(&self, near: u64, see: &mut dyn FnMut(&Item)) -> bool {
-        let evicted = self.map.evict(near, |item, at| {
+    fn evict(&self, draw: u64, see: &mut dyn FnMut(&Item)) -> bool {
+        let evicted = self.map.evict(draw, |item, at| {
             self.log_change("evict", at, || self.hash_of(item.key()));
             see(item);
         });

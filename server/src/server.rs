@@ -1,9 +1,9 @@
 //! Accepts clients, and hands them to the workers in turn.
 use crate::accept::accept_some;
-use crate::complain::{complain, complain_at_times, Last};
 use crate::connection::Connection;
 use crate::counts::Count;
 use crate::listen::{Listener, Stream};
+use crate::log::{log, Seldom};
 use crate::signal;
 use crate::store::Store;
 use crate::worker::{Inbox, Worker};
@@ -40,11 +40,11 @@ pub fn named(what: &impl Display, why: &io::Error) -> io::Error {
 
 impl Server {
     /// Serves clients, and ends at SIGTERM, SIGINT or SIGUSR1, when what clients have sent is answered. Calls `ready` when it can serve.
-    pub fn run(store: Arc<Store>, mut listeners: Vec<Listener>, ready: impl FnOnce() -> io::Result<()>) -> io::Result<()> {
+    pub fn run(store: Arc<Store>, listeners: Vec<Listener>, ready: impl FnOnce() -> io::Result<()>) -> io::Result<()> {
         let signal = signal::file()?;
         let mut poll = Poll::new()?;
-        for (index, listener) in listeners.iter_mut().enumerate() {
-            poll.registry().register(listener, Token(index), Interest::READABLE)?;
+        for (index, listener) in listeners.iter().enumerate() {
+            poll.registry().register(&mut SourceFd(&listener.as_raw_fd()), Token(index), Interest::READABLE)?;
         }
         poll.registry().register(&mut SourceFd(&signal.as_raw_fd()), SIGNAL, Interest::READABLE)?;
         let (mut inboxes, mut threads) = (Vec::new(), Vec::new());
@@ -81,12 +81,9 @@ impl Server {
 impl Workers {
     fn hand(&mut self, mut stream: Stream) {
         let Some(seat) = self.store.seats.take() else {
-            static LAST: Last = Last::new(None);
+            static SELDOM: Seldom = Seldom::new(1);
             self.store.books.counts.add(Count::Rejected);
-            complain_at_times(
-                &LAST,
-                format_args!("clients are turned away: {} are connected (-c)", self.store.options.connections),
-            );
+            SELDOM.log(format_args!("clients are turned away: {} are connected (-c)", self.store.options.connections));
             // If the client doesn't get this, it sees all the same that the connection ends.
             let _ = stream.write(b"ERROR Too many open connections\r\n");
             return;
@@ -95,7 +92,7 @@ impl Workers {
         self.handed += 1;
         let inbox = &self.inboxes[self.handed % self.inboxes.len()];
         if let Err(why) = inbox.hand(Connection::new(stream, seat)) {
-            complain(format_args!("a client is lost: {why}"));
+            log(format_args!("a client is lost: {why}"));
         }
     }
 }

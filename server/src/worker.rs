@@ -1,10 +1,11 @@
 //! A thread that answers some of the clients.
-use crate::complain::{complain, complain_at_times, Last};
 use crate::connection::{warm_up, Connection, Next};
 use crate::counts::{self, Count};
 use crate::expire::PAUSE;
 use crate::holders::Home;
+use crate::log::{log, Seldom};
 use crate::store::Store;
+use mio::unix::SourceFd;
 use mio::{Events, Interest, Poll, Token, Waker};
 use slab::Slab;
 use std::io::{self, ErrorKind};
@@ -73,7 +74,7 @@ impl Drop for Inbox {
     fn drop(&mut self) {
         lock(&self.mail).is_last = true;
         if let Err(why) = self.waker.wake() {
-            complain(format_args!("a worker can't be woken: {why}"));
+            log(format_args!("a worker can't be woken: {why}"));
         }
     }
 }
@@ -191,11 +192,11 @@ impl Worker {
         let token = Token(entry.key());
         client.settle(Home { waker: Arc::clone(&self.waker), token });
         client.note_turn(second);
-        match self.poll.registry().register(client.stream(), token, Interest::READABLE | Interest::WRITABLE) {
+        match self.poll.registry().register(&mut SourceFd(&client.file()), token, Interest::READABLE | Interest::WRITABLE) {
             Ok(()) => drop(entry.insert(Box::new(client))),
             Err(why) => {
-                static LAST: Last = Last::new(None);
-                complain_at_times(&LAST, format_args!("clients can't be registered: {why}"));
+                static SELDOM: Seldom = Seldom::new(1);
+                SELDOM.log(format_args!("clients can't be registered: {why}"));
             }
         }
     }

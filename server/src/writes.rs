@@ -36,12 +36,12 @@ impl Store {
     }
 
     fn set(&self, order: &Order, data: &[u8]) -> Result<Answer, Fault> {
-        let (born, hash) = (self.books.clock.now(), self.index.hash_of(order.key));
-        let claim = self.make_room(hash, cost(order.key.len(), data.len()))?;
+        let born = self.books.clock.now();
+        let claim = self.make_room(cost(order.key.len(), data.len()))?;
         let put = self.put(claim, || {
             let fresh = || self.fresh(order, born, data);
             let item = fresh().or_else(|| self.with_more_memory(data.len(), fresh)).ok_or(Refused::Full)?;
-            self.index.put(hash, item)
+            self.index.put(item)
         })?;
         Ok(put.map_or(Answer::NotStored, Answer::Done))
     }
@@ -89,14 +89,14 @@ impl Store {
 
     /// Puts an item over what was found. `None`: that is not there any more.
     fn put_over(&self, key: &[u8], found: Found<()>, next: NewItem) -> Result<Option<Token>, Fault> {
-        let (hash, bytes) = (self.index.hash_of(key), cost(key.len(), next.value().len()));
+        let bytes = cost(key.len(), next.value().len());
         match found {
-            Found::Absent => self.put(self.make_room(hash, bytes)?, || self.index.put_new(next)),
-            Found::Dead(token) => self.put(self.make_room(hash, bytes)?, || self.index.put_if(token, next)),
+            Found::Absent => self.put(self.make_room(bytes)?, || self.index.put_new(next)),
+            Found::Dead(token) => self.put(self.make_room(bytes)?, || self.index.put_if(token, next)),
             Found::Live((), token) => {
                 let put = self.put(self.make_room_later(bytes)?, || self.index.put_if(token, next))?;
-                // So the old value does not give way to the new one. Nor does that to itself: others in another shard are looked at first.
-                self.balance(!hash, bytes);
+                // So the old value does not give way to the new one.
+                self.balance(bytes);
                 Ok(put)
             }
         }

@@ -6,19 +6,19 @@ use plain::client::Client;
 use std::ops::Range;
 
 /// So many items have room.
-const ITEMS: usize = 200;
+const ITEMS: usize = 60;
 
 /// Keys of scans begin here.
 const SCANNED: usize = 1_000;
 
 /// Popular keys.
 fn popular() -> Range<usize> {
-    0..50
+    0..15
 }
 
-/// The index has room for more items than the memory.
+/// The index has one shard, and room for more items than the memory.
 fn client() -> Client {
-    Client::over_map(ITEMS * cost(4, 1) as usize, "-t1 -n1000")
+    Client::over_map(ITEMS * cost(4, 1) as usize, "-t1 -n120")
 }
 
 /// Stores a value of one byte.
@@ -51,26 +51,30 @@ fn scans_evict_no_key_that_is_read_between() {
     full(&mut client, &mut first);
     for _ in 0..4 {
         scan(&mut client, &mut first, 5 * ITEMS / 2);
-        let there = popular().filter(|key| has(&mut client, *key)).count();
-        assert!(there >= popular().len() - 2, "{there}");
+        assert_eq!(there(&mut client, popular()), popular().len());
     }
     assert_eq!(client.store.index.len(), ITEMS, "it stays full");
+}
+
+/// How many of these keys are there.
+fn there(client: &mut Client, keys: Range<usize>) -> usize {
+    keys.filter(|key| has(client, *key)).count()
 }
 
 #[test]
 fn most_keys_that_come_back_are_kept_and_those_that_do_not_are_evicted() {
     let (mut client, mut first) = (client(), SCANNED);
     full(&mut client, &mut first);
-    (300..310).for_each(|key| set(&mut client, key));
-    scan(&mut client, &mut first, 2 * ITEMS);
-    assert!((300..310).all(|key| !has(&mut client, key)));
-    // The index remembers them.
-    (300..310).for_each(|key| set(&mut client, key));
-    (310..320).for_each(|key| set(&mut client, key));
-    scan(&mut client, &mut first, 2 * ITEMS);
-    let there = |keys: Range<usize>, client: &mut Client| keys.filter(|key| has(client, *key)).count();
-    assert!(there(300..310, &mut client) >= 7);
-    assert_eq!(there(310..320, &mut client), 0);
+    (300..320).for_each(|key| set(&mut client, key));
+    scan(&mut client, &mut first, ITEMS);
+    assert_eq!(there(&mut client, 300..320), 0);
+    // The index remembers them, unless a later one has its place.
+    (300..320).for_each(|key| set(&mut client, key));
+    (320..340).for_each(|key| set(&mut client, key));
+    scan(&mut client, &mut first, ITEMS);
+    let kept = there(&mut client, 300..320);
+    assert!(kept > 5, "{kept}");
+    assert_eq!(there(&mut client, 320..340), 0);
 }
 
 /// Commands that use the key 0007.
@@ -112,11 +116,11 @@ fn an_item_gives_way_though_all_were_read() {
 
 #[test]
 fn a_value_that_was_changed_does_not_give_way_to_itself() {
-    let mut client = Client::over_map(100_000, "-t1 -n10000");
-    for (command, length) in [("append", 20_000), ("prepend", 10_000), ("append", 15_000)] {
-        (0..200).for_each(|key| drop(client.ask(&format!("set {key} 0 0 900\n{}\n", "x".repeat(900)))));
+    let (mut client, mut first) = (Client::over_map(500_000, "-t1 -n10000"), SCANNED);
+    for (command, length) in [("append", 50_000), ("prepend", 20_000), ("append", 70_000)] {
+        scan(&mut client, &mut first, 12_000);
         client.ask(&format!("set main 0 0 1\nx\n{command} main 0 0 {length}\n{}\n", "x".repeat(length)));
         assert_eq!(client.ask("mg main s\n"), format!("HD s{}\n", length + 1));
-        assert!(client.store.books.budget.used() <= 100_000);
+        assert!(client.store.books.budget.used() <= 500_000);
     }
 }

@@ -36,7 +36,7 @@ impl Logged {
     }
 
     fn put(&self, key: &[u8], flags: u32) -> u64 {
-        self.index.put(self.index.hash_of(key), item(key, flags)).expect("there is room")
+        self.index.put(item(key, flags)).expect("there is room")
     }
 
     /// The lines but for the head. This ends the log.

@@ -14,7 +14,7 @@ use std::sync::Arc;
 fn put(index: &MapIndex, books: &Books, key: &[u8], flags: u32) -> Token {
     books.budget.claim(cost(key.len(), 1)).keep();
     let item = new_item(1, flags, u64::MAX, key, &[&[0]]).expect("there is memory");
-    index.put(index.hash_of(key), item).expect("there is room")
+    index.put(item).expect("there is room")
 }
 
 fn books() -> Arc<Books> {

@@ -168,15 +168,7 @@ impl<H: Head, S: BuildHasher> BytesMap<H, S> {
     ///
     /// [`InsertError`]: nothing was changed.
     pub fn put(&self, block: Block<H>) -> Result<Put, InsertError> {
-        self.put_hashed(self.hash_of(block.key()), block)
-    }
-
-    /// Like [`put`](Self::put) of a block whose key has this hash, by [`hash_of`](Self::hash_of): with another one, its key will not be found.
-    ///
-    /// # Errors
-    ///
-    /// As [`put`](Self::put).
-    pub fn put_hashed(&self, hash: u64, block: Block<H>) -> Result<Put, InsertError> {
+        let hash = self.hash_of(block.key());
         self.inner.put(hash, block).map_err(|(_, why)| self.inner.core.refused(why))
     }
 

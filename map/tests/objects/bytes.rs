@@ -141,8 +141,6 @@ fn each_call_does_what_it_says() {
     assert!(matches!(map.remove_stamped(hash, second), Err(IfError::Changed { .. })));
     assert!(map.remove_stamped(hash, third).is_ok());
     assert_eq!((found(1), map.is_empty(), map.capacity()), (None, true, 100));
-    map.put_hashed(map.hash_of(b"5"), make(5, 50)).unwrap();
-    assert_eq!(found(5).map(|(number, _)| number), Some(50));
 }
 
 /// All keys have one hash.

@@ -115,7 +115,7 @@ impl Index for Plain {
         see(Ok(entry.map(|entry| (&*entry.item, entry.token))));
     }
 
-    fn put(&self, _: u64, item: NewItem) -> Result<Token, Refused> {
+    fn put(&self, item: NewItem) -> Result<Token, Refused> {
         self.put_as(item, |_| true)
     }
 
