@@ -20,7 +20,7 @@ use std::time::Duration;
 #[derive(Clone, Copy, Debug, PartialEq, Eq, Hash)]
 #[non_exhaustive]
 pub enum Reason {
-    /// It gave way to a new key.
+    /// It gave way: to a new key, to the bound on weights, or by [`BytesMap::evict`](crate::BytesMap::evict).
     Evicted,
     /// Another value was put in its place: of its own key, or of one with the same hash.
     Replaced,

@@ -4,11 +4,8 @@ use super::bytes::{Any, Block, Bytes, Head};
 use super::error::{AbsentError, IfError};
 use super::inner::ObjectInner;
 use super::look::Look;
-use super::object::Keyed;
-use super::pinned::State;
 use super::put::Put;
-use crate::error::{ClearError, GetError, InsertError, OpenError, RemoveError};
-use crate::handle::MANY;
+use crate::error::{GetError, InsertError, OpenError, RemoveError};
 use crate::settings::Settings;
 use crate::stats::Stats;
 use crate::wait::TRIES;
@@ -116,39 +113,8 @@ impl<H: Head, S> BytesMap<H, S> {
         self.inner.epochs.waiting()
     }
 
-    /// Looks up what has this hash, whatever its key is.
-    pub fn look_hash<R>(&self, hash: u64, look: impl FnOnce(Result<Look<&Bytes<H>>, GetError>) -> R) -> R {
-        self.look_at(hash, &Any, look)
-    }
-
-    /// Looks up what has these hashes in order, and calls `look` with the index of each and what was found. Up to 32 are looked up together, which
-    /// takes less for each than [`look_hash`](Self::look_hash).
-    pub fn look_hashes(&self, hashes: &[u64], mut look: impl FnMut(usize, Result<Look<&Bytes<H>>, GetError>)) {
-        let pinned = self.inner.pin();
-        for (chunk, hashes) in hashes.chunks(MANY).enumerate() {
-            let mut replies = [Reply::Busy; MANY];
-            self.inner.core.slots.call(|handle| handle.get_many(hashes, &mut replies[..hashes.len()]));
-            for (index, (hash, reply)) in hashes.iter().zip(replies).enumerate() {
-                let state = pinned.state_or_look(*hash, &Any, reply, self.inner.core.looks());
-                self.inner.count(&state);
-                look(chunk * MANY + index, state.map(State::object).ok_or(GetError::Busy));
-            }
-        }
-    }
-
-    #[inline]
-    fn look_at<Q: ?Sized, R>(&self, hash: u64, key: &Q, look: impl FnOnce(Result<Look<&Bytes<H>>, GetError>) -> R) -> R
-    where
-        Bytes<H>: Keyed<Q>,
-    {
-        let pinned = self.inner.pin();
-        let state = pinned.look(hash, key, self.inner.core.looks());
-        self.inner.count(&state);
-        look(state.map(|state| state.object()).ok_or(GetError::Busy))
-    }
-
-    /// Like [`look_hash`](Self::look_hash), for a program that tidies up: what is found does not count as used, nor is the lookup counted. It
-    /// tries once for the turn of the hash's shard, as a write does, and is busy if that did not win.
+    /// Looks up what has this hash, whatever its key is, for a program that tidies up: what is found does not count as used, nor is the lookup counted.
+    /// It tries once for the turn of the hash's shard, as a write does, and is busy if that did not win.
     pub fn peek_hash<R>(&self, hash: u64, look: impl FnOnce(Result<Look<&Bytes<H>>, GetError>) -> R) -> R {
         let pinned = self.inner.pin();
         let reply = self.inner.core.slots.call(|handle| handle.try_peek(hash)).unwrap_or(Reply::Busy);
@@ -164,18 +130,6 @@ impl<H: Head, S> BytesMap<H, S> {
     /// [`RemoveError`]: nothing was evicted.
     pub fn evict<R>(&self, draw: u64, see: impl FnOnce(&Bytes<H>, u64) -> R) -> Result<Option<R>, RemoveError> {
         self.inner.evict(draw, self.inner.core.tries, see)
-    }
-
-    /// The hashes of all entries, for a program that looks at one after the other, by [`peek_hash`](Self::peek_hash). Those that other threads put or
-    /// remove meanwhile are among them or not. It takes 32 bytes for each entry that the map can hold, and keeps 8 for each that it has.
-    ///
-    /// # Errors
-    ///
-    /// [`ClearError`].
-    pub fn hashes(&self) -> Result<Vec<u64>, ClearError> {
-        let mut hashes: Vec<u64> = self.inner.list()?.into_iter().map(|(hash, _)| hash).collect();
-        hashes.shrink_to_fit();
-        Ok(hashes)
     }
 
     /// As [`ObjectMap::remove_stamped`](crate::ObjectMap::remove_stamped).
@@ -197,7 +151,10 @@ impl<H: Head, S: BuildHasher> BytesMap<H, S> {
 
     /// Looks the key up, and calls `look` with what was found. For one key it takes less than [`look_many`](Self::look_many).
     pub fn look<R>(&self, key: &[u8], look: impl FnOnce(Result<Look<&Bytes<H>>, GetError>) -> R) -> R {
-        self.look_at(self.hash_of(key), key, look)
+        let pinned = self.inner.pin();
+        let state = pinned.look(self.hash_of(key), key, self.inner.core.looks());
+        self.inner.count(&state);
+        look(state.map(|state| state.object()).ok_or(GetError::Busy))
     }
 
     /// As [`ObjectMap::look_many`](crate::ObjectMap::look_many).
@@ -213,22 +170,6 @@ impl<H: Head, S: BuildHasher> BytesMap<H, S> {
     pub fn put(&self, block: Block<H>) -> Result<Put, InsertError> {
         let hash = self.hash_of(block.key());
         self.inner.put(hash, block).map_err(|(_, why)| self.inner.core.refused(why))
-    }
-
-    /// Like [`put`](Self::put) of a block whose key has this hash, by [`hash_of`](Self::hash_of): with another one, its key will not be found. Then
-    /// calls `see` with the block, and with the one that it has replaced. Both stay until `see` returns, also if other threads remove the block
-    /// meanwhile. If `see` panics, the one that was replaced leaks.
-    ///
-    /// # Errors
-    ///
-    /// As [`put`](Self::put).
-    pub fn put_seen<R>(
-        &self,
-        hash: u64,
-        block: Block<H>,
-        see: impl FnOnce(&Bytes<H>, Option<&Bytes<H>>) -> R,
-    ) -> Result<(Put, R), InsertError> {
-        self.inner.put_seen(hash, block, see).map_err(|(_, why)| self.inner.core.refused(why))
     }
 
     /// Puts the block if its key is absent.

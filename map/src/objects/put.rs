@@ -4,7 +4,7 @@ use super::error::{AbsentError, IfError, Refused};
 use super::inner::{ObjectInner, HEARING, MOST_HEARING};
 use super::map::ObjectMap;
 use super::object::{Held, Keyed, Object};
-use super::pinned::{Over, Pinned, Seen};
+use super::pinned::{Over, Seen};
 use super::weights::Claim;
 use crate::error::InsertError;
 use crate::generation::NONE;
@@ -108,13 +108,6 @@ pub(crate) struct Done {
     old: Option<(u64, Reason)>,
 }
 
-impl Done {
-    // What the put has replaced: by the call that is pinned, so that it alone can retire it.
-    fn replaced<'a, O: Held, S>(&self, pinned: &'a Pinned<'_, O, S>) -> Option<&'a O> {
-        self.old.filter(|(_, reason)| *reason == Reason::Replaced).map(|(word, _)| pinned.object(word))
-    }
-}
-
 /// A put, or the object that comes back.
 pub(crate) type Offered<O, E = Fail> = Result<Put, (<O as Held>::Owner, E)>;
 
@@ -163,28 +156,6 @@ impl<O: Held, S> ObjectInner<O, S> {
             Fail::Insert(why) => (object, why),
             _ => unreachable!("this put does not ask what is there"),
         })
-    }
-
-    /// The same, in a map without flights. Then calls `see` with the object, and with the one that it has replaced. Both are pinned.
-    pub fn put_seen<R>(
-        &self,
-        hash: u64,
-        object: O::Owner,
-        see: impl FnOnce(&O, Option<&O>) -> R,
-    ) -> Result<(Put, R), (O::Owner, InsertError)> {
-        let mut seen = None;
-        let offered = self.offer(hash, object, self.core.tries, |word| {
-            let put = self.in_pinned_turn(self.core.tries, || self.core.slots.call(|handle| handle.try_swap(hash, &[word])));
-            let (swapped, pinned) = put.map_err(|why| Fail::Insert(InsertError::of(why)))?;
-            let done = self.swapped(swapped);
-            seen = Some(see(pinned.object(word), done.replaced(&pinned)));
-            Ok(done)
-        });
-        match (offered, seen) {
-            (Ok(put), Some(seen)) => Ok((put, seen)),
-            (Err((object, Fail::Insert(why))), _) => Err((object, why)),
-            _ => unreachable!("this put does not ask what is there"),
-        }
     }
 
     /// Puts the object if its key is absent, or has expired.
@@ -249,7 +220,7 @@ impl<O: Held, S> ObjectInner<O, S> {
                 Ok(self.end(hash, done, has_evicted, tries))
             }
             // SAFETY: `into_word` made the word of this very object. A call of the index that returns an error has put nothing, and each `put`
-            // here fails only if its last call did. So no other thread has seen the word.
+            // fails only if it has made no call, or its last one failed. So no other thread has seen the word.
             Err(why) => Err((unsafe { O::of_word(word) }, why)),
         }
     }
@@ -279,19 +250,8 @@ impl<O: Held, S> ObjectInner<O, S> {
         put
     }
 
-    // Like `Slots::in_turn`. The try that succeeds was pinned before it, and stays so. It isn't pinned while it waits for the turn.
-    fn in_pinned_turn<T, E>(
-        &self,
-        tries: u32,
-        mut put: impl FnMut() -> Result<T, TurnError<E>>,
-    ) -> Result<(T, Pinned<'_, O, S>), TurnError<E>> {
-        self.core.slots.in_turn(tries, || {
-            let pinned = self.pin();
-            put().map(|put| (put, pinned))
-        })
-    }
-
-    // Puts an object by `put`. That takes effect now at the latest, so the object gets the generation of now.
+    // Puts an object by `put`. That takes effect now at the latest, so the object gets the generation of now: by the call that was pinned before it put
+    // the object, so that this stays.
     fn try_to_put<T, E>(
         &self,
         word: u64,

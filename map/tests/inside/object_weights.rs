@@ -1,6 +1,7 @@
 //! A bound on weights, and an eviction that gets no turn.
 use super::one_shard;
 use super::turns::Turn;
+use crate::slots::BEFORE_CALL;
 use crate::{Block, BytesMap, Head, InsertError, Inserted, ObjectMap, RemoveError};
 use cefrodil::Handle;
 use std::sync::{Arc, Mutex, OnceLock};
@@ -32,16 +33,23 @@ fn a_sum_that_stays_above_the_bound_is_mended_by_the_next_put() {
     assert_eq!((map.weight(), map.get(&1), map.get(&2), map.get(&3)), (61, Some(60), None, Some(1)));
 }
 
+// Another thread has the turn for each try to evict, and not any more for a put after them.
 #[test]
 fn a_new_key_that_gets_no_turn_to_make_room_is_refused() {
-    let map =
-        ObjectMap::builder(1).max_weight(100, |_: &u64, value: &u64| *value).open_shaped(&one_shard(100), 1, TRIES).unwrap();
+    let map = ObjectMap::builder(1).max_weight(100, |_: &u64, value: &u64| *value);
+    let map = map.open_shaped(&one_shard(100), 1, TRIES).unwrap();
     map.insert(1, 60).unwrap();
-    let turn = Turn::begin(&map.inner.core.slots, |handle: &mut Handle<1>| handle.try_entries());
+    let slots = Arc::clone(&map.inner.core.slots);
+    let take = move || {
+        let turn = Turn::begin(&slots, Handle::try_entries);
+        BEFORE_CALL.set(Some((TRIES - 1, Box::new(move || drop(turn)))));
+    };
+    BEFORE_CALL.set(Some((1, Box::new(take))));
     let refused = map.insert(2, 50).unwrap_err();
     assert_eq!((refused.why, refused.key, refused.value), (InsertError::Held, 2, 50));
+    // This ends the other thread's turn.
+    drop(BEFORE_CALL.take());
     assert_eq!((map.weight(), map.get(&1), map.stats().refused), (60, Some(60), 1));
-    drop(turn);
     assert_eq!((map.insert(2, 50).unwrap(), map.weight(), map.len()), (Inserted::Evicted, 50, 1));
 }
 

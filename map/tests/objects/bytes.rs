@@ -128,8 +128,6 @@ fn each_call_does_what_it_says() {
     assert!(matches!(map.replace_if(first, make(2, 14)), Err(IfError::NotThere { .. })));
     assert_eq!(found(1), Some((12, second)));
     let hash = map.hash_of(b"1");
-    map.look_hash(hash, |look| assert!(matches!(look, Ok(Look::Found { result, .. }) if result.number == 12)));
-    map.look_hash(!hash, |look| assert!(matches!(look, Ok(Look::Absent { .. }))));
     let hits = map.stats().hits;
     map.peek_hash(hash, |look| {
         assert!(matches!(look, Ok(Look::Found { result, since, .. }) if result.number == 12 && since == second))
@@ -155,59 +153,6 @@ impl Hasher for Same {
     fn finish(&self) -> u64 {
         1
     }
-}
-
-#[test]
-fn a_put_shows_the_block_and_the_one_that_it_replaces() {
-    let map = BytesMap::<Counted>::builder(100).shards(1).threads(1).open().unwrap();
-    let numbers = |new: &Bytes<Counted>, old: Option<&Bytes<Counted>>| (new.number, old.map(|old| old.number));
-    let (first, seen) = map.put_seen(map.hash_of(b"1"), make(1, 1), numbers).unwrap();
-    assert_eq!((seen, map.len()), ((1, None), 1));
-    let (second, seen) = map.put_seen(map.hash_of(b"1"), make(1, 2), numbers).unwrap();
-    assert!((seen, map.len()) == ((2, Some(1)), 1) && second.at > first.at);
-    // Both stay while they are looked at, though the new one leaves the map meanwhile.
-    let (_, ()) = map
-        .put_seen(map.hash_of(b"1"), make(1, 3), |new, old| {
-            let since = map.look_hash(map.hash_of(b"1"), |look| match look {
-                Ok(Look::Found { since, .. }) => since,
-                other => panic!("{}", other.is_ok()),
-            });
-            map.remove_if(b"1", since).unwrap();
-            (0..100).for_each(|number| done(map.put(make(2, number))));
-            map.free_unused();
-            check(1, new);
-            check(1, old.unwrap());
-        })
-        .unwrap();
-    assert_eq!((map.len(), map.free_unused()), (1, 0));
-}
-
-#[test]
-fn hashes_are_looked_up_in_order() {
-    let map = BytesMap::<Counted>::builder(1_000).threads(1).open().unwrap();
-    let hash_of = |key: u64| map.hash_of(key.to_string().as_bytes());
-    let since = (0..100).map(|key| map.put(make(key, key)).unwrap().at).collect::<Vec<u64>>();
-    // Each second one is absent.
-    let hashes = (0..200).map(|number| hash_of(if number % 2 == 0 { number / 2 } else { 1_000 + number })).collect::<Vec<u64>>();
-    let mut seen = Vec::new();
-    map.look_hashes(&hashes, |index, look| match look {
-        Ok(Look::Found { result, since, .. }) => seen.push((index, Some((result.number, since)))),
-        Ok(Look::Absent { .. }) => seen.push((index, None)),
-        other => panic!("{}", other.is_ok()),
-    });
-    let expected = |index: usize| (index % 2 == 0).then(|| (index as u64 / 2, since[index / 2]));
-    assert_eq!(seen, (0..200).map(|index| (index, expected(index))).collect::<Vec<_>>());
-}
-
-#[test]
-fn a_block_that_is_evicted_is_not_replaced() {
-    let map = BytesMap::<Counted>::builder(10).shards(1).threads(1).open().unwrap();
-    for key in 0..50 {
-        let block = make(key, 1);
-        let (_, replaced) = map.put_seen(map.hash_of(block.key()), block, |_, old| old.is_some()).unwrap();
-        assert!(!replaced);
-    }
-    assert!(map.stats().evicted >= 30);
 }
 
 #[test]
@@ -252,19 +197,6 @@ fn a_full_shard_evicts_what_was_not_used() {
     let mut left: Vec<_> = (0..10).map(|_| map.evict(0, |block, _| block.key().to_vec()).unwrap().unwrap()).collect();
     left.sort();
     assert_eq!(left, (40..50).map(|key| key.to_string().into_bytes()).collect::<Vec<_>>());
-}
-
-#[test]
-fn all_hashes_are_listed() {
-    let map = BytesMap::<Counted>::builder(1_000).shards(4).threads(1).open().unwrap();
-    assert_eq!(map.hashes(), Ok(vec![]));
-    let mut expected: Vec<u64> = (0..300).map(|key: u64| map.hash_of(key.to_string().as_bytes())).collect();
-    (0..300).for_each(|key| done(map.put(make(key, 0)).unwrap()));
-    let mut listed = map.hashes().unwrap();
-    assert!(listed.capacity() == 300);
-    expected.sort_unstable();
-    listed.sort_unstable();
-    assert_eq!(listed, expected);
 }
 
 #[test]

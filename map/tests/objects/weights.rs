@@ -62,7 +62,7 @@ const POPULAR: Range<u64> = 0..50;
 
 #[test]
 fn scans_evict_no_key_that_is_used_between() {
-    let map: Numbers = ObjectMap::builder(200).max_weight(200, |_, _| 1).open().unwrap();
+    let map: Numbers = ObjectMap::builder(200).shards(1).max_weight(200, |_, _| 1).open().unwrap();
     put_all(&map, POPULAR, 1);
     for scan in 1..20 {
         assert!(POPULAR.clone().all(|key| map.contains_key(&key)), "before scan {scan}");
