@@ -1,6 +1,6 @@
 #!/usr/bin/env bash
-# What a call of a map costs, in instructions counted by callgrind: values of 32 bytes in a map for 1,000 entries, with one table and with a small one
-# before it, or as objects without and with a queue for new keys. Prints a table.
+# What a call of a map costs, in instructions counted by callgrind: values of 32 bytes in a map for 1,000 entries, of values or of objects. Prints a
+# table.
 #
 # usage: [CEFRODIL_LIB=LIB] bench/map_costs.sh FOLDER     FOLDER: where the programs are built; LIB: the folder of libcefrodil.a; none: FOLDER
 #
@@ -22,22 +22,20 @@ cp "$built/target/release/costs" "$built/costs_rust"
 instructions() {
     valgrind --tool=callgrind --callgrind-out-file=/dev/null "$@" 2>&1 | sed -n 's/.*Collected : //p'
 }
-# cost LANGUAGE KIND TABLES [full]: of one call.
+# cost LANGUAGE KIND MAP [full]: of one call.
 cost() {
     local less more
     less=$(instructions "$built/costs_$1" "$2" 1000 "${@:3}")
     more=$(instructions "$built/costs_$1" "$2" 6000 "${@:3}")
     echo $(((more - less) / 5000))
 }
-# row LABEL LANGUAGE TABLES
+# row LABEL LANGUAGE MAP
 row() {
     echo "|$1|$(cost "$2" hit "$3")|$(cost "$2" miss "$3")|$(cost "$2" miss "$3" full)|$(cost "$2" over "$3")|$(cost "$2" over "$3" full)|$(cost "$2" new "$3" full)|"
 }
 echo '||hit|miss|miss, full|put over a value|the same, full|put of a new key, full|'
 echo '|---|---|---|---|---|---|---|'
-row 'Rust, `Map`' rust map
+row 'Rust, `Map`' rust values
 row 'Rust, `ObjectMap`' rust objects
-row 'C++, one table' cpp 1
-row 'C++, with a small table' cpp 2
-row 'C++, `object_map`, the index alone' cpp objects
-row 'C++, `object_map`' cpp objects+
+row 'C++, `map`' cpp values
+row 'C++, `object_map`' cpp objects

@@ -1,4 +1,4 @@
-// When an object of a map of objects is freed: the epochs of c/include/cefrodil_epochs.hpp, the header's own code, with atomics and locks of Relacy.
+// When an object of a map of objects is freed: the epochs of c/include/cefrodil/inside/epochs.hpp, the header's own code, with atomics and locks of Relacy.
 //
 // One thread removes two objects one after the other and frees what may be freed. Another thread, which has a slot, looks objects up. One without a
 // slot looks one up, and then frees what may be freed of the first thread's. No object is used after it is freed, and each use comes before the free in

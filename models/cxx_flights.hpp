@@ -1,4 +1,4 @@
-// The flights of c/include/cefrodil_flights.hpp: the header's own code, with atomics, locks and fences of Relacy.
+// The flights of c/include/cefrodil/inside/flights.hpp: the header's own code, with atomics, locks and fences of Relacy.
 //
 // A thread changes the store and erases the key, while two others compute the key's value from the store. Afterwards the map has no older value,
 // and no call that begins then returns one. The index is one entry. Its lookup is an acquire load, and its writes acquire and release: the index

@@ -1,4 +1,4 @@
-// The generations of c/include/cefrodil_generations.hpp, beside flights: the headers' own code, with atomics, locks and fences of Relacy.
+// The generations of c/include/cefrodil/inside/generations.hpp, beside flights: the headers' own code, with atomics, locks and fences of Relacy.
 //
 // A thread changes the store, looks the key up, invalidates all, and puts the key. Another thread puts the key, too, and a third one computes it from
 // the store. Once all is invalidated nothing is found that was computed from the older store. At the end one of the two puts is found: not the second
@@ -7,7 +7,7 @@
 #ifndef CXX_GENERATIONS_HPP
 #define CXX_GENERATIONS_HPP
 
-#include "cefrodil_generations.hpp"
+#include "cefrodil/inside/generations.hpp"
 #include "explored.hpp"
 
 struct CxxGenerations : rl::test_suite<CxxGenerations, 3> {
@@ -39,7 +39,7 @@ struct CxxGenerations : rl::test_suite<CxxGenerations, 3> {
         const uint64_t now = generation.now(), found = entry.load(std::memory_order_acquire);
         return found / 16 == now || explored::without("generation of an entry") ? static_cast<int>(found % 16) : none;
     }
-    // As in cefrodil_table.hpp and cefrodil_map.hpp.
+    // As in cefrodil/inside/table.hpp and cefrodil_map.hpp.
     void put(int value) {
         flights.outdate(key);
         const explored::Mutex::Off off("lock of a put");

@@ -1,4 +1,4 @@
-// The generations of objects of c/include/cefrodil_objects.hpp, with the header's own count of generations.
+// The generations of objects of c/include/cefrodil/inside/objects.hpp, with the header's own count of generations.
 //
 // A thread puts a key, invalidates all, and puts the key again. Another one puts the key meanwhile, and a third one inserts it. Once all is
 // invalidated, the first object is not found. At the end one of the others is found. The index is the number of an object, and each object has a
@@ -6,7 +6,7 @@
 #ifndef CXX_OBJECT_GENERATIONS_HPP
 #define CXX_OBJECT_GENERATIONS_HPP
 
-#include "cefrodil_generations.hpp"
+#include "cefrodil/inside/generations.hpp"
 #include "explored.hpp"
 
 struct CxxObjectGenerations : rl::test_suite<CxxObjectGenerations, 3> {
@@ -37,14 +37,14 @@ struct CxxObjectGenerations : rl::test_suite<CxxObjectGenerations, 3> {
         const uint64_t now = generation.now(), object = entry.load(std::memory_order_acquire);
         return is_there(object, now) ? object : uint64_t(none);
     }
-    // As in cefrodil_objects.hpp.
+    // As in cefrodil/inside/objects.hpp.
     void put(uint64_t object) {
         const explored::Mutex::Off off("lock of a put");
         const std::lock_guard<explored::Mutex> guard(lock);
         heads[object].store(generation.now(), std::memory_order_release);
         entry.exchange(object, std::memory_order_acq_rel);
     }
-    // As in cefrodil_keyed_objects.hpp.
+    // As in cefrodil/inside/keyed_objects.hpp.
     void insert(uint64_t object) {
         for (uint64_t begun = generation.now();;) {
             const uint64_t there = entry.load(std::memory_order_acquire);

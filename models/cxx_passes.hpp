@@ -1,4 +1,4 @@
-// How passes are taken, given back and end: FreePasses of c/include/cefrodil_passes.hpp itself, with atomics and locks of Relacy.
+// How passes are taken, given back and end: FreePasses of c/include/cefrodil/inside/passes.hpp itself, with atomics and locks of Relacy.
 //
 // Two threads share one pass, each at its time, and a third one ends the passes when the last call has returned. Nobody has a pass beside another
 // thread, or after the end.

@@ -3,9 +3,9 @@
 #ifndef EXPLORED_HPP
 #define EXPLORED_HPP
 
-#include "cefrodil_epochs.hpp"
-#include "cefrodil_flights.hpp"
-#include "cefrodil_passes.hpp"
+#include "cefrodil/inside/epochs.hpp"
+#include "cefrodil/inside/flights.hpp"
+#include "cefrodil/inside/passes.hpp"
 #include <array>
 #include <limits>
 #include <optional>

@@ -102,7 +102,7 @@ struct RustFlights : rl::test_suite<RustFlights, 3> {
     }
 
     int find() const { return entry.load(std::memory_order_acquire); }
-    //| in map/src/compute.rs
+    //| in map/src/core.rs
     int get_or_insert(Flight &own) {
         std::optional<int> found;
         for (int value = find();; value = found.value_or(find())) {
@@ -111,13 +111,14 @@ struct RustFlights : rl::test_suite<RustFlights, 3> {
             }
             if (Flight *const other = board(own)) {
                 found = wait(*other);
-                continue;                                 //| Boarding::Other(flight) => found = flight.wait().or_else(|| inner.find(print, inner.looks())),
+                continue;                                 //| Boarding::Other(flight) => found = find(flight.wait()),
             }
             const int computed = compute(own);
             drop(own);
-            return computed;                              //| Boarding::First(leader) => return inner.compute(print, &leader, inner.tries, make),
+            return computed;                              //| Boarding::First(leader) => return lead(Some(&leader)),
         }
     }
+    //| in map/src/compute.rs
     int compute(Flight &own) {
         if (const int value = find(); value != none) {    //| if let Some(value) = self.find(print, tries.min(LOOKS)) {
             return value;

@@ -30,15 +30,15 @@ struct RustGenerations : rl::test_suite<RustGenerations, 3> {
     bool put(int there, int in, int value) {
         const explored::Mutex::Off off("lock of an update");
         const Guard guard(key_lock);                                      //| in map/src/update.rs
-                                                                          //| match self.slots.in_turn(tries, || self.in_lock(print.key, |handle| handle.put_if(print.key, since, words))) {
+                                                                          //| match self.core.slots.in_turn(tries, || self.core.in_lock(print.key, |handle| handle.put_if(print.key, since, words))) {
         return entry.compare_exchange(there, in * values + value, std::memory_order_acq_rel);
     }
     void insert() {
         const int early = now();
         const explored::Mutex::Off off("lock of an insert");
         const Guard guard(key_lock);                                      //| in map/src/inner.rs
-                                                                          //| self.in_lock(print.key, |handle| {
-        const int in = explored::without("generation under the lock") ? early : now(); //| set_check(&mut words, print.dated(self.generation.now()).check);
+                                                                          //| self.core.in_lock(print.key, |handle| {
+        const int in = explored::without("generation under the lock") ? early : now(); //| set_check(&mut words, print.dated(self.core.generation.now()).check);
         entry.exchange(in * values + inserted, std::memory_order_acq_rel);
     }
     int find() const {
@@ -47,10 +47,10 @@ struct RustGenerations : rl::test_suite<RustGenerations, 3> {
     }
 
     void invalidate() {
-        generation.fetch_add(1, explored::without("release of the generation") ? std::memory_order_relaxed : all); //| in map/src/clear.rs
-                                                                          //| self.inner.generation.end();
+        generation.fetch_add(1, explored::without("release of the generation") ? std::memory_order_relaxed : all); //| in map/src/core.rs
+                                                                          //| self.generation.end();
         if (!explored::without("end of the flights")) {
-            const Guard guard(flights);                                   //| self.inner.flights.detach_all();
+            const Guard guard(flights);                                   //| self.flights.detach_all();
             is_listed.store(0, all);
         }
     }
@@ -58,11 +58,11 @@ struct RustGenerations : rl::test_suite<RustGenerations, 3> {
     void update(int count) {
         for (;;) {
             const int in = now();                                         //| in map/src/update.rs
-                                                                          //| let generation = self.generation.now();
+                                                                          //| let generation = self.core.generation.now();
             const int there = entry.load(acquires);
             const bool is_other = there / values != in;
             if (is_other && now() != in && !explored::without("another look at the generation")) {
-                continue;                                                 //| Found::Expired(_) | Found::Other(_) if self.generation.now() != generation => continue,
+                continue;                                                 //| Found::Expired(_) | Found::Other(_) if self.core.generation.now() != generation => continue,
             }
             const int old = is_other ? none : there % values;
             const int of = explored::without("one generation of a look and its put") ? now() : in;
@@ -77,7 +77,7 @@ struct RustGenerations : rl::test_suite<RustGenerations, 3> {
             is_listed.store(1, all);
         }
         const int in = now();                                             //| in map/src/compute.rs
-                                                                          //| let generation = self.generation.now();
+                                                                          //| let generation = self.core.generation.now();
         const int value = store.load(acquires);
         loaded.store(value, all);
         const Guard guard(flights);
@@ -88,7 +88,7 @@ struct RustGenerations : rl::test_suite<RustGenerations, 3> {
                 continue;
             }
             const bool is_late = now() != in && !explored::without("generation of the load");
-            if (!is_other || is_late || put(there, of, value)) {          //| (present.is_none() && self.generation.now() == generation).then_some(value)
+            if (!is_other || is_late || put(there, of, value)) {          //| (present.is_none() && self.core.generation.now() == generation).then_some(value)
                 return;
             }
         }

@@ -38,11 +38,11 @@ struct RustObjectGenerations : rl::test_suite<RustObjectGenerations, 3> {
     //| in map/src/objects/inner.rs
     int find() {
         const int object = entry.load(all);
-        if (of(object).load(all) >= now()) {                              //| object.generation() >= self.generation.now() || self.enters(object)
+        if (of(object).load(all) >= now()) {                              //| object.generation() >= self.core.generation.now() || self.enters(object)
             return object;
         }
         if (!explored::without("generation by a lookup")) {
-            enter(object, now());                                         //| object.enter(self.generation.now());
+            enter(object, now());                                         //| object.enter(self.core.generation.now());
         }
         return of(object).load(all) >= now() ? object : nothing;
     }
@@ -52,7 +52,7 @@ struct RustObjectGenerations : rl::test_suite<RustObjectGenerations, 3> {
         }
         entry.exchange(object, all);
         if (!explored::without("generation by the put")) {
-            enter(object, now());                                         //| object.enter(self.generation.now());
+            enter(object, now());                                         //| object.enter(self.core.generation.now());
         }
     }
 

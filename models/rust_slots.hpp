@@ -68,7 +68,7 @@ struct RustSlots : rl::test_suite<RustSlots, 2> {
             }
             const Recent seen = recent[slots.id % 2];                     //| let recent = RECENT.with(|recent| recent[place_of(self.id)].get());
             if (seen.id == slots.id) {                                    //| if recent.id != self.id {
-                last = seen;                                              //| LAST.with(|last| last[last_of(self.id)].set(recent));
+                last = seen;                                              //| LAST.set(recent);
                 return seen.index;                                        //| Some(recent.index)
             }
             const std::optional<size_t> found = find(slots);
@@ -95,7 +95,7 @@ struct RustSlots : rl::test_suite<RustSlots, 2> {
         void drop() {
             has_ended = !explored::without("end of CLAIMS");
             if (!explored::without("reset of LAST")) {
-                last = {};                                                //| LAST.with(|last| last.iter().for_each(|place| place.set(Recent::NONE)));
+                last = {};                                                //| LAST.set(Recent::NONE);
             }
             if (!explored::without("reset of RECENT")) {
                 recent = {};                                              //| RECENT.with(|recent| recent.iter().for_each(|place| place.set(Recent::NONE)));

@@ -4,7 +4,7 @@ import re
 from header import names_of
 from read import read
 
-CXX_CALLS, CXX = 'c/include/cefrodil_calls.hpp', 'c/include/cefrodil.hpp'
+CXX_CALLS, CXX = 'c/include/cefrodil/inside/calls.hpp', 'c/include/cefrodil.hpp'
 # Where C++ and Rust have the methods of a Handle and of a Writing: files, and where each begins and ends.
 METHODS = {
     ('C++', 'handle'): ((CXX_CALLS, 'class Calls', 'protected:'), (CXX, 'class Handle', '\n};')),

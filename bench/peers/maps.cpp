@@ -1,5 +1,5 @@
 // Maps of a program's own types, side by side: the same work as in `maps/src/main.rs`. The contestants are cefrodil::map, libcuckoo and TBB. All of
-// them hash by the SipHash-1-3 of cefrodil_hash.hpp, or all by two multiplications.
+// them hash by the SipHash-1-3 of cefrodil/inside/hash.hpp, or all by two multiplications.
 #include "harness.hpp"
 #include "cefrodil_map.hpp"
 #include <libcuckoo/cuckoohash_map.hh>

@@ -1,5 +1,5 @@
 // Sessions that live for a time, for any number of threads.
-#include "cefrodil_timed_map.hpp"
+#include "cefrodil_map.hpp"
 #include <atomic>
 #include <chrono>
 #include <cstdio>

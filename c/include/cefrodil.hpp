@@ -7,9 +7,9 @@
 #ifndef CEFRODIL_HPP
 #define CEFRODIL_HPP
 
-#include "cefrodil_calls.hpp"
-#include "cefrodil_handle.hpp"
-#include "cefrodil_values.hpp"
+#include "cefrodil/inside/calls.hpp"
+#include "cefrodil/inside/handle.hpp"
+#include "cefrodil/inside/values.hpp"
 #include <array>
 #include <cstddef>
 #include <cstdint>

@@ -12,10 +12,19 @@
 //
 // Compile it over the folder that c/build made: g++ -std=c++17 -I FOLDER/include program.cpp FOLDER/lib/libcefrodil.a -lpthread
 //
-// Entries that end after a time are for cefrodil_timed_map.hpp, and values of any type and size for cefrodil_object_map.hpp.
+// Values of any type and size are for cefrodil_object_map.hpp. Entries that end are for a timed_map:
+//     cefrodil::timed_map<std::string, uint64_t> sessions;
+//     cefrodil::Lives lives;
+//     lives.time_to_live = std::chrono::hours(8);
+//     const cefrodil::Status opened = sessions.open({1000}, lives);
+//     const cefrodil::Stored stored = sessions.insert_for("token", 41, std::chrono::minutes(5)); // with a time of its own
+// Its values have up to 40 bytes. What has expired is absent for all calls, and so is what invalidate_all has ended. It takes room until others overwrite
+// or evict it, or until erase or erase_expired, and `size` counts it. A put begins both times anew, also over a value. An update and each call that finds
+// the entry begin the time to idle anew, but `peek` does not. For that a lookup writes the entry again, if more than a sixteenth of the time has passed
+// since the last such write. It waits for its turn as a write does. So an entry may end a sixteenth of its time to idle sooner.
 //
 // Values are trivially copyable, without padding, up to 56 bytes. Keys that need no hash of yours are strings, integers, enums, pointers, and structs
-// without padding whose bytes are their value; cefrodil_hash.hpp says more. std::pair and std::tuple are not among them: write a struct.
+// without padding whose bytes are their value; cefrodil/inside/hash.hpp says more. std::pair and std::tuple are not among them: write a struct.
 //
 // This header is plain C++ and is not proved. The index below it is: a lookup of a 64-bit number returns what was put under it last, at one moment
 // of the call, and never parts of two values.
@@ -42,10 +51,10 @@
 #define CEFRODIL_MAP_HPP
 
 #include "cefrodil.hpp"
-#include "cefrodil_flights.hpp"
-#include "cefrodil_forks.hpp"
-#include "cefrodil_hash.hpp"
-#include "cefrodil_table.hpp"
+#include "cefrodil/inside/flights.hpp"
+#include "cefrodil/inside/forks.hpp"
+#include "cefrodil/inside/hash.hpp"
+#include "cefrodil/inside/table.hpp"
 #include <algorithm>
 #include <memory>
 #include <optional>
@@ -58,14 +67,14 @@ template <class V> inline constexpr bool is_map_value = is_value<V> && words_of<
 // How a map is opened. A thread takes a pass at its first call, and gives it back at its end. One pass is shared behind a lock by all threads that
 // find no other: they are slower, and `shared_calls` counts their calls. Each thread that calls a map takes 4 kB more.
 struct MapOptions {
-    uint32_t entries;       // 1 or more: the map has room for so many; `capacity` is more
-    uint32_t shards = 0;    // a power of two, 1 to 256: so many threads can write at once. 0: one for each 64 entries, 16 at most
-    uint32_t passes = 64;   // 1 to 1,024, with the shared one
-    uint32_t tries = 10000; // how often a call is repeated that other threads keep from its turn. This takes over a second. A lookup is repeated
-                            // 1,000 times at most, which takes over a tenth of a second.
+    uint32_t entries;         // 1 or more: the map has room for so many; `capacity` is more
+    uint32_t shards = 0;      // a power of two, 1 to 256: so many threads can write at once. 0: one for each 64 entries, 16 at most
+    uint32_t passes = 1 + 64; // 1 to 1,024, with the shared one
+    uint32_t tries = 10000;   // how often a call is repeated that other threads keep from its turn. This takes over a second. A lookup is repeated
+                              // 1,000 times at most, which takes over a tenth of a second.
 };
 
-// The answers of lookups, updates and puts are `Found` and `Stored`, in cefrodil_table.hpp.
+// The answers of lookups, updates and puts are `Found` and `Stored`, in cefrodil/inside/table.hpp.
 
 // The answer of find_or_compute. `value` is always there. If the status is not ok, it says why the value was not put.
 template <class V> struct Computed {
@@ -81,7 +90,7 @@ template <class V> struct Computed {
 //     return cefrodil::SipHash<std::string_view>()(key.name, secret);
 // Or it has 64 bits: `uint64_t operator()(const K &key, uint64_t seed) const`. Then it is called twice, with two seeds, which must give independent
 // hashes.
-// `Times`: cefrodil_timed_map.hpp has it for a map whose entries end.
+// `Times`: a timed_map has another.
 template <class K, class V, class Hash = SipHash<K>, class Times = inside::Timeless> class map {
     static constexpr bool never_throws = inside::Identities<inside::Taken<K, Hash>, Hash>::never_throws;
 
@@ -91,11 +100,14 @@ template <class K, class V, class Hash = SipHash<K>, class Times = inside::Timel
 
     map() noexcept {}
 
-    // Opens the map, empty. Unless ok, nothing was done. in_use: it is open. no_memory. no_random: the kernel gave no secret. other_version: the
+    // Opens the map, empty. Without `lives` only those entries end that are put with a time of their own. Unless ok, nothing was done. in_use: it is open. no_memory. no_random: the kernel gave no secret. other_version: the
     // archive is another version's. processor: it is older than x86-64-v2. bad_shards, bad_handles: `shards` or `passes` is out of range. bad_items:
     // no entries, as by open({0}), or too many: a shard holds up to 3,774,873.
     [[nodiscard]] Status open(const MapOptions &options, Hash hash = Hash()) noexcept {
         return open_with(options, std::move(hash), [] { return Times(); });
+    }
+    [[nodiscard]] Status open(const MapOptions &options, const Lives &lives, Hash hash = Hash()) noexcept {
+        return open_with(options, std::move(hash), [&] { return Times(lives); });
     }
     bool is_open() const noexcept { return bool(inner_); }
     // Closes the map and frees its memory.
@@ -161,6 +173,24 @@ template <class K, class V, class Hash = SipHash<K>, class Times = inside::Timel
         return update(key, &first, function, Life());
     }
 
+    // The calls of a timed_map. They put as `insert` and `insert_or_assign` do, with a time to live of its own. A time of 0 or less is over at once, and
+    // `forever` never.
+    [[nodiscard]] Stored insert_for(Key key, const V &value, std::chrono::nanoseconds life) noexcept(never_throws) {
+        return put_if_absent(key, value, Life(life));
+    }
+    [[nodiscard]] Stored insert_or_assign_for(Key key, const V &value, std::chrono::nanoseconds life) noexcept(never_throws) {
+        return put(key, value, Life(life));
+    }
+    // Updates, and the entry lives for so long from now on. By `update` its time to live goes on.
+    template <class Function> [[nodiscard]] Found<V> update_for(Key key, std::chrono::nanoseconds life, Function function) {
+        return update(key, nullptr, function, Life(life));
+    }
+    // Removes what has expired, and what was put before invalidate_all. It is listed as by `clear`. Unless ok, some of it may still be there.
+    [[nodiscard]] Status erase_expired() noexcept {
+        static_assert(Times::moments != 0, "a timed_map has this call");
+        return inner_ ? inner_->table.erase_expired() : Status::closed;
+    }
+
     // The key's value, or what the function computes, `V function()`, which is then put. Of several callers that miss the key one computes, and
     // the others wait for it; if its value is refused or its function throws, the next one computes. The function may call the map, but must not
     // compute the same key. stale: the key was changed while the function ran. present: another value was put meanwhile.
@@ -172,7 +202,7 @@ template <class K, class V, class Hash = SipHash<K>, class Times = inside::Timel
         std::optional<V> found;
         // The lookup that counts.
         for (Status status = inner_->table.find(known, found); status != Status::ok; status = inner_->table.seek(known, found)) {
-            inside::Flight flight(inner_->flights_of(known), known);
+            inside::Flight flight(inner_->flights.of(known), known);
             if (!flight.has_begun()) {
                 continue;
             }
@@ -193,7 +223,7 @@ template <class K, class V, class Hash = SipHash<K>, class Times = inside::Timel
         if (!inner_) {
             return Status::closed;
         }
-        inner_->outdate_all();
+        inner_->flights.outdate_all();
         return inner_->table.clear();
     }
     // Once it has returned, no key is found that was put before it began, nor a value that find_or_compute was computing then. A key is found whose put
@@ -204,7 +234,7 @@ template <class K, class V, class Hash = SipHash<K>, class Times = inside::Timel
             return Status::closed;
         }
         inner_->table.generation().begin_next();
-        inner_->outdate_all();
+        inner_->flights.outdate_all();
         return Status::ok;
     }
 
@@ -219,7 +249,7 @@ template <class K, class V, class Hash = SipHash<K>, class Times = inside::Timel
     // that waits for another one's value is a miss, too. The other counts are of calls of the index: of those, a call of the map may make several.
     Meter meter() const noexcept { return inner_ ? inner_->table.turns().meter() : Meter(nullptr); }
 
-  protected:
+  private:
     // A time to live that a call says, in a timed_map.
     using Life = typename Times::Life;
 
@@ -249,25 +279,19 @@ template <class K, class V, class Hash = SipHash<K>, class Times = inside::Timel
         return change(key, Found<V>{Status::closed, std::nullopt}, [&](const auto &known) {
             const auto outdating = [&](const V &old) {
                 const V value = function(old);
-                inner_->flights_of(known).outdate(known);
+                inner_->flights.outdate(known);
                 return value;
             };
             return inner_->table.update(known, first, outdating, life);
         });
     }
-    Status remove_expired() noexcept { return inner_ ? inner_->table.erase_expired() : Status::closed; }
 
-  private:
     struct Inner {
         Inner(Hash &&hash, const Times &times) : identities(std::move(hash)), table(times) {}
-        inside::Flights &flights_of(const inside::Identity &key) noexcept { return flights[key.index % flights.size()]; }
-        void outdate_all() noexcept {
-            std::for_each(flights.begin(), flights.end(), [](inside::Flights &some) { some.outdate_all(); });
-        }
 
         inside::Identities<Key, Hash> identities;
         inside::Table<V, Times> table;
-        std::array<inside::Flights, 16> flights{};
+        inside::AllFlights flights{};
     };
 
     Status set(std::optional<V> &value, Key key) const noexcept(never_throws) {
@@ -279,7 +303,7 @@ template <class K, class V, class Hash = SipHash<K>, class Times = inside::Timel
             return closed;
         }
         const inside::Identity known = inner_->identities.of(key);
-        inner_->flights_of(known).outdate(known);
+        inner_->flights.outdate(known);
         return make(known);
     }
 
@@ -294,7 +318,7 @@ template <class K, class V, class Hash = SipHash<K>, class Times = inside::Timel
     static_assert(!std::is_trivially_copyable_v<V> || is_small, "a map's value has up to 56 bytes");
     static_assert(!std::is_trivially_copyable_v<V> || !is_small || is_plain, "a timed_map's value has up to 40 bytes");
     static_assert(!is_plain || has_no_padding<V>,
-                  "a map's value has no padding: make the padding a member, or see has_no_padding in cefrodil_values.hpp");
+                  "a map's value has no padding: make the padding a member, or see has_no_padding in cefrodil/inside/values.hpp");
     static_assert(!is_plain || std::is_default_constructible_v<V>, "a map's value is default-constructible");
     static_assert(!is_plain || !std::is_default_constructible_v<V> || !has_no_padding<V> || is_map_value<V>,
                   "a map's value can be copied and assigned: it is no array, but may be a std::array, and is not const");
@@ -302,6 +326,9 @@ template <class K, class V, class Hash = SipHash<K>, class Times = inside::Timel
                   "a map's hash has a call `HashPair operator()(const K &, const HashSecret &) const`, or `uint64_t operator()(const K &, "
                   "uint64_t seed) const`");
 };
+
+// A map whose entries end. It has all calls of a map.
+template <class K, class V, class Hash = SipHash<K>> using timed_map = map<K, V, Hash, inside::Timed>;
 
 } // namespace cefrodil
 

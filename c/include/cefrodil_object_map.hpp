@@ -17,9 +17,8 @@
 //     const cefrodil::Status opened = pages.open({1000}, rules);
 // The map then holds 1,000 pages or more, as long as they weigh no more than the bound together. While calls put, the sum may be above the bound by
 // what they put. What has left and waits to be freed weighs a sixteenth of the bound and one object more at most, while no function of `look` runs. If
-// a thread is stopped within a write, the sum may stay above the bound until a later put. A put that fails may have made others leave. By default a map
-// with a weigher has one shard, so its writes wait for each other: each shard chooses by itself which object leaves. Give it no more than twice the
-// entries for which there is weight. In a larger one fewer lookups hit.
+// a thread is stopped within a write, the sum may stay above the bound until a later put. A put that fails may have made others leave. Each shard
+// chooses by itself which of its objects leaves, and each eviction looks at another shard.
 //
 // Which objects leave: those that no call has found since their put. So keys that are used once evict few that are used often. If nearly all were found,
 // one that was not found lately leaves: perhaps the one that an update has made heavier. An object whose key left shortly before its put counts as found.
@@ -55,7 +54,7 @@
 #ifndef CEFRODIL_OBJECT_MAP_HPP
 #define CEFRODIL_OBJECT_MAP_HPP
 
-#include "cefrodil_keyed_objects.hpp"
+#include "cefrodil/inside/keyed_objects.hpp"
 #include "cefrodil_map.hpp"
 #include <algorithm>
 #include <array>
@@ -196,7 +195,7 @@ template <class K, class V, class Hash = SipHash<K>, class Equal = std::equal_to
             return Status::closed;
         }
         const inside::Identity known = inner_->identities.of(key);
-        inner_->flights_of(known).outdate(known);
+        inner_->flights.outdate(known);
         for (uint32_t repeat = 0;; repeat++) {
             const Seen seen = inner_->look_to_take(known, key);
             if (seen.object == nullptr) {
@@ -235,7 +234,7 @@ template <class K, class V, class Hash = SipHash<K>, class Equal = std::equal_to
         if (!inner_) {
             return Status::closed;
         }
-        inner_->outdate_all();
+        inner_->flights.outdate_all();
         return inner_->objects.clear();
     }
     // Once it has returned, no key is found that was put before it began, nor a value that find_or_compute was computing then. As by cefrodil::map. The
@@ -245,7 +244,7 @@ template <class K, class V, class Hash = SipHash<K>, class Equal = std::equal_to
             return Status::closed;
         }
         inner_->objects.generation().begin_next();
-        inner_->outdate_all();
+        inner_->flights.outdate_all();
         return Status::ok;
     }
     // Removes what has expired, and what was put before invalidate_all. As by `clear`. Until then it stays until it is overwritten or evicted, and `size` and
@@ -275,7 +274,7 @@ template <class K, class V, class Hash = SipHash<K>, class Equal = std::equal_to
     // Computes the key's value, if no other call does so now, and puts it. None: another call did.
     template <class Function> std::optional<Computed<V>> compute(Key key, Function &function, Change &change) {
         const inside::Identity known = inner_->identities.of(key);
-        inside::Flight flight(inner_->flights_of(known), known);
+        inside::Flight flight(inner_->flights.of(known), known);
         if (!flight.has_begun()) {
             return std::nullopt;
         }
@@ -295,7 +294,7 @@ template <class K, class V, class Hash = SipHash<K>, class Equal = std::equal_to
             return Status::closed;
         }
         const inside::Identity known = inner_->identities.of(key);
-        inner_->flights_of(known).outdate(known);
+        inner_->flights.outdate(known);
         const uint64_t generation = inner_->generation();
         for (uint32_t repeat = 0;; repeat++) {
             Seen seen{};
@@ -322,7 +321,7 @@ template <class K, class V, class Hash = SipHash<K>, class Equal = std::equal_to
         if (!object) {
             return {Status::no_memory, false, false};
         }
-        inner_->flights_of(known).outdate(known);
+        inner_->flights.outdate(known);
         Change change(objects);
         const Status status = make(known, object, change);
         if constexpr (std::is_same_v<Value, V> && std::is_move_assignable_v<V>) {

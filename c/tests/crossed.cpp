@@ -23,7 +23,6 @@ static cefrodil_status ended(cefrodil_status status, std::function<void()> &act)
 #define cefrodil_put_if_absent(...) (meet(putting), cefrodil_put_if_absent(__VA_ARGS__))
 #define cefrodil_swap_if_absent(...) (meet(putting), cefrodil_swap_if_absent(__VA_ARGS__))
 #include "cefrodil_object_map.hpp"
-#include "cefrodil_timed_map.hpp"
 #include "must.h"
 #include <chrono>
 #include <thread>

@@ -1,6 +1,5 @@
 // What a put says of the entry that gave way to it: one that had ended, or that of another key with the same number in the index.
 #include "cefrodil_object_map.hpp"
-#include "cefrodil_timed_map.hpp"
 #include "must.h"
 #include <utility>
 #include <vector>

@@ -4,7 +4,6 @@
 //
 // Argument: for how many seconds. Without it, so many rounds that they take a few seconds.
 #include "cefrodil_object_map.hpp"
-#include "cefrodil_timed_map.hpp"
 #include "linear.hpp"
 #include "must.h"
 #include "rounds.hpp"

@@ -70,7 +70,7 @@ static void openings() {
     const Computed<uint64_t> computed = numbers.find_or_compute(1, [] { return uint64_t(7); });
     MUST(computed.status == Status::closed && computed.value == 7 && computed.computed);
     const cefrodil::MapOptions usual{100};
-    MUST(usual.entries == 100 && usual.shards == 0 && usual.passes == 64 && usual.tries == 10000);
+    MUST(usual.entries == 100 && usual.shards == 0 && usual.passes == 65 && usual.tries == 10000);
     MUST(numbers.open({100, 4, 1024}) == Status::ok && numbers.open({100}) == Status::in_use && numbers.is_open());
     cefrodil_shape shape{};
     MUST(cefrodil_shape_for_items(100, 4, &shape) == CEFRODIL_OK && numbers.capacity() == 4 * shape.items);

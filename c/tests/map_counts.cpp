@@ -1,7 +1,6 @@
 // A map counts its own lookups, each once, whatever calls of the index it takes. So its hit rate is exact: of each kind of map, in threads that come and
 // go, and with passes that they share. Argument: by how much less to do.
 #include "cefrodil_object_map.hpp"
-#include "cefrodil_timed_map.hpp"
 #include "must.h"
 #include <algorithm>
 #include <atomic>

@@ -36,7 +36,7 @@ static cefrodil_status first_put_if_absent(cefrodil_handle *handle, uint64_t key
 #define cefrodil_put_of_width first_put
 #define cefrodil_put_if first_put_if
 #define cefrodil_put_if_absent first_put_if_absent
-#include "cefrodil_table.hpp"
+#include "cefrodil/inside/table.hpp"
 
 using cefrodil::Status;
 using Table = cefrodil::inside::Table<uint64_t>;

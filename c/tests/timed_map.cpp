@@ -1,5 +1,5 @@
 // Entries of a timed_map end: at their deadline, or when nobody has found them for a time. The tests set the clock. Argument: by how much less to do.
-#include "cefrodil_timed_map.hpp"
+#include "cefrodil_map.hpp"
 #include "ending_entries.hpp"
 #include <algorithm>
 #include <cstdlib>

@@ -72,7 +72,7 @@ static void order() {
     Numbers numbers;
     Numbers::Rules rules = bounded(100);
     rules.listener = [&](const uint64_t &key, const uint64_t &, Left why) { why == Left::evicted ? left.push_back(key) : void(); };
-    MUST(numbers.open({1000}, rules) == Status::ok);
+    MUST(numbers.open({1000, 1}, rules) == Status::ok);
     for (uint64_t key = 1; key <= 4; key++) {
         MUST(!numbers.insert(key, 25).evicted);
     }
@@ -119,14 +119,6 @@ static void a_new_object_stays() {
             MUST(numbers.weight() == numbers.size() * 25 && numbers.size() == std::min<uint64_t>(key + 1, 4));
         }
     }
-}
-
-// By default a map has as few shards as have room for its entries, so that the one which leaves is chosen among all objects.
-static void shards() {
-    Numbers one, many;
-    cefrodil_shape shape{};
-    MUST(one.open({100000}, bounded(1)) == Status::ok && one.capacity() == 100000 && many.open({5000000}, bounded(1)) == Status::ok);
-    MUST(cefrodil_shape_for_items(5000000, 2, &shape) == CEFRODIL_OK && many.capacity() == 2 * uint64_t(shape.items));
 }
 
 // Without a weigher a map has room for as many entries as were asked for. With one shard it holds just these.
@@ -269,7 +261,6 @@ int main(int argc, char **argv) {
     order();
     used_keys_stay();
     a_new_object_stays();
-    shards();
     entries_alone();
     waiting();
     agrees_with_a_model<cefrodil::SipHash<uint64_t>>({1000}, 1000, 30000 / less);

@@ -95,16 +95,16 @@ impl<K: Key + ?Sized, V: Copy + Send + Sync + 'static, S: BuildHasher> Map<K, V,
         K: Borrow<Q>,
     {
         let inner = &*self.inner;
-        let (print, tries) = (inner.print(key), inner.tries.min(TASK_TRIES));
-        if let Some(value) = inner.get(print.dated(inner.generation.now()), tries, |told| told.unwrap_or(None)) {
+        let (print, tries) = (inner.print(key), inner.core.tries.min(TASK_TRIES));
+        if let Some(value) = inner.get(print.dated(inner.core.generation.now()), tries, |told| told.unwrap_or(None)) {
             return Board::Found(value);
         }
-        let leader = match inner.flights.board_task(print) {
+        let leader = match inner.core.flights.board_task(print) {
             Ok(leader) => leader,
             Err(passenger) => return Board::Wait(Wait(passenger)),
         };
         // After the begin of the flight: an invalidation has detached it, or ended this generation.
-        let generation = inner.generation.now();
+        let generation = inner.core.generation.now();
         // An earlier flight may have ended since the lookup.
         match inner.find(print, tries) {
             Some(value) => Board::Found(value),
@@ -148,10 +148,10 @@ impl<K: Key + ?Sized, V: Copy + Send + Sync + 'static, S: BuildHasher> Lead<'_, 
     fn end(self, value: V, life: Option<Duration>) -> Published<V> {
         let Lead { inner, print, generation, leader } = self;
         leader.end(value, || {
-            if life.is_some() && inner.life.is_none() {
-                return Published::Refused { value, why: inner.refused(InsertError::NoTimeToLive.into()) };
+            if life.is_some() && inner.core.life.is_none() {
+                return Published::Refused { value, why: inner.core.refused(InsertError::NoTimeToLive.into()) };
             }
-            inner.fill(print, generation, value, life, inner.tries.min(TASK_TRIES))
+            inner.fill(print, generation, value, life, inner.core.tries.min(TASK_TRIES))
         })
     }
 }

@@ -1,15 +1,11 @@
 //! How a map is opened.
-use crate::clock::Clock;
+use crate::core::Core;
 use crate::error::OpenError;
-use crate::flight::Flights;
-use crate::generation::Generation;
 use crate::handle::AnyHandle;
 use crate::inner::Inner;
-use crate::key_locks::KeyLocks;
 use crate::map::Map;
 use crate::print::Printer;
 use crate::settings::Settings;
-use crate::slots::Slots;
 use crate::wait::TRIES;
 use crate::words::{Layout, MOST};
 use cefrodil::Shape;
@@ -17,7 +13,6 @@ use std::collections::hash_map::RandomState;
 use std::fmt::{self, Debug, Formatter};
 use std::hash::BuildHasher;
 use std::marker::PhantomData;
-use std::sync::Arc;
 use std::time::Duration;
 
 /// Chooses how a map is opened.
@@ -133,19 +128,12 @@ impl<K: ?Sized, V: Copy + Send + Sync + 'static, S: BuildHasher> Builder<K, V, S
         const { assert!(Layout::Plain.width::<V>() <= MOST, "a value has at most 56 bytes") };
         let layout = Layout::of(self.settings.life, self.settings.idle);
         let mut handles = AnyHandle::open(layout.width::<V>(), shape, shards, self.settings.handles()).map_err(OpenError::of)?;
+        let capacity = handles[0].capacity();
         let Settings { hasher, once, life, idle, .. } = self.settings;
         Ok(Map::of(Inner {
-            capacity: handles[0].capacity(),
-            slots: Arc::new(Slots::new(handles)),
-            locks: KeyLocks::new(),
-            flights: Flights::new(),
-            generation: Generation::new(),
-            clock: Clock::new(),
+            core: Core::new(handles, capacity, life, idle, tries),
             printer: if once { Printer::once(hasher) } else { Printer::twice(hasher) },
             layout,
-            life,
-            idle,
-            tries,
         }))
     }
 }

@@ -24,8 +24,7 @@ impl<K: ?Sized, V: Copy, S> Map<K, V, S> {
     /// # Ok::<(), Box<dyn std::error::Error>>(())
     /// ```
     pub fn invalidate_all(&self) {
-        self.inner.generation.end();
-        self.inner.flights.detach_all();
+        self.inner.core.invalidate_all();
     }
 }
 
@@ -39,7 +38,7 @@ impl<K: Key + ?Sized, V: Copy, S> Map<K, V, S> {
     ///
     /// [`ClearError`]: entries may be left.
     pub fn clear(&self) -> Result<(), ClearError> {
-        self.clear_within(LISTS, self.inner.tries)
+        self.clear_within(LISTS, self.inner.core.tries)
     }
 
     /// Like [`clear`](Map::clear), with a single try at each step.
@@ -52,17 +51,17 @@ impl<K: Key + ?Sized, V: Copy, S> Map<K, V, S> {
     }
 
     fn clear_within(&self, lists: u32, tries: u32) -> Result<(), ClearError> {
-        let slots = &self.inner.slots;
-        self.inner.flights.detach_all();
+        let core = &self.inner.core;
+        core.flights.detach_all();
         let remove_all = || -> Result<(), ClearError> {
-            for key in slots.in_turn(lists, || slots.call(AnyHandle::keys)).map_err(ClearError::of_list)? {
-                let removed = slots.in_turn(tries, || self.inner.in_lock(key, |handle| handle.remove(key)));
+            for key in core.list(lists, AnyHandle::keys)? {
+                let removed = core.slots.in_turn(tries, || core.in_lock(key, |handle| handle.remove(key)));
                 if let Removal::Removed { .. } = removed.map_err(ClearError::of_removal)? {
-                    slots.count(Kind::Removed);
+                    core.slots.count(Kind::Removed);
                 }
             }
             Ok(())
         };
-        remove_all().inspect_err(|_| slots.count(Kind::Refused))
+        remove_all().map_err(|why| core.refused(why))
     }
 }

@@ -1,6 +1,6 @@
 //! A value that is computed where the map has none.
 use crate::error::GetError;
-use crate::flight::{Boarding, Leader};
+use crate::flight::Leader;
 use crate::inner::{Found, Inner};
 use crate::key::Key;
 use crate::map::Map;
@@ -42,17 +42,13 @@ impl<K: Key + ?Sized, V: Copy + Send + Sync + 'static, S: BuildHasher> Map<K, V,
     {
         let inner = &self.inner;
         let print = inner.print(key);
-        let mut found = inner.get(print.dated(inner.generation.now()), inner.looks(), |told| told.unwrap_or(None));
-        loop {
-            if let Some(value) = found {
-                return Ok(value);
-            }
-            match inner.flights.board(print) {
-                Boarding::First(leader) => return inner.compute(print, &leader, inner.tries, make),
-                Boarding::Within => return make(),
-                Boarding::Other(flight) => found = flight.wait().or_else(|| inner.find(print, inner.looks())),
-            }
-        }
+        let found = inner.get(print.dated(inner.core.generation.now()), inner.core.looks(), |told| told.unwrap_or(None));
+        inner.core.find_or_lead(
+            print,
+            found,
+            |handed_on| handed_on.or_else(|| inner.find(print, inner.core.looks())),
+            |leader| inner.compute(print, leader, inner.core.tries, make),
+        )
     }
 
     /// Like [`get_or_insert_with`](Map::get_or_insert_with), but each of its lookups and its put tries once. It doesn't wait until
@@ -67,33 +63,36 @@ impl<K: Key + ?Sized, V: Copy + Send + Sync + 'static, S: BuildHasher> Map<K, V,
     {
         let inner = &self.inner;
         let print = inner.print(key);
-        if let Some(value) = inner.get(print.dated(inner.generation.now()), 1, |told| told)? {
+        if let Some(value) = inner.get(print.dated(inner.core.generation.now()), 1, |told| told)? {
             return Ok(value);
         }
-        match inner.flights.board(print) {
-            Boarding::First(leader) => {
-                let Ok(value) = inner.compute(print, &leader, 1, || Ok::<V, Infallible>(make()));
-                Ok(value)
-            }
-            Boarding::Within => Ok(make()),
-            Boarding::Other(_) => Err(GetError::Computing),
-        }
+        inner.core.try_to_lead(print, |leader| {
+            let Ok(value) = inner.compute(print, leader, 1, || Ok::<V, Infallible>(make()));
+            value
+        })
     }
 }
 
 impl<K: Key + ?Sized, V: Copy, S: BuildHasher> Inner<K, V, S> {
     /// A lookup that isn't counted, in the generation of now.
     pub fn find(&self, print: Print, tries: u32) -> Option<V> {
-        match self.look(print.dated(self.generation.now()), tries)? {
+        match self.look(print.dated(self.core.generation.now()), tries)? {
             Found::Live(entry, _) => Some(entry.value),
             Found::Expired(_) | Found::Other(_) | Found::Absent => None,
         }
     }
 
-    /// Makes the value as the leader of a flight.
-    pub fn compute<E>(&self, print: Print, leader: &Leader<V>, tries: u32, make: impl FnOnce() -> Result<V, E>) -> Result<V, E> {
+    /// Makes the value as the leader of a flight, or for the caller alone.
+    pub fn compute<E>(
+        &self,
+        print: Print,
+        leader: Option<&Leader<V>>,
+        tries: u32,
+        make: impl FnOnce() -> Result<V, E>,
+    ) -> Result<V, E> {
+        let Some(leader) = leader else { return make() };
         // After the begin of the flight: an invalidation has detached it, or ended this generation.
-        let generation = self.generation.now();
+        let generation = self.core.generation.now();
         // An earlier flight may have ended since this thread looked the key up. What is found is not for those that wait: it may have been
         // removed before their calls began.
         if let Some(value) = self.find(print, tries.min(LOOKS)) {
@@ -108,12 +107,12 @@ impl<K: Key + ?Sized, V: Copy, S: BuildHasher> Inner<K, V, S> {
         let mut other = None;
         let put = self.change(print, tries, life, |present| {
             other = present;
-            (present.is_none() && self.generation.now() == generation).then_some(value)
+            (present.is_none() && self.core.generation.now() == generation).then_some(value)
         });
         match put {
             Ok(Some(_)) => Published::Put(value),
             Ok(None) => other.map_or(Published::Outdated(value), Published::Other),
-            Err(why) => Published::Refused { value, why: self.refused(why) },
+            Err(why) => Published::Refused { value, why: self.core.refused(why) },
         }
     }
 }

@@ -1,39 +1,23 @@
 //! What all clones of a map share: how a key is looked up, put and removed.
-use crate::clock::{Clock, NEVER};
+use crate::clock::NEVER;
+use crate::core::Core;
 use crate::error::{GetError, InsertError, RemoveError};
-use crate::flight::Flights;
-use crate::generation::Generation;
 use crate::handle::{AnyHandle, MANY};
 use crate::key::Key;
-use crate::key_locks::KeyLocks;
 use crate::map::Inserted;
 use crate::print::{Print, Printer};
-use crate::slots::Slots;
 use crate::stats::Kind;
-use crate::wait::LOOKS;
 use crate::words::{check, deadline, set_check, Entry, Layout, Seen, Words};
 use cefrodil::{PutIfError, Reply, TurnError};
 use std::hash::BuildHasher;
-use std::sync::Arc;
 use std::time::Duration;
 
 pub(crate) struct Inner<K: ?Sized, V, S> {
-    pub slots: Arc<Slots<AnyHandle>>,
     /// A put has its key's lock, and so does a removal.
-    pub locks: KeyLocks,
-    pub flights: Flights<V>,
-    pub generation: Generation,
-    pub clock: Clock,
+    pub core: Core<AnyHandle, V>,
     pub printer: Printer<K, S>,
     /// Which deadlines entries have.
     pub layout: Layout,
-    /// The time to live of what is put.
-    pub life: Option<Duration>,
-    /// How long an entry lives that is not used.
-    pub idle: Option<Duration>,
-    pub capacity: usize,
-    /// How often a call tries.
-    pub tries: u32,
 }
 
 /// What there is under the first hash of a key.
@@ -47,29 +31,6 @@ pub(crate) enum Found<V> {
     Absent,
 }
 
-impl<K: ?Sized, V, S> Drop for Inner<K, V, S> {
-    fn drop(&mut self) {
-        if !self.slots.are_of_this_process() {
-            self.flights.forget();
-        }
-    }
-}
-
-impl<K: ?Sized, V, S> Inner<K, V, S> {
-    /// Makes a call while no other thread writes the key.
-    #[inline]
-    pub fn in_lock<T, E>(
-        &self,
-        key: u64,
-        call: impl FnOnce(&mut AnyHandle) -> Result<T, TurnError<E>>,
-    ) -> Result<T, TurnError<E>> {
-        self.slots.call(|handle| {
-            let _locked = self.locks.lock(key).ok_or(TurnError::Held)?;
-            call(handle)
-        })
-    }
-}
-
 impl<K: Key + ?Sized, V: Copy, S: BuildHasher> Inner<K, V, S> {
     /// By which a key is known whatever the generation: to flights.
     #[inline]
@@ -80,34 +41,30 @@ impl<K: Key + ?Sized, V: Copy, S: BuildHasher> Inner<K, V, S> {
     /// By which entries of this key are known that are put now: to lookups and puts.
     #[inline]
     pub fn print_now<Q: Key + ?Sized>(&self, key: &Q) -> Print {
-        self.print(key).dated(self.generation.now())
-    }
-
-    /// How often a lookup tries that is a miss if it stays busy.
-    #[inline]
-    pub fn looks(&self) -> u32 {
-        self.tries.min(LOOKS)
+        self.print(key).dated(self.core.generation.now())
     }
 
     /// The deadline of a value that is put now.
     pub fn deadline(&self, life: Option<Duration>) -> u64 {
-        life.map_or(NEVER, |life| self.clock.deadline(life))
+        life.map_or(NEVER, |life| self.core.clock.deadline(life))
     }
 
     pub fn words(&self, print: Print, value: V, deadline: u64) -> Words {
-        Entry { check: print.check, deadline, idle: self.deadline(self.idle), value }.words(self.layout)
+        Entry { check: print.check, deadline, idle: self.deadline(self.core.idle), value }.words(self.layout)
     }
 
     /// Looks the key up. `None`: each try was busy. It isn't counted.
     pub fn look(&self, print: Print, tries: u32) -> Option<Found<V>> {
         let look =
             |handle: &mut AnyHandle| AnyHandle::get::<V, _>(handle, print.key, self.layout, |seen| self.found(print, seen));
-        self.slots.call(look).or_else(|| self.look_again(print, tries - 1))
+        self.core.slots.call(look).or_else(|| self.look_again(print, tries - 1))
     }
 
     #[cold]
     fn look_again(&self, print: Print, tries: u32) -> Option<Found<V>> {
-        self.slots.within(tries, || self.found(print, Seen::of(&mut self.slots.call(|handle| handle.get_or_turn(print.key)))))
+        self.core
+            .slots
+            .within(tries, || self.found(print, Seen::of(&mut self.core.slots.call(|handle| handle.get_or_turn(print.key)))))
     }
 
     fn found(&self, print: Print, seen: Seen) -> Option<Found<V>> {
@@ -119,7 +76,7 @@ impl<K: Key + ?Sized, V: Copy, S: BuildHasher> Inner<K, V, S> {
         let entry = Entry::of(words, self.layout);
         Some(if entry.check != print.check {
             Found::Other(since)
-        } else if self.clock.has_passed(entry.deadline.min(entry.idle)) {
+        } else if self.core.clock.has_passed(entry.deadline.min(entry.idle)) {
             Found::Expired(since)
         } else {
             Found::Live(entry, since)
@@ -149,13 +106,13 @@ impl<K: Key + ?Sized, V: Copy, S: BuildHasher> Inner<K, V, S> {
     // The compiler knows the layout, and leaves out what is for the other one. The value is read last: then it is copied once.
     #[inline(always)]
     fn get_laid<const TIMED: bool, R>(&self, print: Print, tries: u32, told: impl FnOnce(Result<Option<V>, GetError>) -> R) -> R {
-        let Some((handle, counts)) = self.slots.own() else {
+        let Some((handle, counts)) = self.core.slots.own() else {
             return told(self.get_shared(print, tries));
         };
         // Each asks for the layout itself: a captured one is known to the compiler only where the closure is inlined.
         AnyHandle::get::<V, _>(handle, print.key, Layout::laid::<TIMED>(), |seen| match seen {
             Seen::Entry(words, _)
-                if check(words) == print.check && !self.clock.has_passed(deadline(words, Layout::laid::<TIMED>())) =>
+                if check(words) == print.check && !self.core.clock.has_passed(deadline(words, Layout::laid::<TIMED>())) =>
             {
                 counts.add_alone(Kind::Hit);
                 told(Ok(Some(Entry::of(words, Layout::laid::<TIMED>()).value)))
@@ -189,11 +146,11 @@ impl<K: Key + ?Sized, V: Copy, S: BuildHasher> Inner<K, V, S> {
 
     // Moves the deadline of an entry that was used. If the key was put since, or another thread has the turn, this does nothing.
     fn note_use(&self, print: Print, found: Option<&Found<V>>) {
-        let (Some(idle), Some(Found::Live(entry, since))) = (self.idle, found) else { return };
-        let Some(next) = self.clock.moved(entry.idle, idle) else { return };
+        let (Some(idle), Some(Found::Live(entry, since))) = (self.core.idle, found) else { return };
+        let Some(next) = self.core.clock.moved(entry.idle, idle) else { return };
         let words = Entry { idle: next, ..*entry }.words(self.layout);
         // If the key was put meanwhile, that was a use, too.
-        let _ = self.slots.call(|handle| handle.put_if(print.key, *since, &words));
+        let _ = self.core.slots.call(|handle| handle.put_if(print.key, *since, &words));
     }
 
     /// Looks up to `MANY` keys up by one call of the index, and counts each. A key that is busy is looked up again by itself.
@@ -201,17 +158,17 @@ impl<K: Key + ?Sized, V: Copy, S: BuildHasher> Inner<K, V, S> {
         let (mut keys, mut replies) = ([0; MANY], [Reply::Busy; MANY]);
         let (keys, replies) = (&mut keys[..prints.len()], &mut replies[..prints.len()]);
         keys.iter_mut().zip(prints).for_each(|(key, print)| *key = print.key);
-        self.slots.call(|handle| handle.get_many(keys, replies));
+        self.core.slots.call(|handle| handle.get_many(keys, replies));
         values.extend(prints.iter().zip(replies).map(|(print, reply)| {
-            let found = self.found(*print, Seen::of(reply)).or_else(|| self.look_again(*print, self.looks() - 1));
+            let found = self.found(*print, Seen::of(reply)).or_else(|| self.look_again(*print, self.core.looks() - 1));
             self.used(*print, found).unwrap_or(None)
         }));
     }
 
     /// Looks the key up, which is no use of it, and counts nothing.
     pub fn peek(&self, print: Print, tries: u32) -> Result<Option<V>, GetError> {
-        let found = self.slots.within(tries, || {
-            let mut reply = self.slots.call(|handle| handle.peek(print.key));
+        let found = self.core.slots.within(tries, || {
+            let mut reply = self.core.slots.call(|handle| handle.peek(print.key));
             self.found(print, Seen::of(&mut reply))
         });
         match found.ok_or(GetError::Busy)? {
@@ -221,30 +178,20 @@ impl<K: Key + ?Sized, V: Copy, S: BuildHasher> Inner<K, V, S> {
     }
 
     fn counted(&self, found: Option<Found<V>>) -> Result<Option<V>, GetError> {
-        let kind = match found {
+        match found {
             Some(Found::Live(entry, _)) => {
-                self.slots.count(Kind::Hit);
+                self.core.slots.count(Kind::Hit);
                 return Ok(Some(entry.value));
             }
-            Some(Found::Absent) => Kind::Miss,
-            Some(Found::Expired(_)) => Kind::Expired,
-            Some(Found::Other(_)) => Kind::Collided,
+            Some(Found::Absent) => self.core.missed(Kind::Miss),
+            Some(Found::Expired(_)) => self.core.missed(Kind::Expired),
+            Some(Found::Other(_)) => self.core.missed(Kind::Collided),
             None => {
-                self.slots.count(Kind::Busy);
+                self.core.slots.count(Kind::Busy);
                 return Err(GetError::Busy);
             }
-        };
-        self.slots.count(Kind::Miss);
-        if !matches!(kind, Kind::Miss) {
-            self.slots.count(kind);
         }
         Ok(None)
-    }
-
-    /// Counts a write that failed.
-    pub fn refused<E>(&self, why: E) -> E {
-        self.slots.count(Kind::Refused);
-        why
     }
 
     pub fn insert<Q: Key + ?Sized>(
@@ -256,44 +203,44 @@ impl<K: Key + ?Sized, V: Copy, S: BuildHasher> Inner<K, V, S> {
     ) -> Result<Inserted, InsertError> {
         let print = self.print(key);
         let mut words = self.words(print, value, self.deadline(life));
-        self.flights.detach(print);
-        let put = self.slots.in_turn(tries, || {
-            self.in_lock(print.key, |handle| {
+        self.core.flights.detach(print);
+        let put = self.core.slots.in_turn(tries, || {
+            self.core.in_lock(print.key, |handle| {
                 // By who has the lock: so nothing that was put in a later generation gives way to this.
-                set_check(&mut words, print.dated(self.generation.now()).check);
+                set_check(&mut words, print.dated(self.core.generation.now()).check);
                 handle.put(print.key, &words)
             })
         });
         match put.map(Inserted::of) {
             Ok(did) => {
-                self.slots.count_put(did);
+                self.core.slots.count_put(did);
                 Ok(did)
             }
-            Err(why) => Err(self.refused(InsertError::of(why))),
+            Err(why) => Err(self.core.refused(InsertError::of(why))),
         }
     }
 
     pub fn remove<Q: Key + ?Sized>(&self, key: &Q, tries: u32) -> Result<Option<V>, RemoveError> {
         let print = self.print(key);
-        self.flights.detach(print);
+        self.core.flights.detach(print);
         for _ in 0..tries {
-            let (value, since) = match self.look(print.dated(self.generation.now()), tries) {
+            let (value, since) = match self.look(print.dated(self.core.generation.now()), tries) {
                 Some(Found::Live(entry, since)) => (Some(entry.value), since),
                 Some(Found::Expired(since)) => (None, since),
                 Some(Found::Other(_) | Found::Absent) => return Ok(None),
-                None => return Err(self.refused(RemoveError::Busy)),
+                None => return Err(self.core.refused(RemoveError::Busy)),
             };
-            match self.slots.in_turn(tries, || self.in_lock(print.key, |handle| handle.take_if(print.key, since))) {
+            match self.core.slots.in_turn(tries, || self.core.in_lock(print.key, |handle| handle.take_if(print.key, since))) {
                 Ok(()) => {
-                    self.slots.count(Kind::Removed);
+                    self.core.slots.count(Kind::Removed);
                     return Ok(value);
                 }
                 Err(TurnError::Call(PutIfError::NotThere { .. })) => return Ok(None),
                 Err(TurnError::Call(PutIfError::Changed { .. })) => {}
-                Err(TurnError::Call(_)) => return Err(self.refused(RemoveError::Spent)),
-                Err(TurnError::Held) => return Err(self.refused(RemoveError::Held)),
+                Err(TurnError::Call(_)) => return Err(self.core.refused(RemoveError::Spent)),
+                Err(TurnError::Held) => return Err(self.core.refused(RemoveError::Held)),
             }
         }
-        Err(self.refused(RemoveError::Contended))
+        Err(self.core.refused(RemoveError::Contended))
     }
 }

@@ -6,6 +6,7 @@ mod builder;
 mod clear;
 mod clock;
 mod compute;
+mod core;
 mod error;
 mod flight;
 mod forks;

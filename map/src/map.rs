@@ -107,7 +107,7 @@ impl<K: Key + ?Sized, V: Copy + Send + Sync + 'static, S: BuildHasher> Map<K, V,
     where
         K: Borrow<Q>,
     {
-        self.inner.get(self.inner.print_now(key), self.inner.looks(), |told| told.unwrap_or(None))
+        self.inner.get(self.inner.print_now(key), self.inner.core.looks(), |told| told.unwrap_or(None))
     }
 
     /// The key's value, by one lookup. `None`: the key is absent, expired or evicted.
@@ -151,7 +151,7 @@ impl<K: Key + ?Sized, V: Copy + Send + Sync + 'static, S: BuildHasher> Map<K, V,
     where
         K: Borrow<Q>,
     {
-        self.inner.peek(self.inner.print_now(key), self.inner.tries)
+        self.inner.peek(self.inner.print_now(key), self.inner.core.tries)
     }
 
     /// Whether the key has a value, which then counts as used lately.
@@ -174,7 +174,7 @@ impl<K: Key + ?Sized, V: Copy + Send + Sync + 'static, S: BuildHasher> Map<K, V,
     where
         K: Borrow<Q>,
     {
-        self.inner.insert(key, value, self.inner.life, self.inner.tries)
+        self.inner.insert(key, value, self.inner.core.life, self.inner.core.tries)
     }
 
     /// Like [`insert`](Map::insert), with a single try.
@@ -186,7 +186,7 @@ impl<K: Key + ?Sized, V: Copy + Send + Sync + 'static, S: BuildHasher> Map<K, V,
     where
         K: Borrow<Q>,
     {
-        self.inner.insert(key, value, self.inner.life, 1)
+        self.inner.insert(key, value, self.inner.core.life, 1)
     }
 
     /// Like [`insert`](Map::insert), with a time to live of its own. One that is too long to be counted never ends, and `Duration::ZERO` is
@@ -199,9 +199,9 @@ impl<K: Key + ?Sized, V: Copy + Send + Sync + 'static, S: BuildHasher> Map<K, V,
     where
         K: Borrow<Q>,
     {
-        match self.inner.life {
-            Some(_) => self.inner.insert(key, value, Some(life), self.inner.tries),
-            None => Err(self.inner.refused(InsertError::NoTimeToLive)),
+        match self.inner.core.life {
+            Some(_) => self.inner.insert(key, value, Some(life), self.inner.core.tries),
+            None => Err(self.inner.core.refused(InsertError::NoTimeToLive)),
         }
     }
 
@@ -219,7 +219,7 @@ impl<K: Key + ?Sized, V: Copy + Send + Sync + 'static, S: BuildHasher> Map<K, V,
     where
         K: Borrow<Q>,
     {
-        self.inner.remove(key, self.inner.tries)
+        self.inner.remove(key, self.inner.core.tries)
     }
 
     /// Like [`remove`](Map::remove), with a single try.
@@ -243,7 +243,7 @@ impl<K: ?Sized, V, S> Map<K, V, S> {
     /// The most entries that the map holds: what was asked for, or more. Shards fill unevenly, so it may evict before it has so many.
     #[must_use]
     pub fn capacity(&self) -> usize {
-        self.inner.capacity
+        self.inner.core.capacity
     }
 
     /// How many entries the map has, expired ones included. While other threads write it is an estimate.
@@ -261,7 +261,7 @@ impl<K: ?Sized, V, S> Map<K, V, S> {
     /// What the calls of all threads came to.
     #[must_use]
     pub fn stats(&self) -> Stats {
-        self.inner.slots.stats()
+        self.inner.core.slots.stats()
     }
 }
 

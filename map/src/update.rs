@@ -30,7 +30,7 @@ impl<K: Key + ?Sized, V: Copy + Send + Sync + 'static, S: BuildHasher> Map<K, V,
     where
         K: Borrow<Q>,
     {
-        self.inner.update(key, self.inner.tries, change)
+        self.inner.update(key, self.inner.core.tries, change)
     }
 
     /// Like [`update`](Map::update), with a single try. So `change` is called once at most.
@@ -55,7 +55,7 @@ impl<K: Key + ?Sized, V: Copy + Send + Sync + 'static, S: BuildHasher> Map<K, V,
     where
         K: Borrow<Q>,
     {
-        self.inner.change_detached(self.inner.print(key), self.inner.tries, None, |old| old.map(&mut change))
+        self.inner.change_detached(self.inner.print(key), self.inner.core.tries, None, |old| old.map(&mut change))
     }
 
     /// Like [`modify`](Map::modify), and the entry's time to live begins anew with `life`. This renews an entry: a removal that comes
@@ -87,9 +87,9 @@ impl<K: Key + ?Sized, V: Copy + Send + Sync + 'static, S: BuildHasher> Map<K, V,
         K: Borrow<Q>,
     {
         let inner = &self.inner;
-        match inner.life {
-            Some(_) => inner.change_detached(inner.print(key), inner.tries, Some(life), |old| old.map(&mut change)),
-            None => Err(inner.refused(InsertError::NoTimeToLive.into())),
+        match inner.core.life {
+            Some(_) => inner.change_detached(inner.print(key), inner.core.tries, Some(life), |old| old.map(&mut change)),
+            None => Err(inner.core.refused(InsertError::NoTimeToLive.into())),
         }
     }
 }
@@ -110,10 +110,10 @@ impl<K: Key + ?Sized, V: Copy, S: BuildHasher> Inner<K, V, S> {
     ) -> Result<Option<V>, UpdateError> {
         let changed = self.change(print, tries, anew, |old| {
             let new = change(old)?;
-            self.flights.detach(print);
+            self.core.flights.detach(print);
             Some(new)
         });
-        changed.map_err(|why| self.refused(why))
+        changed.map_err(|why| self.core.refused(why))
     }
 
     /// Puts what `change` makes of the key's value, unless another thread puts the key meanwhile; then it begins again. Returns what was
@@ -127,19 +127,19 @@ impl<K: Key + ?Sized, V: Copy, S: BuildHasher> Inner<K, V, S> {
         mut change: impl FnMut(Option<V>) -> Option<V>,
     ) -> Result<Option<V>, UpdateError> {
         for _ in 0..tries {
-            let generation = self.generation.now();
+            let generation = self.core.generation.now();
             let print = print.dated(generation);
             let (old, since) = match self.look(print, tries).ok_or(UpdateError::Busy)? {
                 Found::Live(entry, since) => (Some(entry), Some(since)),
                 // It may be the key's, of a later generation. What had expired may have been live in this one until that ended.
-                Found::Expired(_) | Found::Other(_) if self.generation.now() != generation => continue,
+                Found::Expired(_) | Found::Other(_) if self.core.generation.now() != generation => continue,
                 Found::Expired(since) | Found::Other(since) => (None, Some(since)),
                 Found::Absent => (None, None),
             };
             let Some(new) = change(old.map(|entry| entry.value)) else { return Ok(None) };
             let deadline = match (anew, old) {
                 (None, Some(entry)) => entry.deadline,
-                _ => self.deadline(anew.or(self.life)),
+                _ => self.deadline(anew.or(self.core.life)),
             };
             let words = self.words(print, new, deadline);
             let is_put = match since {
@@ -155,9 +155,9 @@ impl<K: Key + ?Sized, V: Copy, S: BuildHasher> Inner<K, V, S> {
 
     // Puts the words if the key's last put was at the moment `since`. `false`: another thread was first.
     fn put_over(&self, print: Print, since: u64, words: &Words, tries: u32) -> Result<bool, InsertError> {
-        match self.slots.in_turn(tries, || self.in_lock(print.key, |handle| handle.put_if(print.key, since, words))) {
+        match self.core.slots.in_turn(tries, || self.core.in_lock(print.key, |handle| handle.put_if(print.key, since, words))) {
             Ok(_) => {
-                self.slots.count(Kind::Renewed);
+                self.core.slots.count(Kind::Renewed);
                 Ok(true)
             }
             Err(TurnError::Call(PutIfError::NotThere { .. } | PutIfError::Changed { .. })) => Ok(false),
@@ -168,9 +168,9 @@ impl<K: Key + ?Sized, V: Copy, S: BuildHasher> Inner<K, V, S> {
 
     // Puts the words if the key is absent, and this generation has not ended before that was so.
     fn put_absent(&self, print: Print, generation: u64, words: &Words, tries: u32) -> Result<bool, InsertError> {
-        let put = self.slots.in_turn(tries, || {
-            self.in_lock(print.key, |handle| {
-                if self.generation.now() == generation {
+        let put = self.core.slots.in_turn(tries, || {
+            self.core.in_lock(print.key, |handle| {
+                if self.core.generation.now() == generation {
                     handle.put_if_absent(print.key, words)
                 } else {
                     Err(TurnError::Call(PutIfAbsentError::Present { since: 0 }))
@@ -179,7 +179,7 @@ impl<K: Key + ?Sized, V: Copy, S: BuildHasher> Inner<K, V, S> {
         });
         match put {
             Ok(put) => {
-                self.slots.count_put(Inserted::of(put));
+                self.core.slots.count_put(Inserted::of(put));
                 Ok(true)
             }
             Err(TurnError::Call(PutIfAbsentError::Present { .. })) => Ok(false),

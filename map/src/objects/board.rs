@@ -78,17 +78,17 @@ where
         Q: Hash + Eq + ToOwned<Owned = K> + ?Sized,
     {
         let inner = &*self.inner;
-        let (hash, tries) = (inner.hash(key), inner.tries.min(TASK_TRIES));
+        let (hash, tries) = (inner.hash(key), inner.core.tries.min(TASK_TRIES));
         if let Ok(Some(value)) = inner.get(hash, key, tries) {
             return Board::Found(value);
         }
         let print = Print::of_hash(hash);
-        let leader = match inner.flights.board_task(print) {
+        let leader = match inner.core.flights.board_task(print) {
             Ok(leader) => leader,
             Err(passenger) => return Board::Wait(ObjectWait(passenger)),
         };
         // After the begin of the flight: an invalidation has detached it, or ended this generation.
-        let generation = inner.generation.now();
+        let generation = inner.core.generation.now();
         // An earlier flight may have ended since the lookup.
         match inner.find(hash, key, tries) {
             Some(value) => Board::Found(value),
@@ -124,7 +124,7 @@ where
     fn end(self, value: V, life: Option<Duration>) -> Published<V> {
         let ObjectLead { inner, hash, key, generation, leader } = self;
         let object = inner.object(key, value.clone(), life, generation);
-        inner.fill(hash, object, value, &leader, inner.tries.min(TASK_TRIES))
+        inner.fill(hash, object, value, &leader, inner.core.tries.min(TASK_TRIES))
     }
 }
 

@@ -1,15 +1,12 @@
 //! How a map of objects is opened, and who hears of the objects that leave it.
 use super::epochs::Epochs;
-use super::inner::{ObjectInner, Stripe};
+use super::inner::ObjectInner;
 use super::map::ObjectMap;
 use super::object::{Held, Object};
 use super::weights::{Weigher, Weights};
-use crate::clock::Clock;
+use crate::core::Core;
 use crate::error::OpenError;
-use crate::flight::Flights;
-use crate::generation::Generation;
 use crate::settings::Settings;
-use crate::slots::Slots;
 use crate::wait::TRIES;
 use cefrodil::{Cache, Shape};
 use std::collections::hash_map::RandomState;
@@ -18,8 +15,6 @@ use std::hash::{BuildHasher, Hash};
 use std::marker::PhantomData;
 use std::sync::Arc;
 use std::time::Duration;
-
-pub(crate) const STRIPES: usize = 64;
 
 /// Why an object left the map.
 #[derive(Clone, Copy, Debug, PartialEq, Eq, Hash)]
@@ -200,18 +195,11 @@ impl<O: Held, S> ObjectInner<O, S> {
         let mut handles = Cache::open(shape, shards, count).map_err(OpenError::of)?;
         let Settings { hasher, life, idle, threads, .. } = settings;
         let Hears { listener, freed, weigher } = hears;
+        let capacity = handles[0].capacity();
         Ok(ObjectInner {
-            capacity: handles[0].capacity(),
-            slots: Arc::new(Slots::new(handles)),
+            core: Core::new(handles, capacity, life, idle, tries),
             epochs: Epochs::new(threads),
-            flights: Flights::new(),
-            generation: Generation::new(),
-            stripes: (0..STRIPES).map(|_| Stripe::default()).collect(),
-            clock: Clock::new(),
             hasher,
-            life,
-            idle,
-            tries,
             listener,
             freed,
             weights: weigher.map(|(most, weigher)| Weights::new(most, weigher)),

@@ -89,13 +89,13 @@ impl<H: Head, S> BytesMap<H, S> {
     /// As [`ObjectMap::capacity`](crate::ObjectMap::capacity).
     #[must_use]
     pub fn capacity(&self) -> usize {
-        self.inner.capacity
+        self.inner.core.capacity
     }
 
     /// As [`ObjectMap::len`](crate::ObjectMap::len).
     #[must_use]
     pub fn len(&self) -> usize {
-        self.inner.slots.stats().entries()
+        self.inner.core.slots.stats().entries()
     }
 
     /// Whether [`len`](Self::len) is 0.
@@ -127,9 +127,9 @@ impl<H: Head, S> BytesMap<H, S> {
         let pinned = self.inner.pin();
         for (chunk, hashes) in hashes.chunks(MANY).enumerate() {
             let mut replies = [Reply::Busy; MANY];
-            self.inner.slots.call(|handle| handle.get_many(hashes, &mut replies[..hashes.len()]));
+            self.inner.core.slots.call(|handle| handle.get_many(hashes, &mut replies[..hashes.len()]));
             for (index, (hash, reply)) in hashes.iter().zip(replies).enumerate() {
-                let state = pinned.state_or_look(*hash, &Any, reply, self.inner.looks());
+                let state = pinned.state_or_look(*hash, &Any, reply, self.inner.core.looks());
                 self.inner.count(&state);
                 look(chunk * MANY + index, state.map(State::object).ok_or(GetError::Busy));
             }
@@ -142,7 +142,7 @@ impl<H: Head, S> BytesMap<H, S> {
         Bytes<H>: Keyed<Q>,
     {
         let pinned = self.inner.pin();
-        let state = pinned.look(hash, key, self.inner.looks());
+        let state = pinned.look(hash, key, self.inner.core.looks());
         self.inner.count(&state);
         look(state.map(|state| state.object()).ok_or(GetError::Busy))
     }
@@ -151,7 +151,7 @@ impl<H: Head, S> BytesMap<H, S> {
     /// tries once for the turn of the hash's shard, as a write does, and is busy if that did not win.
     pub fn peek_hash<R>(&self, hash: u64, look: impl FnOnce(Result<Look<&Bytes<H>>, GetError>) -> R) -> R {
         let pinned = self.inner.pin();
-        let reply = self.inner.slots.call(|handle| handle.try_peek(hash)).unwrap_or(Reply::Busy);
+        let reply = self.inner.core.slots.call(|handle| handle.try_peek(hash)).unwrap_or(Reply::Busy);
         look(pinned.state_or_look(hash, &Any, reply, 1).map(|state| state.object()).ok_or(GetError::Busy))
     }
 
@@ -163,7 +163,7 @@ impl<H: Head, S> BytesMap<H, S> {
     ///
     /// [`RemoveError`]: nothing was evicted.
     pub fn evict<R>(&self, draw: u64, see: impl FnOnce(&Bytes<H>, u64) -> R) -> Result<Option<R>, RemoveError> {
-        self.inner.evict(draw, self.inner.tries, see)
+        self.inner.evict(draw, self.inner.core.tries, see)
     }
 
     /// The hashes of all entries, for a program that looks at one after the other, by [`peek_hash`](Self::peek_hash). Those that other threads put or
@@ -212,7 +212,7 @@ impl<H: Head, S: BuildHasher> BytesMap<H, S> {
     /// [`InsertError`]: nothing was changed.
     pub fn put(&self, block: Block<H>) -> Result<Put, InsertError> {
         let hash = self.hash_of(block.key());
-        self.inner.put(hash, block).map_err(|(_, why)| self.inner.refused(why))
+        self.inner.put(hash, block).map_err(|(_, why)| self.inner.core.refused(why))
     }
 
     /// Like [`put`](Self::put) of a block whose key has this hash, by [`hash_of`](Self::hash_of): with another one, its key will not be found. Then
@@ -228,7 +228,7 @@ impl<H: Head, S: BuildHasher> BytesMap<H, S> {
         block: Block<H>,
         see: impl FnOnce(&Bytes<H>, Option<&Bytes<H>>) -> R,
     ) -> Result<(Put, R), InsertError> {
-        self.inner.put_seen(hash, block, see).map_err(|(_, why)| self.inner.refused(why))
+        self.inner.put_seen(hash, block, see).map_err(|(_, why)| self.inner.core.refused(why))
     }
 
     /// Puts the block if its key is absent.
@@ -238,7 +238,7 @@ impl<H: Head, S: BuildHasher> BytesMap<H, S> {
     /// [`AbsentError`]: nothing was changed.
     pub fn put_if_absent(&self, block: Block<H>) -> Result<Put, AbsentError> {
         let hash = self.hash_of(block.key());
-        self.inner.put_new(hash, block, |block| block.key()).map_err(|(_, why)| self.inner.refused(why))
+        self.inner.put_new(hash, block, |block| block.key()).map_err(|(_, why)| self.inner.core.refused(why))
     }
 
     /// Puts the block if its key was put last at the moment `since`, as a lookup of this key returned it.
@@ -248,7 +248,7 @@ impl<H: Head, S: BuildHasher> BytesMap<H, S> {
     /// [`IfError`]: nothing was changed.
     pub fn replace_if(&self, since: u64, block: Block<H>) -> Result<Put, IfError> {
         let hash = self.hash_of(block.key());
-        self.inner.replace(hash, since, block).map_err(|(_, why)| self.inner.refused(why))
+        self.inner.replace(hash, since, block).map_err(|(_, why)| self.inner.core.refused(why))
     }
 
     /// As [`ObjectMap::remove_if`](crate::ObjectMap::remove_if).

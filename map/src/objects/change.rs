@@ -26,7 +26,7 @@ where
     ///
     /// [`UpdateError`]: this call changed nothing.
     pub fn update(&self, key: K, change: impl FnMut(Option<&V>) -> V) -> Result<Put, UpdateError> {
-        self.inner.update(key, change).map_err(|why| self.inner.refused(why))
+        self.inner.update(key, change).map_err(|why| self.inner.core.refused(why))
     }
 
     /// Like [`update`](Self::update), if the key has a value. `None`: it has none, and nothing was put. The deadline stays.
@@ -38,7 +38,7 @@ where
     where
         K: Borrow<Q> + Clone,
     {
-        self.inner.modify(key, None, change).map_err(|why| self.inner.refused(why))
+        self.inner.modify(key, None, change).map_err(|why| self.inner.core.refused(why))
     }
 
     /// Like [`modify`](Self::modify), and the entry's time to live begins anew with `life`. A removal that comes between is not undone. If
@@ -56,7 +56,7 @@ where
     where
         K: Borrow<Q> + Clone,
     {
-        self.inner.modify(key, Some(life), change).map_err(|why| self.inner.refused(why))
+        self.inner.modify(key, Some(life), change).map_err(|why| self.inner.core.refused(why))
     }
 }
 
@@ -65,10 +65,10 @@ where
 impl<K: Hash + Eq, V, S: BuildHasher> ObjectInner<Object<K, V>, S> {
     fn update(&self, mut key: K, mut change: impl FnMut(Option<&V>) -> V) -> Result<Put, UpdateError> {
         let hash = self.hash(&key);
-        for _ in 0..self.tries {
-            let (pinned, generation) = (self.pin(), self.generation.now());
-            let has_ended = || self.generation.now() != generation;
-            let (seen, over) = pinned.place(hash, &key, self.tries).ok_or(UpdateError::Busy)?;
+        for _ in 0..self.core.tries {
+            let (pinned, generation) = (self.pin(), self.core.generation.now());
+            let has_ended = || self.core.generation.now() != generation;
+            let (seen, over) = pinned.place(hash, &key, self.core.tries).ok_or(UpdateError::Busy)?;
             if seen.is_none() && has_ended() {
                 continue;
             }
@@ -83,7 +83,7 @@ impl<K: Hash + Eq, V, S: BuildHasher> ObjectInner<Object<K, V>, S> {
             self.detach(hash);
             let put = match seen {
                 Some(seen) => self.put_over_seen(hash, object, seen),
-                None => self.put_over(hash, object, over, self.tries),
+                None => self.put_over(hash, object, over, self.core.tries),
             };
             match put {
                 Ok(put) => return Ok(put),
@@ -104,14 +104,14 @@ impl<K: Hash + Eq, V, S: BuildHasher> ObjectInner<Object<K, V>, S> {
         K: Borrow<Q> + Clone,
     {
         let hash = self.hash(key);
-        for _ in 0..self.tries {
+        for _ in 0..self.core.tries {
             let pinned = self.pin();
-            let (Some(seen), over) = pinned.place(hash, key, self.tries).ok_or(UpdateError::Busy)? else { return Ok(None) };
+            let (Some(seen), over) = pinned.place(hash, key, self.core.tries).ok_or(UpdateError::Busy)? else { return Ok(None) };
             let value = change(&seen.object.value);
             let object = self.object(seen.object.key.clone(), value, anew, seen.object.generation());
             self.detach(hash);
             let put = match anew {
-                Some(_) => self.put_over(hash, object, over, self.tries),
+                Some(_) => self.put_over(hash, object, over, self.core.tries),
                 None => self.put_over_seen(hash, object, seen),
             };
             match put {

@@ -5,7 +5,7 @@ use super::object::{Held, Object};
 use super::pinned::Over;
 use super::put::Fail;
 use crate::error::{GetError, UpdateError};
-use crate::flight::{Boarding, Leader};
+use crate::flight::Leader;
 use crate::print::Print;
 use crate::published::Published;
 use crate::wait::LOOKS;
@@ -50,20 +50,13 @@ where
     {
         let inner = &self.inner;
         let hash = inner.hash(key);
-        let mut found = inner.get(hash, key, inner.looks()).unwrap_or(None);
-        loop {
-            if let Some(value) = found {
-                return Ok(value);
-            }
-            match inner.flights.board(Print::of_hash(hash)) {
-                Boarding::First(leader) => return inner.compute(hash, key, &leader, inner.tries, make),
-                Boarding::Within => return make(),
-                Boarding::Other(flight) => {
-                    let _ = flight.wait();
-                    found = inner.find(hash, key, inner.looks());
-                }
-            }
-        }
+        let found = inner.get(hash, key, inner.core.looks()).unwrap_or(None);
+        inner.core.find_or_lead(
+            Print::of_hash(hash),
+            found,
+            |_| inner.find(hash, key, inner.core.looks()),
+            |leader| inner.compute(hash, key, leader, inner.core.tries, make),
+        )
     }
 
     /// Like [`get_or_insert_with`](Self::get_or_insert_with), but each of its lookups and its put tries once. It doesn't wait until
@@ -82,14 +75,10 @@ where
         if let Some(value) = inner.get(hash, key, 1)? {
             return Ok(value);
         }
-        match inner.flights.board(Print::of_hash(hash)) {
-            Boarding::First(leader) => {
-                let Ok(value) = inner.compute(hash, key, &leader, 1, || Ok::<V, Infallible>(make()));
-                Ok(value)
-            }
-            Boarding::Within => Ok(make()),
-            Boarding::Other(_) => Err(GetError::Computing),
-        }
+        inner.core.try_to_lead(Print::of_hash(hash), |leader| {
+            let Ok(value) = inner.compute(hash, key, leader, 1, || Ok::<V, Infallible>(make()));
+            value
+        })
     }
 }
 
@@ -113,12 +102,12 @@ impl<K: Eq, V: Clone, S> ObjectInner<Object<K, V>, S> {
         self.pin().look(hash, key, tries)?.value().found().cloned()
     }
 
-    /// Makes the value as the leader of a flight.
+    /// Makes the value as the leader of a flight, or for the caller alone.
     pub fn compute<Q, E>(
         &self,
         hash: u64,
         key: &Q,
-        leader: &Leader<()>,
+        leader: Option<&Leader<()>>,
         tries: u32,
         make: impl FnOnce() -> Result<V, E>,
     ) -> Result<V, E>
@@ -126,8 +115,9 @@ impl<K: Eq, V: Clone, S> ObjectInner<Object<K, V>, S> {
         K: Borrow<Q>,
         Q: Eq + ToOwned<Owned = K> + ?Sized,
     {
+        let Some(leader) = leader else { return make() };
         // After the begin of the flight: an invalidation has detached it, or ended this generation.
-        let generation = self.generation.now();
+        let generation = self.core.generation.now();
         // An earlier flight may have ended since this thread looked the key up.
         if let Some(value) = self.find(hash, key, tries.min(LOOKS)) {
             return Ok(value);
@@ -170,6 +160,6 @@ impl<K: Eq, V: Clone, S> ObjectInner<Object<K, V>, S> {
                 Err((back, _)) => object = back,
             }
         }
-        Published::Refused { value, why: self.refused(why) }
+        Published::Refused { value, why: self.core.refused(why) }
     }
 }

@@ -20,7 +20,7 @@ impl<O: Held, S> ObjectInner<O, S> {
         let mut hash = draw.wrapping_mul(STEP);
         for _ in 0..=HASHES_OF_A_SHARD * u64::from(self.shards) {
             if let Evict::Evicted { at, old } = self.evict_in_shard(hash, tries)? {
-                self.slots.count(Kind::Evicted);
+                self.core.slots.count(Kind::Evicted);
                 let left = self.leaving(old.value[0]);
                 let seen = see(left.object(), at);
                 left.tell(Reason::Evicted);
@@ -32,7 +32,7 @@ impl<O: Held, S> ObjectInner<O, S> {
     }
 
     fn evict_in_shard(&self, near: u64, tries: u32) -> Result<Evict<1>, RemoveError> {
-        let evicted = self.slots.in_turn(tries, || match self.slots.call(|handle| handle.try_evict(near)) {
+        let evicted = self.core.slots.in_turn(tries, || match self.core.slots.call(|handle| handle.try_evict(near)) {
             // Lookups used all objects meanwhile. The next try may be quicker than they are.
             Err(TurnError::Call(EvictError::AllRecent)) => Err(TurnError::Held),
             evicted => evicted,
@@ -53,7 +53,7 @@ impl<O: Held, S> ObjectInner<O, S> {
     /// leave, and `evict_to_bound` comes after the put. Returns whether objects were evicted.
     #[inline(never)]
     pub fn make_room(&self, hash: u64, tries: u32) -> Result<bool, RemoveError> {
-        match self.slots.call(|handle| handle.get_or_turn(hash)) {
+        match self.core.slots.call(|handle| handle.get_or_turn(hash)) {
             Reply::Found { .. } => Ok(false),
             Reply::Absent { .. } | Reply::Busy => self.evict_to_bound(hash, tries),
         }

@@ -3,38 +3,24 @@ use super::builder::{Freed, Listener, Reason};
 use super::epochs::Epochs;
 use super::object::{pointer, Held, Object};
 use super::weights::Weights;
-use crate::clock::{Clock, FAR, NEVER};
-use crate::flight::Flights;
-use crate::generation::Generation;
+use crate::clock::{FAR, NEVER};
+use crate::core::Core;
 use crate::print::Print;
-use crate::slots::Slots;
-use crate::stats::{Kind, Stats};
-use crate::wait::{LISTS, LOOKS};
+use crate::stats::Stats;
+use crate::wait::LISTS;
 use cefrodil::Handle;
 use std::cell::Cell;
 use std::hash::{BuildHasher, Hash};
 use std::marker::PhantomData;
 use std::mem;
 use std::panic::{catch_unwind, AssertUnwindSafe};
-use std::sync::{Arc, Mutex};
 use std::time::Duration;
 
 pub(crate) struct ObjectInner<O: Held, S> {
-    pub slots: Arc<Slots<Handle<1>>>,
+    /// A call that moves or keeps a deadline has its key's lock, and so do the removal of what has expired and the put of a loaded object.
+    pub core: Core<Handle<1>, ()>,
     pub epochs: Epochs,
-    pub flights: Flights<()>,
-    pub generation: Generation,
-    /// A call that moves or keeps a deadline locks its key's stripe, and so do the removal of what has expired and the put of a loaded object.
-    pub stripes: Box<[Stripe]>,
-    pub clock: Clock,
     pub hasher: S,
-    /// The time to live of what is put.
-    pub life: Option<Duration>,
-    /// How long an object lives that is not used.
-    pub idle: Option<Duration>,
-    pub capacity: usize,
-    /// How often a call tries.
-    pub tries: u32,
     pub listener: Option<Listener<O>>,
     pub freed: Option<Freed<O>>,
     pub weights: Option<Weights<O>>,
@@ -43,22 +29,12 @@ pub(crate) struct ObjectInner<O: Held, S> {
     pub objects: PhantomData<O>,
 }
 
-/// Some keys, by their hash. Each is in a cache line of its own.
-#[derive(Default)]
-#[repr(align(64))]
-pub(crate) struct Stripe(pub Mutex<()>);
-
 impl<O: Held, S> ObjectInner<O, S> {
-    /// How often a lookup tries that is a miss if it stays busy.
-    pub fn looks(&self) -> u32 {
-        self.tries.min(LOOKS)
-    }
-
     /// The deadline of a value that is put now.
     pub fn deadline(&self, life: Option<Duration>) -> u64 {
-        let deadline = life.or(self.life).map_or(NEVER, |life| self.clock.deadline(life));
+        let deadline = life.or(self.core.life).map_or(NEVER, |life| self.core.clock.deadline(life));
         // If uses are noted, no object has the deadline `NEVER`.
-        if self.idle.is_some() {
+        if self.core.idle.is_some() {
             deadline.min(FAR)
         } else {
             deadline
@@ -67,19 +43,19 @@ impl<O: Held, S> ObjectInner<O, S> {
 
     /// Whether the object has not expired, and its generation goes on.
     pub fn is_live(&self, object: &O) -> bool {
-        self.is_of_this_generation(object) && !self.clock.has_passed(object.deadline().min(object.idle()))
+        self.is_of_this_generation(object) && !self.core.clock.has_passed(object.deadline().min(object.idle()))
     }
 
     /// Whether no call has invalidated the object since its put took effect. That may be now: what a call has put just now has no generation so far.
     #[inline]
     pub fn is_of_this_generation(&self, object: &O) -> bool {
-        object.generation() >= self.generation.now() || self.enters(object)
+        object.generation() >= self.core.generation.now() || self.enters(object)
     }
 
     #[cold]
     fn enters(&self, object: &O) -> bool {
-        object.enter(self.generation.now());
-        object.generation() >= self.generation.now()
+        object.enter(self.core.generation.now());
+        object.generation() >= self.core.generation.now()
     }
 
     /// The same for a lookup that is a use of it.
@@ -94,22 +70,16 @@ impl<O: Held, S> ObjectInner<O, S> {
     #[cold]
     fn note_use(&self, object: &O) -> bool {
         let is_live = self.is_live(object);
-        let next = self.idle.filter(|_| is_live).and_then(|idle| self.clock.moved(object.idle(), idle));
+        let next = self.core.idle.filter(|_| is_live).and_then(|idle| self.core.clock.moved(object.idle(), idle));
         if let Some(next) = next {
             object.move_idle(next);
         }
         is_live
     }
 
-    /// Counts a write that failed.
-    pub fn refused<E>(&self, why: E) -> E {
-        self.slots.count(Kind::Refused);
-        why
-    }
-
     /// Detaches the flight of the keys with this hash. A key is compared, so it needs no check word.
     pub fn detach(&self, hash: u64) {
-        self.flights.detach(Print::of_hash(hash));
+        self.core.flights.detach(Print::of_hash(hash));
     }
 
     /// An object has left the index, by a call that returned its word.
@@ -123,7 +93,7 @@ impl<O: Held, S> ObjectInner<O, S> {
 
     /// What the calls of all threads came to, and what waits to be freed.
     pub fn stats(&self) -> Stats {
-        let mut stats = self.slots.stats();
+        let mut stats = self.core.slots.stats();
         self.epochs.each_waiting(|word| {
             // SAFETY: the word was in this map's index, so it is one of `into_word` of these types. It waits, so no owner is made of it.
             let object = unsafe { &*pointer::<O>(word) };
@@ -152,7 +122,7 @@ impl<O: Held, S> ObjectInner<O, S> {
 impl<K, V, S> ObjectInner<Object<K, V>, S> {
     /// An object that is to be put. `generation`: that of what it was made of, or `NONE`; then its put takes effect in that of now.
     pub fn object(&self, key: K, value: V, life: Option<Duration>, generation: u64) -> Box<Object<K, V>> {
-        let idle = self.idle.map_or(NEVER, |idle| self.clock.deadline(idle));
+        let idle = self.core.idle.map_or(NEVER, |idle| self.core.clock.deadline(idle));
         let mut object = Object::new(key, value, generation, self.deadline(life), idle);
         if let Some(weights) = &self.weights {
             let weight = weights.weigh(&object);
@@ -226,7 +196,7 @@ impl<O: Held, S> Left<'_, O, S> {
 
 impl<O: Held, S> Drop for Left<'_, O, S> {
     fn drop(&mut self) {
-        self.inner.free(self.inner.epochs.retire(self.inner.slots.index(), self.word));
+        self.inner.free(self.inner.epochs.retire(self.inner.core.slots.index(), self.word));
     }
 }
 
@@ -234,12 +204,11 @@ impl<O: Held, S> Drop for ObjectInner<O, S> {
     // No call runs any more. What is in the index is retired like what has left it, since nothing will look it up again.
     fn drop(&mut self) {
         // In a forked child another thread may hold a lock or a turn for ever.
-        if !self.slots.are_of_this_process() {
+        if !self.core.slots.are_of_this_process() {
             self.epochs.forget();
-            self.flights.forget();
             return;
         }
-        let listed = self.slots.in_turn(LISTS, || self.slots.call(Handle::try_entries));
+        let listed = self.core.list(LISTS, Handle::try_entries);
         for (_, [word]) in listed.into_iter().flatten() {
             self.free(self.epochs.retire(None, word));
         }

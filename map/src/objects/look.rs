@@ -116,7 +116,7 @@ where
     {
         let inner = &self.inner;
         let pinned = inner.pin();
-        let state = pinned.peek(inner.hash(key), key, inner.tries).ok_or(GetError::Busy)?;
+        let state = pinned.peek(inner.hash(key), key, inner.core.tries).ok_or(GetError::Busy)?;
         Ok(state.value().map(look).found())
     }
 
@@ -139,7 +139,7 @@ where
     where
         K: Borrow<Q>,
     {
-        self.inner.look(key, self.inner.looks(), |object| look(&object.value))
+        self.inner.look(key, self.inner.core.looks(), |object| look(&object.value))
     }
 
     /// Looks the keys up in order, and calls `look` with the index and the value of each that is found. Up to 32 keys are looked up before
@@ -183,7 +183,7 @@ impl<O: Held, S: BuildHasher> ObjectInner<O, S> {
     {
         let hash = self.hash(key);
         let pinned = self.pin();
-        let state = pinned.look(hash, key, self.looks());
+        let state = pinned.look(hash, key, self.core.looks());
         self.count(&state);
         match state {
             Some(State::Live(seen)) => Some(look(seen.object)),
@@ -211,9 +211,9 @@ impl<O: Held, S: BuildHasher> ObjectInner<O, S> {
             let mut hashes = [0; MANY];
             hashes.iter_mut().zip(keys).for_each(|(hash, key)| *hash = self.hash(*key));
             let mut replies = [Reply::Busy; MANY];
-            self.slots.call(|handle| handle.get_many(&hashes[..keys.len()], &mut replies[..keys.len()]));
+            self.core.slots.call(|handle| handle.get_many(&hashes[..keys.len()], &mut replies[..keys.len()]));
             for (index, ((key, hash), reply)) in keys.iter().zip(hashes).zip(replies).enumerate() {
-                let state = pinned.state_or_look(hash, *key, reply, self.looks());
+                let state = pinned.state_or_look(hash, *key, reply, self.core.looks());
                 self.count(&state);
                 look(chunk * MANY + index, state.map(State::object).ok_or(GetError::Busy));
             }
@@ -227,10 +227,10 @@ impl<O: Held, S: BuildHasher> ObjectInner<O, S> {
     {
         let hash = self.hash(key);
         let pinned = self.pin();
-        for _ in 0..self.tries {
-            let Some(State::Live(seen)) = pinned.look(hash, key, self.looks()) else { return false };
-            let touched = self.slots.in_turn(self.tries, || {
-                self.in_stripe(hash, |handle| match handle.get_or_turn(hash) {
+        for _ in 0..self.core.tries {
+            let Some(State::Live(seen)) = pinned.look(hash, key, self.core.looks()) else { return false };
+            let touched = self.core.slots.in_turn(self.core.tries, || {
+                self.core.in_lock(hash, |handle| match handle.get_or_turn(hash) {
                     Reply::Found { since, .. } if since == seen.since => {
                         seen.object.set_deadline(self.deadline(Some(life)));
                         Ok(true)
@@ -254,16 +254,11 @@ impl<O: Held, S> ObjectInner<O, S> {
     #[inline]
     pub fn count(&self, state: &Option<State<O>>) {
         match state {
-            Some(State::Live(_)) => self.slots.count(Kind::Hit),
-            None => self.slots.count(Kind::Busy),
-            Some(missed) => {
-                self.slots.count(Kind::Miss);
-                match missed {
-                    State::Expired(_) => self.slots.count(Kind::Expired),
-                    State::Other(_) => self.slots.count(Kind::Collided),
-                    _ => {}
-                }
-            }
+            Some(State::Live(_)) => self.core.slots.count(Kind::Hit),
+            None => self.core.slots.count(Kind::Busy),
+            Some(State::Expired(_)) => self.core.missed(Kind::Expired),
+            Some(State::Other(_)) => self.core.missed(Kind::Collided),
+            Some(State::Absent { .. }) => self.core.missed(Kind::Miss),
         }
     }
 }

@@ -57,13 +57,13 @@ impl<K, V, S> ObjectMap<K, V, S> {
     /// The most entries that the map holds: what was asked for, or more. Shards fill unevenly, so it may evict before it has so many.
     #[must_use]
     pub fn capacity(&self) -> usize {
-        self.inner.capacity
+        self.inner.core.capacity
     }
 
     /// How many entries the map has, expired ones included. While other threads write it is an estimate.
     #[must_use]
     pub fn len(&self) -> usize {
-        self.inner.slots.stats().entries()
+        self.inner.core.slots.stats().entries()
     }
 
     /// Whether [`len`](Self::len) is 0.

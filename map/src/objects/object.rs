@@ -68,7 +68,7 @@ pub(crate) fn pointer<O: Held>(word: u64) -> *const O {
 /// A key and a value of any type.
 pub(crate) struct Object<K, V> {
     pub key: K,
-    // A renewal moves it. Relaxed: it says nothing of other memory. What moves or keeps it has the lock of the key's stripe.
+    // A renewal moves it. Relaxed: it says nothing of other memory. What moves or keeps it has the key's lock.
     deadline: AtomicU64,
     // When it expires if it is not used. Relaxed: as above.
     idle: AtomicU64,

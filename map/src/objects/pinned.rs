@@ -71,7 +71,7 @@ impl<'a, K, V> State<'a, Object<K, V>> {
 impl<O: Held, S> ObjectInner<O, S> {
     #[inline]
     pub fn pin(&self) -> Pinned<'_, O, S> {
-        Pinned { inner: self, _guard: self.epochs.pin(self.slots.index()) }
+        Pinned { inner: self, _guard: self.epochs.pin(self.core.slots.index()) }
     }
 }
 
@@ -82,7 +82,7 @@ impl<O: Held, S> Pinned<'_, O, S> {
     where
         O: Keyed<Q>,
     {
-        self.state_or_look(hash, key, self.inner.slots.call(|handle| handle.get_or_turn(hash)), tries)
+        self.state_or_look(hash, key, self.inner.core.slots.call(|handle| handle.get_or_turn(hash)), tries)
     }
 
     /// Looks the key up under its hash in a turn, which is no use of it. `None`: no try won.
@@ -90,7 +90,7 @@ impl<O: Held, S> Pinned<'_, O, S> {
     where
         O: Keyed<Q>,
     {
-        let reply = self.inner.slots.within(tries, || self.inner.slots.call(|handle| handle.try_peek(hash)).ok())?;
+        let reply = self.inner.core.slots.within(tries, || self.inner.core.slots.call(|handle| handle.try_peek(hash)).ok())?;
         self.state(reply, key, |object| self.inner.is_live(object))
     }
 
@@ -128,7 +128,7 @@ impl<O: Held, S> Pinned<'_, O, S> {
     where
         O: Keyed<Q>,
     {
-        let reply = self.inner.slots.within(tries, || match self.inner.slots.call(|handle| handle.get_or_turn(hash)) {
+        let reply = self.inner.core.slots.within(tries, || match self.inner.core.slots.call(|handle| handle.get_or_turn(hash)) {
             Reply::Busy => None,
             reply => Some(reply),
         });

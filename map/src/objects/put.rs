@@ -11,7 +11,6 @@ use crate::generation::NONE;
 use crate::map::Inserted;
 use cefrodil::{Handle, PutIfAbsentError, PutIfError, Replaced, Swapped, TurnError};
 use std::hash::{BuildHasher, Hash};
-use std::sync::TryLockError;
 use std::time::Duration;
 
 /// What a put did.
@@ -97,7 +96,7 @@ where
                 let object = inner.object(key, value, life, generation);
                 inner.replace(hash, since, object).map_err(|(object, why)| inner.refuse(*object, why))
             }
-            Err(why) => Err(Refused { why: inner.refused(why), key, value }),
+            Err(why) => Err(Refused { why: inner.core.refused(why), key, value }),
         }
     }
 }
@@ -160,7 +159,7 @@ impl<O: Held, S> ObjectInner<O, S> {
     /// Puts the object, whatever there is. On failure it comes back: here and below.
     pub fn put(&self, hash: u64, object: O::Owner) -> Offered<O, InsertError> {
         self.detach(hash);
-        self.put_over(hash, object, Over::Any, self.tries).map_err(|(object, why)| match why {
+        self.put_over(hash, object, Over::Any, self.core.tries).map_err(|(object, why)| match why {
             Fail::Insert(why) => (object, why),
             _ => unreachable!("this put does not ask what is there"),
         })
@@ -174,8 +173,8 @@ impl<O: Held, S> ObjectInner<O, S> {
         see: impl FnOnce(&O, Option<&O>) -> R,
     ) -> Result<(Put, R), (O::Owner, InsertError)> {
         let mut seen = None;
-        let offered = self.offer(hash, object, self.tries, |word| {
-            let put = self.in_pinned_turn(self.tries, || self.slots.call(|handle| handle.try_swap(hash, &[word])));
+        let offered = self.offer(hash, object, self.core.tries, |word| {
+            let put = self.in_pinned_turn(self.core.tries, || self.core.slots.call(|handle| handle.try_swap(hash, &[word])));
             let (swapped, pinned) = put.map_err(|why| Fail::Insert(InsertError::of(why)))?;
             let done = self.swapped(swapped);
             seen = Some(see(pinned.object(word), done.replaced(&pinned)));
@@ -193,8 +192,8 @@ impl<O: Held, S> ObjectInner<O, S> {
     where
         O: Keyed<Q>,
     {
-        for _ in 0..self.tries {
-            let over = match self.pin().place(hash, key(&object), self.tries) {
+        for _ in 0..self.core.tries {
+            let over = match self.pin().place(hash, key(&object), self.core.tries) {
                 None => Err(AbsentError::Busy),
                 Some((Some(seen), _)) => Err(AbsentError::Present { since: seen.since }),
                 Some((None, over)) => Ok(over),
@@ -204,7 +203,7 @@ impl<O: Held, S> ObjectInner<O, S> {
                 Err(why) => return Err((object, why)),
             };
             self.detach(hash);
-            match self.put_over(hash, object, over, self.tries) {
+            match self.put_over(hash, object, over, self.core.tries) {
                 Ok(put) => return Ok(put),
                 Err((back, Fail::Insert(why))) => return Err((back, why.into())),
                 Err((back, _)) => object = back,
@@ -216,7 +215,7 @@ impl<O: Held, S> ObjectInner<O, S> {
     /// Puts the object if its key was put at this moment.
     pub fn replace(&self, hash: u64, since: u64, object: O::Owner) -> Offered<O, IfError> {
         self.detach(hash);
-        self.put_over(hash, object, Over::At(since), self.tries).map_err(|(object, why)| (object, why.of_moment()))
+        self.put_over(hash, object, Over::At(since), self.core.tries).map_err(|(object, why)| (object, why.of_moment()))
     }
 
     /// Puts the object over what is there now.
@@ -226,9 +225,9 @@ impl<O: Held, S> ObjectInner<O, S> {
 
     /// Like `put_over`, over an object that was seen, whose deadline the new one keeps. The lock keeps renewals from coming between.
     pub fn put_over_seen(&self, hash: u64, object: O::Owner, seen: Seen<O>) -> Offered<O> {
-        self.offer(hash, object, self.tries, |word| {
-            let replaced = self.try_to_put(word, self.tries, |object| {
-                self.in_stripe(hash, |handle| {
+        self.offer(hash, object, self.core.tries, |word| {
+            let replaced = self.try_to_put(word, self.core.tries, |object| {
+                self.core.in_lock(hash, |handle| {
                     object.set_deadline(seen.object.deadline());
                     handle.try_swap_if(hash, seen.since, &[word])
                 })
@@ -286,7 +285,7 @@ impl<O: Held, S> ObjectInner<O, S> {
         tries: u32,
         mut put: impl FnMut() -> Result<T, TurnError<E>>,
     ) -> Result<(T, Pinned<'_, O, S>), TurnError<E>> {
-        self.slots.in_turn(tries, || {
+        self.core.slots.in_turn(tries, || {
             let pinned = self.pin();
             put().map(|put| (put, pinned))
         })
@@ -299,11 +298,11 @@ impl<O: Held, S> ObjectInner<O, S> {
         tries: u32,
         mut put: impl FnMut(&O) -> Result<T, TurnError<E>>,
     ) -> Result<T, TurnError<E>> {
-        self.slots.in_turn(tries, || {
+        self.core.slots.in_turn(tries, || {
             let pinned = self.pin();
             let object = pinned.object(word);
             let put = put(object)?;
-            object.enter(self.generation.now());
+            object.enter(self.core.generation.now());
             Ok(put)
         })
     }
@@ -312,14 +311,14 @@ impl<O: Held, S> ObjectInner<O, S> {
     pub fn put_word(&self, hash: u64, word: u64, over: Over, tries: u32) -> Result<Done, Fail> {
         match over {
             Over::Any => {
-                let swapped = self.try_to_put(word, tries, |_| self.slots.call(|handle| handle.try_swap(hash, &[word])));
+                let swapped = self.try_to_put(word, tries, |_| self.core.slots.call(|handle| handle.try_swap(hash, &[word])));
                 Ok(self.swapped(swapped.map_err(|why| Fail::Insert(InsertError::of(why)))?))
             }
             Over::Absent => self.put_absent(hash, word, tries, None),
             Over::AbsentIn(generation) => self.put_absent(hash, word, tries, Some(generation)),
             Over::At(since) => {
                 let replaced =
-                    self.try_to_put(word, tries, |_| self.slots.call(|handle| handle.try_swap_if(hash, since, &[word])));
+                    self.try_to_put(word, tries, |_| self.core.slots.call(|handle| handle.try_swap_if(hash, since, &[word])));
                 Ok(self.replaced(replaced.map_err(Fail::of_condition)?))
             }
         }
@@ -329,9 +328,9 @@ impl<O: Held, S> ObjectInner<O, S> {
     fn put_absent(&self, hash: u64, word: u64, tries: u32, made_in: Option<u64>) -> Result<Done, Fail> {
         let swap = |handle: &mut Handle<1>| handle.try_swap_if_absent(hash, &[word]);
         let swapped = self.try_to_put(word, tries, |_| match made_in {
-            None => self.slots.call(swap),
-            Some(generation) => self.in_stripe(hash, |handle| {
-                if self.generation.now() == generation {
+            None => self.core.slots.call(swap),
+            Some(generation) => self.core.in_lock(hash, |handle| {
+                if self.core.generation.now() == generation {
                     swap(handle)
                 } else {
                     Err(TurnError::Call(PutIfAbsentError::Present { since: 0 }))
@@ -347,29 +346,14 @@ impl<O: Held, S> ObjectInner<O, S> {
     }
 
     fn replaced(&self, Replaced { at, old }: Replaced<1>) -> Done {
-        self.slots.count_put(Inserted::Renewed);
+        self.core.slots.count_put(Inserted::Renewed);
         let put = Put { did: Inserted::Renewed, at };
         Done { put, old: Some((old.value[0], Reason::Replaced)) }
     }
 
-    /// Makes a call while no other thread makes one for a key of the same stripe.
-    pub fn in_stripe<T, E>(
-        &self,
-        hash: u64,
-        call: impl FnOnce(&mut Handle<1>) -> Result<T, TurnError<E>>,
-    ) -> Result<T, TurnError<E>> {
-        let stripe = &self.stripes[hash as usize % self.stripes.len()];
-        let _locked = match stripe.0.try_lock() {
-            Ok(locked) => locked,
-            Err(TryLockError::Poisoned(locked)) => locked.into_inner(),
-            Err(TryLockError::WouldBlock) => return Err(TurnError::Held),
-        };
-        self.slots.call(call)
-    }
-
     fn swapped(&self, Swapped { put, old }: Swapped<1>) -> Done {
         let (at, did) = (put.at(), Inserted::of(put));
-        self.slots.count_put(did);
+        self.core.slots.count_put(did);
         let reason = if let Inserted::Evicted = did { Reason::Evicted } else { Reason::Replaced };
         Done { put: Put { did, at }, old: old.map(|old| (old.value[0], reason)) }
     }
@@ -379,6 +363,6 @@ impl<K, V, S> ObjectInner<Object<K, V>, S> {
     /// Counts a refusal, and gives the object's parts back.
     fn refuse<E>(&self, object: Object<K, V>, why: E) -> Refused<K, V, E> {
         let Object { key, value, .. } = object;
-        Refused { why: self.refused(why), key, value }
+        Refused { why: self.core.refused(why), key, value }
     }
 }

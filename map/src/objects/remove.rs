@@ -79,7 +79,7 @@ impl<O: Held, S> ObjectInner<O, S> {
     where
         O: Keyed<Q>,
     {
-        match self.pin().look(hash, key, self.tries) {
+        match self.pin().look(hash, key, self.core.tries) {
             Some(State::Live(seen) | State::Expired(seen)) if !self.is_of_this_generation(seen.object) => {
                 Err(IfError::NotThere { at: seen.at })
             }
@@ -92,14 +92,14 @@ impl<O: Held, S> ObjectInner<O, S> {
     }
 
     /// Takes out the object under this hash if it was put at the moment `since`, and retires it. Returns the moment of the removal. What has expired
-    /// detaches no flight, so it is taken out with the lock of its stripe.
+    /// detaches no flight, so it is taken out with its key's lock.
     pub fn take_if(&self, hash: u64, since: u64, reason: Reason) -> Result<u64, TurnError<PutIfError>> {
         let take = |handle: &mut Handle<1>| handle.try_take_if(hash, since);
-        let taken = self.slots.in_turn(self.tries, || match reason {
-            Reason::Expired => self.in_stripe(hash, take),
-            _ => self.slots.call(take),
+        let taken = self.core.slots.in_turn(self.core.tries, || match reason {
+            Reason::Expired => self.core.in_lock(hash, take),
+            _ => self.core.slots.call(take),
         })?;
-        self.slots.count(Kind::Removed);
+        self.core.slots.count(Kind::Removed);
         self.leaving(taken.old.value[0]).tell(reason);
         Ok(taken.at)
     }
@@ -109,8 +109,8 @@ impl<O: Held, S> ObjectInner<O, S> {
         self.take_if(hash, since, Reason::Removed).map_err(|why| match why {
             TurnError::Call(PutIfError::NotThere { at }) => IfError::NotThere { at },
             TurnError::Call(PutIfError::Changed { since }) => IfError::Changed { since },
-            TurnError::Call(_) => self.refused(IfError::Spent),
-            TurnError::Held => self.refused(IfError::Held),
+            TurnError::Call(_) => self.core.refused(IfError::Spent),
+            TurnError::Held => self.core.refused(IfError::Held),
         })
     }
 }
@@ -122,14 +122,14 @@ impl<O: Held, S: BuildHasher> ObjectInner<O, S> {
     {
         let hash = self.hash(key);
         self.detach(hash);
-        for _ in 0..self.tries {
+        for _ in 0..self.core.tries {
             let pinned = self.pin();
-            let (seen, live) = match pinned.look(hash, key, self.tries) {
+            let (seen, live) = match pinned.look(hash, key, self.core.tries) {
                 Some(State::Live(seen)) => (seen, true),
                 Some(State::Expired(seen)) => (seen, false),
                 Some(State::Other(seen)) => return Ok(Look::Absent { at: seen.at }),
                 Some(State::Absent { at }) => return Ok(Look::Absent { at }),
-                None => return Err(self.refused(RemoveError::Busy)),
+                None => return Err(self.core.refused(RemoveError::Busy)),
             };
             let since = seen.since;
             match self.take_if(hash, since, Reason::Removed) {
@@ -137,11 +137,11 @@ impl<O: Held, S: BuildHasher> ObjectInner<O, S> {
                 Ok(at) => return Ok(Look::Expired { at, since }),
                 Err(TurnError::Call(PutIfError::NotThere { at })) => return Ok(Look::Absent { at }),
                 Err(TurnError::Call(PutIfError::Changed { .. })) => {}
-                Err(TurnError::Call(_)) => return Err(self.refused(RemoveError::Spent)),
-                Err(TurnError::Held) => return Err(self.refused(RemoveError::Held)),
+                Err(TurnError::Call(_)) => return Err(self.core.refused(RemoveError::Spent)),
+                Err(TurnError::Held) => return Err(self.core.refused(RemoveError::Held)),
             }
         }
-        Err(self.refused(RemoveError::Contended))
+        Err(self.core.refused(RemoveError::Contended))
     }
 
     pub fn remove_if<Q: Hash + ?Sized>(&self, key: &Q, since: u64) -> Result<u64, IfError>
@@ -151,7 +151,7 @@ impl<O: Held, S: BuildHasher> ObjectInner<O, S> {
         let hash = self.hash(key);
         match self.generation_at(hash, key, since) {
             Ok(_) => self.remove_stamped(hash, since),
-            Err(IfError::Busy) => Err(self.refused(IfError::Busy)),
+            Err(IfError::Busy) => Err(self.core.refused(IfError::Busy)),
             Err(why) => Err(why),
         }
     }

@@ -25,8 +25,7 @@ impl<K, V, S> ObjectMap<K, V, S> {
     /// # Ok::<(), Box<dyn std::error::Error>>(())
     /// ```
     pub fn invalidate_all(&self) {
-        self.inner.generation.end();
-        self.inner.flights.detach_all();
+        self.inner.core.invalidate_all();
     }
 
     /// Removes all entries. Once this has returned, no later lookup finds a value that was put before this call, nor one that
@@ -38,7 +37,7 @@ impl<K, V, S> ObjectMap<K, V, S> {
     ///
     /// [`ClearError`]: entries may be left.
     pub fn clear(&self) -> Result<(), ClearError> {
-        self.clear_all().inspect_err(|_| self.inner.slots.count(Kind::Refused))
+        self.clear_all().map_err(|why| self.inner.core.refused(why))
     }
 
     /// Removes the entries that have expired or were invalidated, and returns how many. One whose lookup other threads disturb is left. It takes memory as
@@ -48,7 +47,7 @@ impl<K, V, S> ObjectMap<K, V, S> {
     ///
     /// [`ClearError`]: expired entries may be left.
     pub fn remove_expired(&self) -> Result<usize, ClearError> {
-        let removed = self.expire_all().inspect_err(|_| self.inner.slots.count(Kind::Refused));
+        let removed = self.expire_all().map_err(|why| self.inner.core.refused(why));
         // They waited for this call, which was pinned.
         self.inner.free(self.inner.epochs.free_now());
         removed
@@ -81,11 +80,11 @@ impl<K, V, S> ObjectMap<K, V, S> {
 
     fn clear_all(&self) -> Result<(), ClearError> {
         let inner = &self.inner;
-        inner.flights.detach_all();
+        inner.core.flights.detach_all();
         for (hash, _) in inner.list()? {
-            let taken = inner.slots.in_turn(inner.tries, || inner.slots.call(|handle| handle.try_take(hash)));
+            let taken = inner.core.slots.in_turn(inner.core.tries, || inner.core.slots.call(|handle| handle.try_take(hash)));
             if let Take::Taken { old, .. } = taken.map_err(ClearError::of_removal)? {
-                inner.slots.count(Kind::Removed);
+                inner.core.slots.count(Kind::Removed);
                 inner.leaving(old.value[0]).tell(Reason::Removed);
             }
         }
@@ -101,7 +100,7 @@ impl<K, V, S> ObjectMap<K, V, S> {
                 continue;
             }
             // The list has no moments, so the entry is looked up, and looked at again.
-            let Reply::Found { value: [word], since, .. } = inner.slots.call(|handle| handle.get(hash)) else { continue };
+            let Reply::Found { value: [word], since, .. } = inner.core.slots.call(|handle| handle.get(hash)) else { continue };
             if !pinned.has_expired(word) {
                 continue;
             }
@@ -119,6 +118,6 @@ impl<K, V, S> ObjectMap<K, V, S> {
 impl<O: Held, S> ObjectInner<O, S> {
     /// The hashes and words of all entries.
     pub fn list(&self) -> Result<Vec<(u64, [u64; 1])>, ClearError> {
-        self.slots.in_turn(LISTS, || self.slots.call(Handle::try_entries)).map_err(ClearError::of_list)
+        self.core.list(LISTS, Handle::try_entries)
     }
 }

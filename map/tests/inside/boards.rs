@@ -30,7 +30,7 @@ fn nor_is_an_object() {
 #[test]
 fn a_flight_forgets_who_waits_no_more() {
     let map = Numbers::new(100).unwrap();
-    let passengers = || map.inner.flights.passengers(map.inner.print(&KEY));
+    let passengers = || map.inner.core.flights.passengers(map.inner.print(&KEY));
     let lead = map.try_board(&KEY);
     let waits = [map.try_board(&KEY), map.try_board(&KEY)];
     assert!(matches!(&lead, Board::Lead(_)) && matches!(&waits, [Board::Wait(_), Board::Wait(_)]));

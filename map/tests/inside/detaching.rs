@@ -20,7 +20,7 @@ fn open() -> Numbers {
 
 // The leader of a flight of this key, as if its thread had missed the key.
 fn board(map: &Numbers, key: u64) -> Leader<'_, u64> {
-    let Boarding::First(leader) = map.inner.flights.board(map.inner.print(&key)) else { panic!("there is another flight") };
+    let Boarding::First(leader) = map.inner.core.flights.board(map.inner.print(&key)) else { panic!("there is another flight") };
     leader
 }
 
@@ -46,7 +46,7 @@ fn a_write_detaches_before_it_calls_the_index() {
             hold();
             write(&map);
         };
-        while_it_waits(&map.inner.slots, call, || assert!(is_detached(&leader), "{LATE}"));
+        while_it_waits(&map.inner.core.slots, call, || assert!(is_detached(&leader), "{LATE}"));
     }
 }
 
@@ -69,7 +69,7 @@ fn a_change_detaches_after_its_closure_and_before_it_puts() {
                 2
             });
         };
-        while_it_waits(&map.inner.slots, call, || assert!(is_detached(leader.get().unwrap()), "{LATE}"));
+        while_it_waits(&map.inner.core.slots, call, || assert!(is_detached(leader.get().unwrap()), "{LATE}"));
         assert_eq!(map.get(&KEY), Some(2));
     }
 }
@@ -100,12 +100,12 @@ fn nothing_detaches_a_flight_while_its_value_is_put() {
     let (inner, print) = (&map.inner, map.inner.print(&KEY));
     let compute = |hold: &dyn Fn()| {
         let leader = board(&map, KEY);
-        let made = inner.compute(print, &leader, 1, || {
+        let made = inner.compute(print, Some(&leader), 1, || {
             hold();
             Ok::<u64, ()>(2)
         });
         assert_eq!(made, Ok(2));
     };
-    while_it_waits(&inner.slots, compute, || assert!(inner.flights.is_locked(print), "a write can detach the flight"));
-    assert_eq!((map.get(&KEY), inner.flights.is_locked(print)), (Some(2), false));
+    while_it_waits(&inner.core.slots, compute, || assert!(inner.core.flights.is_locked(print), "a write can detach the flight"));
+    assert_eq!((map.get(&KEY), inner.core.flights.is_locked(print)), (Some(2), false));
 }

@@ -68,7 +68,7 @@ fn restless(tries: u32) -> Map<u64, u64> {
 #[test]
 fn a_write_that_does_not_get_the_turn_says_so() {
     let map = filled(20_000, 1);
-    let list = || drop(map.inner.slots.call(AnyHandle::keys));
+    let list = || drop(map.inner.core.slots.call(AnyHandle::keys));
     beside(list, |number| {
         let key = number % 100;
         let before = map.get(&key);
@@ -98,7 +98,7 @@ fn a_write_that_does_not_get_the_turn_says_so() {
 fn a_single_try_of_a_write_does_not_wait_for_the_turn() {
     const HELD: Result<u64, UpdateError> = Err(UpdateError::Insert(InsertError::Held));
     let map = filled(20_000, TRIES);
-    let list = || drop(map.inner.slots.call(AnyHandle::keys));
+    let list = || drop(map.inner.core.slots.call(AnyHandle::keys));
     beside(list, |number| {
         let (key, other) = (number % 100, 100 + number % 100);
         let inserted = map.try_insert(&key, number);
@@ -115,7 +115,7 @@ fn a_single_try_of_a_write_does_not_wait_for_the_turn() {
 #[test]
 fn each_refusal_is_counted() {
     let map = filled(20_000, 1);
-    let list = || drop(map.inner.slots.call(AnyHandle::keys));
+    let list = || drop(map.inner.core.slots.call(AnyHandle::keys));
     beside(list, |number| {
         let (number, before) = (number % 1_000, map.stats());
         let failed = [
@@ -133,7 +133,7 @@ fn each_refusal_is_counted() {
 #[test]
 fn a_value_made_without_waiting_is_put_by_one_try() {
     let map = filled(20_000, TRIES);
-    let list = || drop(map.inner.slots.call(AnyHandle::keys));
+    let list = || drop(map.inner.core.slots.call(AnyHandle::keys));
     beside(list, |number| {
         let (key, before) = (number + 1_000_000, map.stats().refused);
         assert_eq!(map.try_get_or_insert_with(&key, || 3), Ok(3));
@@ -155,8 +155,8 @@ fn a_value_is_made_without_waiting_after_one_lookup() {
         let found = map.try_get_or_insert_with(&1, || unreachable!("it is there"));
         assert!(matches!(found, Ok(10) | Err(GetError::Busy)), "{found:?}");
         assert_eq!(map.stats().busy, before + u64::from(found.is_err()));
-        let Boarding::First(leader) = inner.flights.board(print) else { panic!("there is no other flight") };
-        let made = inner.compute(print, &leader, 1, || Err("it was not found"));
+        let Boarding::First(leader) = inner.core.flights.board(print) else { panic!("there is no other flight") };
+        let made = inner.compute(print, Some(&leader), 1, || Err("it was not found"));
         [found.is_err(), made.is_err()]
     });
 }
@@ -173,7 +173,7 @@ fn a_single_lookup_does_not_wait() {
 #[test]
 fn a_clear_that_does_not_get_the_turn_says_so() {
     let map = filled(20_000, TRIES);
-    let list = || drop(map.inner.slots.call(AnyHandle::keys));
+    let list = || drop(map.inner.core.slots.call(AnyHandle::keys));
     beside(list, |_| {
         let cleared = map.try_clear();
         match cleared {
@@ -190,7 +190,7 @@ fn a_call_that_tries_more_often_is_not_refused() {
     for key in 0..10_000 {
         map.insert(&key, key).unwrap();
     }
-    let list = || drop(map.inner.slots.call(AnyHandle::keys));
+    let list = || drop(map.inner.core.slots.call(AnyHandle::keys));
     let (end, begin) = (AtomicBool::new(false), Instant::now());
     thread::scope(|threads| {
         threads.spawn(|| {
@@ -254,7 +254,7 @@ fn a_busy_key_of_many_is_looked_up_again() {
     };
     beside(write, |_| {
         let mut replies = [Reply::Busy; MANY];
-        map.inner.slots.call(|handle| handle.get_many(&[key; MANY], &mut replies));
+        map.inner.core.slots.call(|handle| handle.get_many(&[key; MANY], &mut replies));
         assert_eq!(map.get_many(&[1; 40]), [Some(10); 40]);
         [replies.contains(&Reply::Busy)]
     });

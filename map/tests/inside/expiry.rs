@@ -13,7 +13,7 @@ fn timed(life: Duration) -> Map<u64, u64> {
 }
 
 fn turn(map: &Map<u64, u64>, by: Duration) {
-    map.inner.clock.turn(by);
+    map.inner.core.clock.turn(by);
 }
 
 #[test]

@@ -14,7 +14,7 @@ const KEY: u64 = 1;
 
 // The leader of a flight of the key, as if its thread had missed the key.
 fn board(map: &Numbers) -> Leader<'_, u64> {
-    let Boarding::First(leader) = map.inner.flights.board(map.inner.print(&KEY)) else { panic!("there is another flight") };
+    let Boarding::First(leader) = map.inner.core.flights.board(map.inner.print(&KEY)) else { panic!("there is another flight") };
     leader
 }
 
@@ -22,13 +22,13 @@ fn board(map: &Numbers) -> Leader<'_, u64> {
 fn put(map: &Numbers, value: u64) {
     let print = map.inner.print_now(&KEY);
     let words = map.inner.words(print, value, NEVER);
-    map.inner.slots.call(|handle| handle.put(print.key, &words)).unwrap();
+    map.inner.core.slots.call(|handle| handle.put(print.key, &words)).unwrap();
 }
 
 // Removes the key, as a removal does that has detached the flight of the key before this one.
 fn remove(map: &Numbers) {
     let key = map.inner.print(&KEY).key;
-    map.inner.slots.call(|handle| handle.remove(key)).unwrap();
+    map.inner.core.slots.call(|handle| handle.remove(key)).unwrap();
     assert_eq!(map.get(&KEY), None);
 }
 
@@ -45,10 +45,10 @@ impl Call {
 // A call that begins now, once it has joined the key's flight or has ended. It makes 2.
 fn call(map: &Numbers) -> Call {
     let (calls, print, begin) = (map.clone(), map.inner.print(&KEY), Instant::now());
-    let before = map.inner.flights.passengers(print);
+    let before = map.inner.core.flights.passengers(print);
     let (send, receive) = channel();
     let thread = thread::spawn(move || send.send(calls.get_or_insert_with(&KEY, || 2)));
-    while map.inner.flights.passengers(print) == before && !thread.is_finished() {
+    while map.inner.core.flights.passengers(print) == before && !thread.is_finished() {
         assert!(begin.elapsed() < LONG, "the call neither waits nor ends");
         thread::yield_now();
     }
@@ -59,7 +59,7 @@ fn call(map: &Numbers) -> Call {
 fn a_value_that_came_meanwhile_stays_and_all_get_it() {
     let map = Numbers::new(100).unwrap();
     let (leader, waiting) = (board(&map), call(&map));
-    let made = map.inner.compute(map.inner.print(&KEY), &leader, 1, || {
+    let made = map.inner.compute(map.inner.print(&KEY), Some(&leader), 1, || {
         put(&map, 10);
         Ok::<u64, ()>(11)
     });
@@ -83,7 +83,7 @@ fn a_value_begun_before_an_update_puts_is_not_put() {
 fn a_value_that_came_before_the_flight_is_not_computed_again() {
     let map = Numbers::new(100).unwrap();
     map.insert(&KEY, 10).unwrap();
-    let value = map.inner.compute(map.inner.print(&KEY), &board(&map), 1, || Err("it is computed again"));
+    let value = map.inner.compute(map.inner.print(&KEY), Some(&board(&map)), 1, || Err("it is computed again"));
     assert_eq!((value, map.get(&KEY), map.len()), (Ok(10), Some(10), 1));
 }
 
@@ -92,7 +92,7 @@ fn nobody_gets_the_value_before_it_is_put() {
     let map = Numbers::new(100).unwrap();
     let (leader, print) = (board(&map), map.inner.print(&KEY));
     let flight = thread::scope(|threads| {
-        let joined = threads.spawn(|| match map.inner.flights.board(print) {
+        let joined = threads.spawn(|| match map.inner.core.flights.board(print) {
             Boarding::Other(flight) => flight,
             _ => panic!("there is a flight"),
         });
@@ -113,7 +113,7 @@ fn a_value_that_was_found_and_removed_is_not_for_those_that_wait() {
     let map = Numbers::new(100).unwrap();
     let (leader, earlier) = (board(&map), call(&map));
     put(&map, 1);
-    assert_eq!(map.inner.compute(map.inner.print(&KEY), &leader, 1, || Err("it is there")), Ok(1));
+    assert_eq!(map.inner.compute(map.inner.print(&KEY), Some(&leader), 1, || Err("it is there")), Ok(1));
     remove(&map);
     let later = call(&map);
     drop(leader);
@@ -124,7 +124,7 @@ fn a_value_that_was_found_and_removed_is_not_for_those_that_wait() {
 fn nor_is_one_that_came_meanwhile_and_was_removed() {
     let map = Numbers::new(100).unwrap();
     let (leader, earlier) = (board(&map), call(&map));
-    let made = map.inner.compute(map.inner.print(&KEY), &leader, 1, || {
+    let made = map.inner.compute(map.inner.print(&KEY), Some(&leader), 1, || {
         put(&map, 1);
         Ok::<u64, ()>(3)
     });
@@ -139,7 +139,7 @@ fn nor_is_one_that_came_meanwhile_and_was_removed() {
 fn one_that_was_computed_and_removed_is_not_for_later_calls() {
     let map = Numbers::new(100).unwrap();
     let (leader, earlier) = (board(&map), call(&map));
-    assert_eq!(map.inner.compute(map.inner.print(&KEY), &leader, 1, || Ok::<u64, ()>(1)), Ok(1));
+    assert_eq!(map.inner.compute(map.inner.print(&KEY), Some(&leader), 1, || Ok::<u64, ()>(1)), Ok(1));
     remove(&map);
     let later = call(&map);
     drop(leader);
@@ -161,7 +161,7 @@ fn each_failure_wakes_the_thread_that_waits() {
     for round in 0..3_000 {
         let (leader, since) = (board(&map), Instant::now());
         begin.send(round).unwrap();
-        while map.inner.flights.passengers(print) == 0 {
+        while map.inner.core.flights.passengers(print) == 0 {
             assert!(since.elapsed() < LONG, "no thread waits for the computation");
             thread::yield_now();
         }

@@ -48,7 +48,7 @@ impl Waiting {
         let (send, receive) = channel();
         let (inner, calls, begin) = (&map.inner, map.clone(), Instant::now());
         thread::spawn(move || send.send(calls.get_or_insert_with(&KEY, || made)));
-        while inner.flights.passengers(inner.print(&KEY)) == 0 {
+        while inner.core.flights.passengers(inner.print(&KEY)) == 0 {
             assert!(begin.elapsed() < LONG, "no thread waits for the computation");
             thread::yield_now();
         }
@@ -159,14 +159,14 @@ fn a_write_finds_each_flight_that_runs_though_others_have_ended() {
     let map = Numbers::new(100).unwrap();
     for rounds in 0..3 {
         let leads = [1, 2, 3].map(|key| lead(&map, key));
-        assert_eq!(map.inner.flights.running(), 3, "round {rounds}");
+        assert_eq!(map.inner.core.flights.running(), 3, "round {rounds}");
         let [first, second, third] = leads;
         assert_eq!(first.publish(10), 10);
         drop(second);
-        assert_eq!(map.inner.flights.running(), 1);
+        assert_eq!(map.inner.core.flights.running(), 1);
         map.remove(&3).unwrap();
         assert_eq!((third.publish(30), map.get(&3)), (30, None), "it was detached");
-        assert_eq!(map.inner.flights.running(), 0);
+        assert_eq!(map.inner.core.flights.running(), 0);
         assert_eq!(map.remove(&1), Ok(Some(10)));
     }
 }

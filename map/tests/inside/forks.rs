@@ -43,7 +43,7 @@ fn in_first_child(child: impl FnOnce() -> c_int) -> c_int {
 #[test]
 fn a_child_knows_that_its_handles_are_its_parents() {
     let open = || Map::<u64, u64>::new(100).unwrap();
-    let is_parents = |map: &Map<u64, u64>| c_int::from(!map.inner.slots.are_of_this_process());
+    let is_parents = |map: &Map<u64, u64>| c_int::from(!map.inner.core.slots.are_of_this_process());
     let map = open();
     assert_eq!((is_parents(&map), in_child(|| is_parents(&map)), in_child(|| is_parents(&open()))), (0, 1, 0));
     let of_same_number = in_child(|| {
@@ -60,6 +60,6 @@ fn a_child_knows_that_its_handles_are_its_parents() {
 fn the_end_of_a_child_waits_for_no_lock_of_its_parent() {
     let map = Map::<u64, u64>::new(100).unwrap();
     map.insert(&1, 1).unwrap();
-    let _locked = map.inner.slots.hold_free();
+    let _locked = map.inner.core.slots.hold_free();
     assert_eq!(in_child(|| 0), 0);
 }

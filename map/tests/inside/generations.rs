@@ -101,16 +101,16 @@ fn a_load_puts_nothing_that_is_found_in_a_later_generation() {
         let map = open();
         let Board::Lead(lead) = map.try_board(&1) else { panic!("nobody loads it") };
         let other = map.clone();
-        before_calls(before, 1, move || other.inner.generation.end());
+        before_calls(before, 1, move || other.inner.core.generation.end());
         assert_eq!(calls(|| lead.publish(7)).1, 7);
         assert_eq!(map.get(&1), None, "before call {before}");
     }
     let map = open();
     let Board::Lead(lead) = map.try_board(&1) else { panic!("nobody loads it") };
-    map.inner.generation.end();
+    map.inner.core.generation.end();
     assert_eq!((lead.publish(7), map.get(&1)), (7, None));
     let make = || {
-        map.inner.generation.end();
+        map.inner.core.generation.end();
         8
     };
     assert_eq!((map.get_or_insert_with(&2, make), map.get(&2)), (8, None));
@@ -142,7 +142,7 @@ fn a_load_of_an_object_says_that_it_is_outdated_though_the_key_is_absent_again()
         let object = other.inner.object(1, 10, None, NONE);
         assert!(other.inner.put_over(other.hash_of(&1), object, Over::Absent, 1).is_ok());
         assert_eq!(other.get(&1), Some(10));
-        other.inner.generation.end();
+        other.inner.core.generation.end();
         let _ = other.remove_expired();
     });
     assert_eq!(calls(|| lead.try_publish(7)).1, Published::Outdated(7));
@@ -156,16 +156,16 @@ fn a_load_of_an_object_puts_nothing_that_is_found_in_a_later_generation() {
         let map = ObjectMap::<u64, u64>::new(100).unwrap();
         let other = map.clone();
         let Board::Lead(lead) = map.try_board(&1) else { panic!("nobody loads it") };
-        before_calls(before, 1, move || other.inner.generation.end());
+        before_calls(before, 1, move || other.inner.core.generation.end());
         assert_eq!(calls(|| lead.publish(7)).1, 7);
         assert_eq!(map.get(&1), None, "before call {before}");
     }
     let map = ObjectMap::<u64, u64>::new(100).unwrap();
     let Board::Lead(lead) = map.try_board(&1) else { panic!("nobody loads it") };
-    map.inner.generation.end();
+    map.inner.core.generation.end();
     assert_eq!((lead.publish(7), map.get(&1)), (7, None));
     let make = || {
-        map.inner.generation.end();
+        map.inner.core.generation.end();
         8
     };
     assert_eq!((map.get_or_insert_with(&2, make), map.get(&2)), (8, None));

@@ -23,7 +23,7 @@ fn open() -> Map<u64, u64> {
 }
 
 fn hold(map: &Map<u64, u64>) -> Turn {
-    Turn::begin(&map.inner.slots, AnyHandle::keys)
+    Turn::begin(&map.inner.core.slots, AnyHandle::keys)
 }
 
 #[test]

@@ -23,7 +23,7 @@ fn open() -> Numbers {
 }
 
 fn turn(map: &Numbers, by: u64) {
-    map.inner.clock.turn(seconds(by));
+    map.inner.core.clock.turn(seconds(by));
 }
 
 #[test]
@@ -137,7 +137,7 @@ fn a_use_undoes_no_write_that_comes_before_it_is_noted() {
 fn a_lookup_does_not_wait_for_the_turn_and_the_next_one_is_noted() {
     let map = open();
     turn(&map, 100);
-    let held = Turn::begin(&map.inner.slots, AnyHandle::keys);
+    let held = Turn::begin(&map.inner.core.slots, AnyHandle::keys);
     assert_eq!((map.try_get(&1), map.try_get(&9)), (Ok(Some(10)), Ok(None)));
     drop(held);
     assert_eq!(map.get(&1), Some(10));

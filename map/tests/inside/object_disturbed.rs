@@ -69,7 +69,7 @@ fn a_computed_object_is_put_or_refused() {
     let shape = Shape { stripes: 1, tries: 1, ..one_shard(10_000) };
     let map = ObjectMap::<u64, u64>::builder(1).open_shaped(&shape, 1, 1).unwrap();
     // What this thread has counted.
-    let count = || Stats::sum(once(map.inner.slots.own().unwrap().1));
+    let count = || Stats::sum(once(map.inner.core.slots.own().unwrap().1));
     beside(
         || done(map.insert(0, 0)),
         |number| {
@@ -90,7 +90,7 @@ fn a_busy_key_of_many_is_looked_up_again() {
         || done(map.insert(2, 20)),
         |_| {
             let mut replies = [Reply::Busy; MANY];
-            map.inner.slots.call(|handle| handle.get_many(&[hash; MANY], &mut replies));
+            map.inner.core.slots.call(|handle| handle.get_many(&[hash; MANY], &mut replies));
             let (mut found, mut looked) = (0, 0);
             map.get_many_with(&[&1; 40], |_, value| found += *value);
             map.look_many(&[&1; 40], |_, look| looked += *look.unwrap().found().unwrap());
@@ -116,7 +116,7 @@ fn a_call_that_tries_more_often_finds_its_key() {
         assert!(map.update(1, |old| *old.unwrap()).is_ok());
         assert!(map.remove(&1) == Ok(Some(10)) && map.insert(1, 10).is_ok());
         // A single try is disturbed now and then.
-        [map.inner.slots.call(|handle| handle.get(hash)) == Reply::Busy]
+        [map.inner.core.slots.call(|handle| handle.get(hash)) == Reply::Busy]
     });
     assert_eq!((map.stats().busy, map.stats().misses, map.stats().refused), (0, 0, rounds.get()));
 }

@@ -20,7 +20,7 @@ fn print(map: &Numbers) -> Print {
 
 // The leader of a flight of the key, as if its thread had missed the key.
 fn board(map: &Numbers) -> Leader<'_, ()> {
-    let Boarding::First(leader) = map.inner.flights.board(print(map)) else { panic!("there is another flight") };
+    let Boarding::First(leader) = map.inner.core.flights.board(print(map)) else { panic!("there is another flight") };
     leader
 }
 
@@ -47,7 +47,7 @@ fn a_write_detaches_before_it_calls_the_index() {
             hold();
             write(&map, since);
         };
-        while_it_waits(&map.inner.slots, call, || assert!(is_detached(&leader), "{LATE}"));
+        while_it_waits(&map.inner.core.slots, call, || assert!(is_detached(&leader), "{LATE}"));
     }
 }
 
@@ -68,7 +68,7 @@ fn a_write_on_a_condition_detaches() {
 // Makes a call in this thread while another one seems to have the turn of the key's shard. `meanwhile` is called once the call waits.
 // The map lives on, since what a thread does in a pause may borrow nothing.
 fn beside_a_put<T>(map: &'static Numbers, call: impl FnOnce() -> T, meanwhile: impl FnOnce() + 'static) -> T {
-    let others = hold(&map.inner.slots);
+    let others = hold(&map.inner.core.slots);
     IN_PAUSE.set(Some(Box::new(move || {
         meanwhile();
         drop(others);
@@ -128,7 +128,7 @@ fn an_insert_of_an_absent_key_detaches_before_it_puts() {
 #[test]
 fn nothing_detaches_a_flight_while_its_value_is_put() {
     let map = open_for_ever();
-    let is_locked = || map.inner.flights.is_locked(print(map));
+    let is_locked = || map.inner.core.flights.is_locked(print(map));
     let made = beside_a_put(map, || map.get_or_insert_with(&KEY, || 2), move || assert!(is_locked(), "a write can detach it"));
     assert_eq!((made, map.get(&KEY), is_locked()), (2, Some(2), false));
 }
@@ -137,7 +137,7 @@ fn nothing_detaches_a_flight_while_its_value_is_put() {
 fn a_value_that_came_before_the_flight_is_not_computed_again() {
     let map = Numbers::new(100).unwrap();
     map.insert(KEY, 10).unwrap();
-    let value = map.inner.compute(map.hash_of(&KEY), &KEY, &board(&map), 1, || Err("it is computed again"));
+    let value = map.inner.compute(map.hash_of(&KEY), &KEY, Some(&board(&map)), 1, || Err("it is computed again"));
     assert_eq!(value, Ok(10));
 }
 
@@ -155,7 +155,7 @@ fn a_change_keeps_a_deadline_that_is_moved_while_it_waits() {
             seen.object.set_deadline(crate::clock::NEVER);
         };
         beside_a_put(map, || change(map), renew);
-        map.inner.clock.turn(Duration::from_secs(200));
+        map.inner.core.clock.turn(Duration::from_secs(200));
         assert_eq!(map.get(&KEY), Some(2));
     }
 }

@@ -13,7 +13,7 @@ const fn seconds(number: u64) -> Duration {
 }
 
 fn turn(map: &Numbers, by: u64) {
-    map.inner.clock.turn(seconds(by));
+    map.inner.core.clock.turn(seconds(by));
 }
 
 #[test]

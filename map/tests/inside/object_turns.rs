@@ -25,7 +25,7 @@ fn open() -> (Numbers, u64) {
 }
 
 fn hold(map: &Numbers) -> Turn {
-    Turn::begin(&map.inner.slots, |handle: &mut Handle<1>| handle.try_entries())
+    Turn::begin(&map.inner.core.slots, |handle: &mut Handle<1>| handle.try_entries())
 }
 
 #[test]
@@ -171,7 +171,7 @@ fn a_put_that_begins_anew_has_its_own_time() {
     let day = Some(Duration::from_secs(86_400));
     beside_puts(&map, Some(Duration::ZERO), 1, || map.put_if_absent(1, 12, day)).unwrap();
     assert_eq!(map.get(&1), Some(12));
-    map.inner.clock.turn(Duration::from_secs(86_401));
+    map.inner.core.clock.turn(Duration::from_secs(86_401));
     assert_eq!(map.get(&1), None);
 }
 
@@ -182,7 +182,7 @@ fn a_touch_renews_the_object_that_is_there() {
     let other = map.clone();
     before_calls(1, 1, move || assert!(other.replace_if(1, since, 20, Some(Duration::from_secs(100))).is_ok()));
     assert!(calls(|| map.touch(&1, Duration::from_secs(1_000))).1);
-    map.inner.clock.turn(Duration::from_secs(500));
+    map.inner.core.clock.turn(Duration::from_secs(500));
     assert_eq!(map.get(&1), Some(20));
     let touched = beside_a_removal_in_turn(&map);
     assert_eq!((touched, map.get(&1)), (false, None));

@@ -18,7 +18,7 @@ fn a_sum_that_stays_above_the_bound_is_mended_by_the_next_put() {
     let (takes, of) = (Arc::clone(&turn), Arc::clone(&map));
     let listener = move |_: &u64, _: &u64, reason| {
         if reason == crate::Reason::Replaced {
-            *takes.lock().unwrap() = Some(Turn::begin(&of.get().unwrap().inner.slots, Handle::try_entries));
+            *takes.lock().unwrap() = Some(Turn::begin(&of.get().unwrap().inner.core.slots, Handle::try_entries));
         }
     };
     let builder = ObjectMap::builder(1).max_weight(100, |_: &u64, value: &u64| *value).listener(listener);
@@ -37,7 +37,7 @@ fn a_new_key_that_gets_no_turn_to_make_room_is_refused() {
     let map =
         ObjectMap::builder(1).max_weight(100, |_: &u64, value: &u64| *value).open_shaped(&one_shard(100), 1, TRIES).unwrap();
     map.insert(1, 60).unwrap();
-    let turn = Turn::begin(&map.inner.slots, |handle: &mut Handle<1>| handle.try_entries());
+    let turn = Turn::begin(&map.inner.core.slots, |handle: &mut Handle<1>| handle.try_entries());
     let refused = map.insert(2, 50).unwrap_err();
     assert_eq!((refused.why, refused.key, refused.value), (InsertError::Held, 2, 50));
     assert_eq!((map.weight(), map.get(&1), map.stats().refused), (60, Some(60), 1));
@@ -61,7 +61,7 @@ unsafe impl Head for Empty {
 fn an_eviction_without_a_turn_says_so() {
     let map = BytesMap::<Empty>::builder(100).shards(1).open().unwrap();
     map.put(Block::new(Empty(0), b"", &[])).unwrap();
-    let turn = Turn::begin(&map.inner.slots, |handle: &mut Handle<1>| handle.try_entries());
+    let turn = Turn::begin(&map.inner.core.slots, |handle: &mut Handle<1>| handle.try_entries());
     assert_eq!(map.inner.evict(0, TRIES, |_, _| ()), Err(RemoveError::Held));
     assert_eq!((map.len(), map.stats().evicted), (1, 0));
     drop(turn);

@@ -27,7 +27,7 @@ fn timed(life: Duration) -> Names {
 }
 
 fn turn(map: &Names, by: Duration) {
-    map.inner.clock.turn(by);
+    map.inner.core.clock.turn(by);
 }
 
 #[test]
@@ -323,18 +323,11 @@ fn a_map_without_changes_left_says_so() {
     assert_eq!((map.remove_expired(), map.len(), map.stats().refused), (Err(ClearError::Spent), 1, 9));
 }
 
-// Locks the stripe of this key, as another thread's renewal does.
-fn in_stripe<T>(map: &Names, key: u64, call: impl FnOnce() -> T) -> T {
-    let stripes = &map.inner.stripes;
-    let _locked = stripes[map.hash_of(&key) as usize % stripes.len()].0.lock().unwrap();
-    call()
-}
-
 #[test]
 fn a_write_that_does_not_get_its_turn_says_so() {
     let map: Names = ObjectBuilder::new(100).open_shaped(&one_shard(100), 1, 5).unwrap();
     let held = InsertError::Held;
-    let others = hold(&map.inner.slots);
+    let others = hold(&map.inner.core.slots);
     let refused = map.insert(1, text("a")).unwrap_err();
     assert_eq!((refused.why, refused.key, refused.value), (held, 1, text("a")));
     let refused = map.insert_if_absent(1, text("a")).unwrap_err();
@@ -343,20 +336,20 @@ fn a_write_that_does_not_get_its_turn_says_so() {
     assert_eq!((map.get_or_insert_with(&1, || text("a")), map.get(&1), map.stats().refused), (text("a"), None, 4));
     drop(others);
     map.insert(1, text("b")).unwrap();
-    in_stripe(&map, 1, || {
-        assert_eq!(map.modify(&1, |_| text("c")), Err(UpdateError::Insert(held)));
-        assert!(!map.touch(&1, Duration::ZERO));
-        assert_eq!((map.get(&1), map.free_unused()), (Some(text("b")), 0));
-        // These need no lock.
-        assert_eq!(map.replace_if(1, 1, text("d"), None).unwrap().at, 2);
-        assert_eq!(map.remove(&1), Ok(Some(text("d"))));
-    });
+    // Another thread renews the key.
+    let _locked = map.inner.core.hold_lock(map.hash_of(&1));
+    assert_eq!(map.modify(&1, |_| text("c")), Err(UpdateError::Insert(held)));
+    assert!(!map.touch(&1, Duration::ZERO));
+    assert_eq!((map.get(&1), map.free_unused()), (Some(text("b")), 0));
+    // These need no lock.
+    assert_eq!(map.replace_if(1, 1, text("d"), None).unwrap().at, 2);
+    assert_eq!(map.remove(&1), Ok(Some(text("d"))));
 }
 
 #[test]
 fn a_computation_that_tries_once_does_not_wait_for_a_turn() {
     let map = timed(Duration::MAX);
-    let others = hold(&map.inner.slots);
+    let others = hold(&map.inner.core.slots);
     // So many tries as others make take over a second. One may take as long, too, if the thread gets no processor: so one of many is short.
     let is_short = |refused| {
         let begin = Instant::now();

@@ -20,7 +20,7 @@ fn handles_used(owners: usize) -> usize {
                 let _ = map.get(&1);
                 all_called.wait();
                 for _ in 0..200 {
-                    map.inner.slots.call(|handle| {
+                    map.inner.core.slots.call(|handle| {
                         let place = ptr::from_mut(handle) as usize;
                         assert!(in_use.lock().unwrap().insert(place), "two calls use a handle at once");
                         thread::yield_now();

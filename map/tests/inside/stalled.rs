@@ -17,7 +17,7 @@ fn open(tries: u32) -> Map<u64, u64> {
 }
 
 fn hold(map: &Map<u64, u64>) -> Turn {
-    Turn::begin(&map.inner.slots, AnyHandle::keys)
+    Turn::begin(&map.inner.core.slots, AnyHandle::keys)
 }
 
 #[test]

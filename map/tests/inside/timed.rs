@@ -76,7 +76,7 @@ impl Timed for Map<u64, u64> {
     }
 
     fn turn(&self, by: Duration) {
-        self.inner.clock.turn(by);
+        self.inner.core.clock.turn(by);
     }
 
     fn stats(&self) -> (Stats, usize, bool) {
@@ -145,7 +145,7 @@ impl Timed for ObjectMap<u64, u64> {
     }
 
     fn turn(&self, by: Duration) {
-        self.inner.clock.turn(by);
+        self.inner.core.clock.turn(by);
     }
 
     fn stats(&self) -> (Stats, usize, bool) {

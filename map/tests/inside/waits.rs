@@ -52,12 +52,12 @@ fn a_call_that_gets_no_turn_says_so() {
 #[test]
 fn the_calls_of_a_map_try_so_often() {
     let map = Map::<u64, u64>::new(10).unwrap();
-    assert_eq!((map.inner.tries, map.inner.looks()), (10_000, 1_000));
+    assert_eq!((map.inner.core.tries, map.inner.core.looks()), (10_000, 1_000));
     let once = Map::<u64, u64>::builder(1).open_shaped(&one_shard(10), 1, 1).unwrap();
-    assert_eq!((once.inner.tries, once.inner.looks()), (1, 1));
+    assert_eq!((once.inner.core.tries, once.inner.core.looks()), (1, 1));
     #[cfg(feature = "objects")]
     {
         let map = crate::ObjectMap::<u64, u64>::new(10).unwrap();
-        assert_eq!((map.inner.tries, map.inner.looks()), (10_000, 1_000));
+        assert_eq!((map.inner.core.tries, map.inner.core.looks()), (10_000, 1_000));
     }
 }

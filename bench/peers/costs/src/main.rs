@@ -1,6 +1,6 @@
 //! What a call of a map of the crate `cefrodil-map` costs, for valgrind's callgrind.
 //!
-//! usage: costs KIND CALLS MAP [full]     KIND: hit, miss, over or new; MAP: map or objects
+//! usage: costs KIND CALLS MAP [full]     KIND: hit, miss, over or new; MAP: values or objects
 use cefrodil_map::{Map, ObjectMap};
 use std::env::args;
 
@@ -72,7 +72,7 @@ fn main() -> Result<(), Box<dyn std::error::Error>> {
     let [kind, calls, map, full @ ..] = &words[..] else { return Err("usage: costs KIND CALLS MAP [full]".into()) };
     let (calls, is_full) = (calls.parse()?, !full.is_empty());
     match map.as_str() {
-        "map" => make(&Map::<u64, Value>::new(1_000)?, kind, calls, is_full),
+        "values" => make(&Map::<u64, Value>::new(1_000)?, kind, calls, is_full),
         _ => make(&ObjectMap::<u64, Value>::new(1_000)?, kind, calls, is_full),
     }
     Ok(())

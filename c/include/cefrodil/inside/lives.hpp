@@ -1,6 +1,6 @@
-// How long the entries of a map live, for cefrodil_object_map.hpp and cefrodil_timed_map.hpp.
-#ifndef CEFRODIL_LIVES_HPP
-#define CEFRODIL_LIVES_HPP
+// How long the entries of a map live, for cefrodil_object_map.hpp and cefrodil_map.hpp.
+#ifndef CEFRODIL_INSIDE_LIVES_HPP
+#define CEFRODIL_INSIDE_LIVES_HPP
 
 #include <algorithm>
 #include <atomic>

@@ -1,10 +1,10 @@
 // The objects of a map by their keys, for cefrodil_object_map.hpp.
-#ifndef CEFRODIL_KEYED_OBJECTS_HPP
-#define CEFRODIL_KEYED_OBJECTS_HPP
+#ifndef CEFRODIL_INSIDE_KEYED_OBJECTS_HPP
+#define CEFRODIL_INSIDE_KEYED_OBJECTS_HPP
 
-#include "cefrodil_flights.hpp"
-#include "cefrodil_hash.hpp"
-#include "cefrodil_objects.hpp"
+#include "flights.hpp"
+#include "hash.hpp"
+#include "objects.hpp"
 #include <algorithm>
 #include <array>
 #include <chrono>
@@ -27,10 +27,6 @@ template <class K, class V, class Hash, class Equal> struct KeyedObjects {
     using Life = std::optional<std::chrono::nanoseconds>;
 
     KeyedObjects(size_t slots, ObjectRules<K, V> &&rules, Hash &&its_hash) : identities(std::move(its_hash)), objects(slots, std::move(rules)) {}
-    Flights &flights_of(const Identity &key) noexcept { return flights[key.index % flights.size()]; }
-    void outdate_all() noexcept {
-        std::for_each(flights.begin(), flights.end(), [](Flights &some) { some.outdate_all(); });
-    }
     uint64_t generation() noexcept { return objects.generation().now(); }
     // An object of another key with the same number is none of this key's.
     static Seen own(Seen seen, Key key) {
@@ -91,7 +87,7 @@ template <class K, class V, class Hash, class Equal> struct KeyedObjects {
             return seen.status;
         }
         // A flight may have begun while the function ran.
-        flights_of(known).outdate(known);
+        flights.outdate(known);
         return object ? objects.replace(known.index, seen.since, object, change) : Status::no_memory;
     }
     template <class Function>
@@ -118,7 +114,7 @@ template <class K, class V, class Hash, class Equal> struct KeyedObjects {
     }
 
     Identities<Key, Hash> identities;
-    std::array<Flights, 16> flights{};
+    AllFlights flights{};
     Entries objects;
 };
 

@@ -1,7 +1,7 @@
-// What cefrodil_flights.hpp and cefrodil_passes.hpp share between threads is made of these types. The programs of models/ put others in their
+// What flights.hpp and passes.hpp share between threads is made of these types. The programs of models/ put others in their
 // place, to try one schedule after the other.
-#ifndef CEFRODIL_THREADS_HPP
-#define CEFRODIL_THREADS_HPP
+#ifndef CEFRODIL_INSIDE_THREADS_HPP
+#define CEFRODIL_INSIDE_THREADS_HPP
 
 #include <atomic>
 #include <condition_variable>

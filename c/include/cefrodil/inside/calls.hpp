@@ -1,9 +1,9 @@
 // The calls that a Handle and a Writing of cefrodil.hpp have in common: those of cefrodil.h, with values as arrays and answers as types. What they
 // come to is counted.
-#ifndef CEFRODIL_CALLS_HPP
-#define CEFRODIL_CALLS_HPP
+#ifndef CEFRODIL_INSIDE_CALLS_HPP
+#define CEFRODIL_INSIDE_CALLS_HPP
 
-#include "cefrodil_handle.hpp"
+#include "handle.hpp"
 #include <array>
 #include <cstddef>
 #include <cstdint>

@@ -1,8 +1,8 @@
 // What a forked child does with the maps of its parent, for cefrodil_map.hpp. The parent's other threads are not in the child. So locks may be held
 // there for ever, and a cache may have stopped in the middle of a change. The child finds each map closed, and never touches what is left of it. It
 // keeps that in a list, so that no leak checker reports it.
-#ifndef CEFRODIL_FORKS_HPP
-#define CEFRODIL_FORKS_HPP
+#ifndef CEFRODIL_INSIDE_FORKS_HPP
+#define CEFRODIL_INSIDE_FORKS_HPP
 
 #include <memory>
 #include <mutex>

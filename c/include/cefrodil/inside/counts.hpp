@@ -1,10 +1,10 @@
 // What the calls by the handles of cefrodil.hpp came to, and the lookups of maps: counted by handle and added up. If a program defines CEFRODIL_COUNTS
 // as 0, in all its files, nothing is counted.
-#ifndef CEFRODIL_COUNTS_HPP
-#define CEFRODIL_COUNTS_HPP
+#ifndef CEFRODIL_INSIDE_COUNTS_HPP
+#define CEFRODIL_INSIDE_COUNTS_HPP
 
-#include "cefrodil.h"
-#include "cefrodil_forks.hpp"
+#include "../../cefrodil.h"
+#include "forks.hpp"
 #include <array>
 #include <atomic>
 #include <chrono>

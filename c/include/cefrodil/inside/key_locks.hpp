@@ -1,6 +1,6 @@
-// Locks of keys, for cefrodil_turns.hpp. A lock is tried, and never waited for. No code of the user runs under one.
-#ifndef CEFRODIL_KEY_LOCKS_HPP
-#define CEFRODIL_KEY_LOCKS_HPP
+// Locks of keys, for turns.hpp. A lock is tried, and never waited for. No code of the user runs under one.
+#ifndef CEFRODIL_INSIDE_KEY_LOCKS_HPP
+#define CEFRODIL_INSIDE_KEY_LOCKS_HPP
 
 #include <array>
 #include <atomic>

@@ -1,11 +1,11 @@
 // The entries of a map, for cefrodil_map.hpp: its calls by the numbers of keys in the index.
-#ifndef CEFRODIL_TABLE_HPP
-#define CEFRODIL_TABLE_HPP
+#ifndef CEFRODIL_INSIDE_TABLE_HPP
+#define CEFRODIL_INSIDE_TABLE_HPP
 
-#include "cefrodil_generations.hpp"
-#include "cefrodil_packing.hpp"
-#include "cefrodil_times.hpp"
-#include "cefrodil_turns.hpp"
+#include "generations.hpp"
+#include "packing.hpp"
+#include "times.hpp"
+#include "turns.hpp"
 #include <algorithm>
 #include <array>
 #include <optional>

@@ -1,10 +1,10 @@
 // How an entry lies in the words of the index, for cefrodil_map.hpp: the check word of its key, the moments at which it ends, if it has any, and then
 // its value.
-#ifndef CEFRODIL_PACKING_HPP
-#define CEFRODIL_PACKING_HPP
+#ifndef CEFRODIL_INSIDE_PACKING_HPP
+#define CEFRODIL_INSIDE_PACKING_HPP
 
-#include "cefrodil_hash.hpp"
-#include "cefrodil_values.hpp"
+#include "hash.hpp"
+#include "values.hpp"
 #include <algorithm>
 #include <array>
 #include <cstddef>

@@ -1,6 +1,6 @@
 // Types of a program as values, for cefrodil.hpp.
-#ifndef CEFRODIL_VALUES_HPP
-#define CEFRODIL_VALUES_HPP
+#ifndef CEFRODIL_INSIDE_VALUES_HPP
+#define CEFRODIL_INSIDE_VALUES_HPP
 
 #include <array>
 #include <cstddef>

@@ -1,7 +1,7 @@
-// The sum of the weights of a map's objects, and its bound, for cefrodil_objects.hpp. The map adds a weight before it puts the object, and subtracts it
+// The sum of the weights of a map's objects, and its bound, for objects.hpp. The map adds a weight before it puts the object, and subtracts it
 // once the object has left.
-#ifndef CEFRODIL_WEIGHTS_HPP
-#define CEFRODIL_WEIGHTS_HPP
+#ifndef CEFRODIL_INSIDE_WEIGHTS_HPP
+#define CEFRODIL_INSIDE_WEIGHTS_HPP
 
 #include <atomic>
 #include <cstdint>

@@ -1,9 +1,9 @@
 // An object of a map of objects, and what such a map does beside keeping them, for cefrodil_object_map.hpp.
-#ifndef CEFRODIL_OBJECT_HPP
-#define CEFRODIL_OBJECT_HPP
+#ifndef CEFRODIL_INSIDE_OBJECT_HPP
+#define CEFRODIL_INSIDE_OBJECT_HPP
 
-#include "cefrodil_epochs.hpp"
-#include "cefrodil_lives.hpp"
+#include "epochs.hpp"
+#include "lives.hpp"
 #include <array>
 #include <atomic>
 #include <cstdint>

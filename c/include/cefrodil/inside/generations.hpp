@@ -1,10 +1,10 @@
 // The generation of a map's entries, for cefrodil_map.hpp and cefrodil_object_map.hpp. `invalidate_all` begins the next one. Each entry has the
 // generation in which the call began that put it. An entry of an older generation is absent. map/SAFETY.md says why that suffices.
-#ifndef CEFRODIL_GENERATIONS_HPP
-#define CEFRODIL_GENERATIONS_HPP
+#ifndef CEFRODIL_INSIDE_GENERATIONS_HPP
+#define CEFRODIL_INSIDE_GENERATIONS_HPP
 
-#include "cefrodil_hash.hpp"
-#include "cefrodil_threads.hpp"
+#include "hash.hpp"
+#include "threads.hpp"
 #include <cstdint>
 
 namespace cefrodil {

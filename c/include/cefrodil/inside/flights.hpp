@@ -1,11 +1,13 @@
 // Computations under way, for cefrodil_map.hpp: of several callers that miss a key, one computes its value, and the others wait for it. If the
 // key is changed meanwhile, the value may be older than the change, and is not put.
-#ifndef CEFRODIL_FLIGHTS_HPP
-#define CEFRODIL_FLIGHTS_HPP
+#ifndef CEFRODIL_INSIDE_FLIGHTS_HPP
+#define CEFRODIL_INSIDE_FLIGHTS_HPP
 
-#include "cefrodil_handle.hpp"
-#include "cefrodil_hash.hpp"
-#include "cefrodil_threads.hpp"
+#include "handle.hpp"
+#include "hash.hpp"
+#include "threads.hpp"
+#include <algorithm>
+#include <array>
 #include <cstddef>
 #include <mutex>
 
@@ -114,6 +116,20 @@ template <class Parts> class FlightOf {
 
 using Flights = FlightsOf<Threads>;
 using Flight = FlightOf<Threads>;
+
+// Those of all keys of a map.
+class AllFlights {
+  public:
+    Flights &of(const Identity &key) noexcept { return stripes_[key.index % stripes_.size()]; }
+    void outdate(const Identity &key) noexcept { of(key).outdate(key); }
+    void outdate_all() noexcept {
+        std::for_each(stripes_.begin(), stripes_.end(), [](Flights &some) { some.outdate_all(); });
+    }
+
+  private:
+    // map/SETTINGS has this number, and that of Rust's maps.
+    std::array<Flights, 64> stripes_{};
+};
 
 } // namespace inside
 

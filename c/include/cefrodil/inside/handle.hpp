@@ -1,9 +1,9 @@
 // Statuses, answers, and how handles are opened, moved and closed, for cefrodil.hpp.
-#ifndef CEFRODIL_HANDLE_HPP
-#define CEFRODIL_HANDLE_HPP
+#ifndef CEFRODIL_INSIDE_HANDLE_HPP
+#define CEFRODIL_INSIDE_HANDLE_HPP
 
-#include "cefrodil.h"
-#include "cefrodil_counts.hpp"
+#include "../../cefrodil.h"
+#include "counts.hpp"
 #include <array>
 #include <cstddef>
 #include <cstdint>

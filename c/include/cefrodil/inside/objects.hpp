@@ -1,11 +1,11 @@
 // The entries of a map of objects, for cefrodil_object_map.hpp: what the index has, and what has left it.
-#ifndef CEFRODIL_OBJECTS_HPP
-#define CEFRODIL_OBJECTS_HPP
+#ifndef CEFRODIL_INSIDE_OBJECTS_HPP
+#define CEFRODIL_INSIDE_OBJECTS_HPP
 
-#include "cefrodil_generations.hpp"
-#include "cefrodil_map.hpp"
-#include "cefrodil_object.hpp"
-#include "cefrodil_weights.hpp"
+#include "generations.hpp"
+#include "../../cefrodil_map.hpp"
+#include "object.hpp"
+#include "weights.hpp"
 #include <algorithm>
 #include <array>
 #include <atomic>
@@ -46,8 +46,7 @@ template <class K, class V> class Objects {
     }
 
     [[nodiscard]] Status open(const MapOptions &options, uint32_t mix) noexcept {
-        const uint32_t shards = options.shards == 0 && rules_.weigher ? fewest_shards(options.entries) : options.shards;
-        const Status status = turns_.open(options.entries, shards, options.passes, options.tries, mix);
+        const Status status = turns_.open(options.entries, options.shards, options.passes, options.tries, mix);
         is_open_ = status == Status::ok;
         waiting_weight_ = is_open_ && turns_.lines() ? &turns_.lines()->waiting_weight() : &uncounted_;
         return status;
@@ -194,15 +193,6 @@ template <class K, class V> class Objects {
     const Turns<1> &turns() const noexcept { return turns_; }
 
   private:
-    // The fewest that have room for so many entries: each shard chooses by itself which of its objects leaves, and a bound on weights is of all.
-    static uint32_t fewest_shards(uint32_t entries) noexcept {
-        cefrodil_shape shape{};
-        uint32_t shards = 1;
-        while (shards < most_shards && cefrodil_shape_for_items(entries, shards, &shape) != CEFRODIL_OK) {
-            shards *= 2;
-        }
-        return shards;
-    }
     // Calls with each key of a list of all, until a call fails. absent or changed: others were first.
     template <class Call> Status each_listed(Call call) noexcept {
         std::vector<uint64_t> list;
@@ -315,11 +305,14 @@ template <class K, class V> class Objects {
         std::array<uint64_t, 1> word;
         return turns_.get(turns_.own_slot(), index, turns_.looks(), word).status == Status::ok;
     }
-    // Evicts objects until the others are within the bound, if they are not: from the key's shard, or from others if that has none. It gives up if no
-    // shard seems to have any, or if other threads keep it from so many tries: then a later put goes on.
+    // Evicts objects until the others are within the bound, if they are not: each from a shard that is drawn from the key's number. Its own shard would
+    // not do: then some shards would keep much less than their share. It gives up if no shard seems to have any object, or if other threads keep it from
+    // so many tries: then a later put goes on.
     void shrink(uint64_t near, Change &change) noexcept {
         const uint32_t most_empty = looks_of_a_shard * turns_.shards();
         for (uint32_t empty = 0, held = 0; weights_.is_over() && empty < most_empty && held <= turns_.tries();) {
+            // The numbers of this row are in any shard.
+            near = near * 6364136223846793005 + 1442695040888963407;
             const Swapped<1> taken = turns_.call([&](Slot<1> &slot) { return evicted(slot, near); });
             if (taken.status == Status::ok) {
                 static_cast<void>(out(*taken.old, change));
@@ -327,8 +320,6 @@ template <class K, class V> class Objects {
                 continue;
             }
             taken.status == Status::absent ? void(empty++) : wait_before(held++);
-            // The numbers of this row are in any shard.
-            near = near * 6364136223846793005 + 1442695040888963407;
         }
     }
     static Swapped<1> evicted(Slot<1> &slot, uint64_t near) noexcept {

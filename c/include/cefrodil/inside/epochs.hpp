@@ -4,10 +4,10 @@
 // A call that is pinned since this epoch or an earlier one may have found the object. All others can't. Each look for objects that can be freed begins
 // the next epoch. Each thread that has a slot has a list of what it retired. map/SAFETY.md of Cefrodil's repository has the argument in full: the same
 // is done there in Rust.
-#ifndef CEFRODIL_EPOCHS_HPP
-#define CEFRODIL_EPOCHS_HPP
+#ifndef CEFRODIL_INSIDE_EPOCHS_HPP
+#define CEFRODIL_INSIDE_EPOCHS_HPP
 
-#include "cefrodil_threads.hpp"
+#include "threads.hpp"
 #include <algorithm>
 #include <atomic>
 #include <cstddef>

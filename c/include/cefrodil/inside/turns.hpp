@@ -1,9 +1,9 @@
-// Calls by the passes of cefrodil_passes.hpp, for cefrodil_map.hpp. A call that other threads keep from its turn is repeated.
-#ifndef CEFRODIL_TURNS_HPP
-#define CEFRODIL_TURNS_HPP
+// Calls by the passes of passes.hpp, for cefrodil_map.hpp. A call that other threads keep from its turn is repeated.
+#ifndef CEFRODIL_INSIDE_TURNS_HPP
+#define CEFRODIL_INSIDE_TURNS_HPP
 
-#include "cefrodil_key_locks.hpp"
-#include "cefrodil_passes.hpp"
+#include "key_locks.hpp"
+#include "passes.hpp"
 #include <algorithm>
 #include <array>
 #include <chrono>

@@ -1,11 +1,11 @@
 // Handles of the index that threads take by themselves (passes), for cefrodil_map.hpp. A thread takes one at its first call, and gives it back at its
-// end. A thread that finds none shares one with others, behind a lock. cefrodil_turns.hpp repeats calls by them.
-#ifndef CEFRODIL_PASSES_HPP
-#define CEFRODIL_PASSES_HPP
+// end. A thread that finds none shares one with others, behind a lock. turns.hpp repeats calls by them.
+#ifndef CEFRODIL_INSIDE_PASSES_HPP
+#define CEFRODIL_INSIDE_PASSES_HPP
 
-#include "cefrodil.hpp"
-#include "cefrodil_forks.hpp"
-#include "cefrodil_threads.hpp"
+#include "../../cefrodil.hpp"
+#include "forks.hpp"
+#include "threads.hpp"
 #include <algorithm>
 #include <array>
 #include <atomic>

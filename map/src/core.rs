@@ -1,0 +1,131 @@
+//! What a map of values and a map of objects have in common: access to the index, flights, the generation, deadlines and locks of keys.
+use crate::clock::Clock;
+use crate::error::{ClearError, GetError};
+use crate::flight::{Boarding, Flights, Leader};
+use crate::generation::Generation;
+use crate::key_locks::KeyLocks;
+use crate::print::Print;
+use crate::slots::Slots;
+use crate::stats::Kind;
+use crate::wait::LOOKS;
+use cefrodil::{ListError, TurnError};
+use std::sync::Arc;
+use std::time::Duration;
+
+/// By handles `H` of the index. A flight hands on a `V`.
+pub(crate) struct Core<H, V> {
+    pub slots: Arc<Slots<H>>,
+    pub flights: Flights<V>,
+    pub generation: Generation,
+    pub clock: Clock,
+    locks: KeyLocks,
+    /// The time to live of what is put.
+    pub life: Option<Duration>,
+    /// How long an entry lives that is not used.
+    pub idle: Option<Duration>,
+    pub capacity: usize,
+    /// How often a call tries.
+    pub tries: u32,
+}
+
+impl<H: 'static, V: Copy> Core<H, V> {
+    pub fn new(handles: Vec<H>, capacity: usize, life: Option<Duration>, idle: Option<Duration>, tries: u32) -> Core<H, V> {
+        Core {
+            slots: Arc::new(Slots::new(handles)),
+            flights: Flights::new(),
+            generation: Generation::new(),
+            clock: Clock::new(),
+            locks: KeyLocks::new(),
+            life,
+            idle,
+            capacity,
+            tries,
+        }
+    }
+
+    /// The value that was found, or what `lead` returns: it leads a flight, or none if this thread leads one of the key already. When another flight has
+    /// ended, `find` looks the key up, with what that has handed on.
+    pub fn find_or_lead<T, E>(
+        &self,
+        print: Print,
+        mut found: Option<T>,
+        find: impl Fn(Option<V>) -> Option<T>,
+        lead: impl FnOnce(Option<&Leader<V>>) -> Result<T, E>,
+    ) -> Result<T, E> {
+        loop {
+            if let Some(value) = found {
+                return Ok(value);
+            }
+            match self.flights.board(print) {
+                Boarding::First(leader) => return lead(Some(&leader)),
+                Boarding::Within => return lead(None),
+                Boarding::Other(flight) => found = find(flight.wait()),
+            }
+        }
+    }
+
+    /// The same for a value that was not found, but it waits for no flight.
+    pub fn try_to_lead<T>(&self, print: Print, lead: impl FnOnce(Option<&Leader<V>>) -> T) -> Result<T, GetError> {
+        match self.flights.board(print) {
+            Boarding::First(leader) => Ok(lead(Some(&leader))),
+            Boarding::Within => Ok(lead(None)),
+            Boarding::Other(_) => Err(GetError::Computing),
+        }
+    }
+
+    /// Ends all entries, and detaches what is being computed.
+    pub fn invalidate_all(&self) {
+        self.generation.end();
+        self.flights.detach_all();
+    }
+}
+
+impl<H: 'static, V> Core<H, V> {
+    /// How often a lookup tries that is a miss if it stays busy.
+    #[inline]
+    pub fn looks(&self) -> u32 {
+        self.tries.min(LOOKS)
+    }
+
+    /// Counts a write that failed.
+    pub fn refused<E>(&self, why: E) -> E {
+        self.slots.count(Kind::Refused);
+        why
+    }
+
+    /// Counts a lookup that found nothing, of this kind.
+    pub fn missed(&self, kind: Kind) {
+        self.slots.count(Kind::Miss);
+        if !matches!(kind, Kind::Miss) {
+            self.slots.count(kind);
+        }
+    }
+
+    /// Makes a call while no other thread makes one for the same key so.
+    #[inline]
+    pub fn in_lock<T, E>(&self, hash: u64, call: impl FnOnce(&mut H) -> Result<T, TurnError<E>>) -> Result<T, TurnError<E>> {
+        self.slots.call(|handle| {
+            let _locked = self.locks.lock(hash).ok_or(TurnError::Held)?;
+            call(handle)
+        })
+    }
+
+    /// Makes a list of the entries by this call of the index.
+    pub fn list<T>(&self, lists: u32, list: impl Fn(&mut H) -> Result<T, TurnError<ListError>>) -> Result<T, ClearError> {
+        self.slots.in_turn(lists, || self.slots.call(&list)).map_err(ClearError::of_list)
+    }
+
+    #[cfg(test)]
+    pub fn hold_lock(&self, hash: u64) -> crate::key_locks::Guard<'_> {
+        self.locks.lock(hash).unwrap()
+    }
+}
+
+impl<H, V> Drop for Core<H, V> {
+    fn drop(&mut self) {
+        // In a forked child another thread may hold a lock for ever.
+        if !self.slots.are_of_this_process() {
+            self.flights.forget();
+        }
+    }
+}
