@@ -2,6 +2,7 @@
 use crate::counts::Count;
 use crate::store::Store;
 use crate::walk::{self, Position};
+use std::sync::PoisonError;
 use std::time::Duration;
 
 /// How often each worker looks at some items, and at how many.
@@ -68,9 +69,10 @@ impl Store {
         }
     }
 
-    /// When the oldest item was made, as the last round over all items found.
+    /// When the oldest item was made that this round over all items or the last one has found.
     pub(crate) fn oldest(&self) -> Option<u64> {
-        self.round.try_lock().ok()?.oldest_before
+        let round = self.round.lock().unwrap_or_else(PoisonError::into_inner);
+        round.oldest.into_iter().chain(round.oldest_before).min()
     }
 
     /// What a worker does each second, beside answering clients.

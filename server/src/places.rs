@@ -27,12 +27,12 @@ pub fn take(item: &Item) -> Option<u32> {
         places.all[place as usize] = address;
         return Some(place);
     }
-    let more = places.all.len().max(1);
+    let (place, more) = (u32::try_from(places.all.len()).ok()?, places.all.len().max(1));
     if places.all.len() == places.all.capacity() {
         may_fail(|| places.all.try_reserve_exact(more).and_then(|()| places.free.try_reserve_exact(2 * more))).ok()?;
     }
     places.all.push(address);
-    u32::try_from(places.all.len() - 1).ok()
+    Some(place)
 }
 
 /// Frees a place.
