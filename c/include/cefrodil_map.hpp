@@ -104,10 +104,10 @@ template <class K, class V, class Hash = SipHash<K>, class Times = inside::Timel
     // archive is another version's. processor: it is older than x86-64-v2. bad_shards, bad_handles: `shards` or `passes` is out of range. bad_items:
     // no entries, as by open({0}), or too many: a shard holds up to 3,774,873.
     [[nodiscard]] Status open(const MapOptions &options, Hash hash = Hash()) noexcept {
-        return open_with(options, std::move(hash), [] { return Times(); });
+        return open_with(options, std::move(hash));
     }
     [[nodiscard]] Status open(const MapOptions &options, const Lives &lives, Hash hash = Hash()) noexcept {
-        return open_with(options, std::move(hash), [&] { return Times(lives); });
+        return open_with(options, std::move(hash), lives);
     }
     bool is_open() const noexcept { return bool(inner_); }
     // Closes the map and frees its memory.
@@ -129,7 +129,7 @@ template <class K, class V, class Hash = SipHash<K>, class Times = inside::Timel
     // The key's value, which doesn't count as used: it is evicted as if nobody had looked. It takes the turn at the key's shard, as a write does. ok,
     // absent, held or closed.
     [[nodiscard]] Found<V> peek(Key key) const noexcept(never_throws) {
-        return inner_ ? inner_->table.peek(inner_->identities.of(key)) : Found<V>{Status::closed, std::nullopt};
+        return inner_ ? inner_->entries.peek(inner_->identities.of(key)) : Found<V>{Status::closed, std::nullopt};
     }
     // Writes to `values` what `find` returns for each of `count` keys, with fewer calls of the index. `Each` is what a call takes as a key: of a map
     // of strings, std::string or std::string_view. Returns how many keys were found.
@@ -139,7 +139,7 @@ template <class K, class V, class Hash = SipHash<K>, class Times = inside::Timel
         for (size_t begin = 0; inner_ && begin < count; begin += known.size()) {
             const size_t few = std::min(count - begin, known.size());
             std::transform(keys + begin, keys + begin + few, known.begin(), [&](const Each &key) { return inner_->identities.of(key); });
-            inner_->table.find_few(known.data(), few, values + begin);
+            inner_->entries.find_few(known.data(), few, values + begin);
         }
         return static_cast<size_t>(std::count_if(values, values + count, [](const std::optional<V> &value) { return value.has_value(); }));
     }
@@ -159,7 +159,7 @@ template <class K, class V, class Hash = SipHash<K>, class Times = inside::Timel
     // map_logout.cpp. spent: open a new map. If a store is behind the map, change the store first: then no older value is put afterwards by
     // find_or_compute.
     [[nodiscard]] Status erase(Key key) noexcept(never_throws) {
-        return change(key, Status::closed, [&](const auto &known) { return inner_->table.erase(known); });
+        return change(key, Status::closed, [&](const auto &known) { return inner_->entries.erase(known); });
     }
     // Replaces the value of a key that is there by what the function makes of it, `V function(const V &)`, and returns that. No other change is
     // lost: if another thread is first, the function is called again, with the newer value. Unless ok, nothing was put. absent: the key is not there,
@@ -188,7 +188,7 @@ template <class K, class V, class Hash = SipHash<K>, class Times = inside::Timel
     // Removes what has expired, and what was put before invalidate_all. It is listed as by `clear`. Unless ok, some of it may still be there.
     [[nodiscard]] Status erase_expired() noexcept {
         static_assert(Times::moments != 0, "a timed_map has this call");
-        return inner_ ? inner_->table.erase_expired() : Status::closed;
+        return inner_ ? inner_->entries.erase_expired() : Status::closed;
     }
 
     // The key's value, or what the function computes, `V function()`, which is then put. Of several callers that miss the key one computes, and
@@ -201,18 +201,18 @@ template <class K, class V, class Hash = SipHash<K>, class Times = inside::Timel
         const inside::Identity known = inner_->identities.of(key);
         std::optional<V> found;
         // The lookup that counts.
-        for (Status status = inner_->table.find(known, found); status != Status::ok; status = inner_->table.seek(known, found)) {
+        for (Status status = inner_->entries.find(known, found); status != Status::ok; status = inner_->entries.seek(known, found)) {
             inside::Flight flight(inner_->flights.of(known), known);
             if (!flight.has_begun()) {
                 continue;
             }
-            const uint64_t generation = inner_->table.generation().now();
+            const uint64_t generation = inner_->entries.generation().now();
             // Another flight may have ended between the lookup and the begin of this one.
-            if (inner_->table.seek(known, found) == Status::ok) {
+            if (inner_->entries.seek(known, found) == Status::ok) {
                 break;
             }
             const V value = function();
-            return {flight.land([&] { return inner_->table.put_if_absent_in(generation, known, value).status; }), value, true};
+            return {flight.land([&] { return inner_->entries.put_if_absent_in(generation, known, value).status; }), value, true};
         }
         return {Status::ok, *found, false};
     }
@@ -224,7 +224,7 @@ template <class K, class V, class Hash = SipHash<K>, class Times = inside::Timel
             return Status::closed;
         }
         inner_->flights.outdate_all();
-        return inner_->table.clear();
+        return inner_->entries.clear();
     }
     // Once it has returned, no key is found that was put before it began, nor a value that find_or_compute was computing then. A key is found whose put
     // began afterwards. A put that runs meanwhile comes before or after it. It is one step, however many keys there are: their entries take room until
@@ -233,45 +233,34 @@ template <class K, class V, class Hash = SipHash<K>, class Times = inside::Timel
         if (!inner_) {
             return Status::closed;
         }
-        inner_->table.generation().begin_next();
+        inner_->entries.generation().begin_next();
         inner_->flights.outdate_all();
         return Status::ok;
     }
 
     // How many keys there are. Calls that run meanwhile count or not.
-    uint64_t size() const noexcept { return inner_ ? inner_->table.turns().keys() : 0; }
+    uint64_t size() const noexcept { return inner_ ? inner_->entries.turns().keys() : 0; }
     // How many keys all shards hold together. Each evicts for itself, so the first eviction comes before the map is full.
-    uint64_t capacity() const noexcept { return inner_ ? inner_->table.turns().capacity() : 0; }
+    uint64_t capacity() const noexcept { return inner_ ? inner_->entries.turns().capacity() : 0; }
     // How many calls of the index threads without a pass of their own made. They wait for each other. If there are many, open the map with more passes.
-    uint64_t shared_calls() const noexcept { return inner_ ? inner_->table.turns().shared_calls() : 0; }
+    uint64_t shared_calls() const noexcept { return inner_ ? inner_->entries.turns().shared_calls() : 0; }
     // What the lookups of this map came to, each counted once: the calls of find, get, contains and find_or_compute, and the keys of find_many. So
     // `meter().counts().hit_rate()` is exact while no call runs. What has expired is a miss, and so is another key's entry. A call of find_or_compute
     // that waits for another one's value is a miss, too. The other counts are of calls of the index: of those, a call of the map may make several.
-    Meter meter() const noexcept { return inner_ ? inner_->table.turns().meter() : Meter(nullptr); }
+    Meter meter() const noexcept { return inner_ ? inner_->entries.turns().meter() : Meter(nullptr); }
 
   private:
     // A time to live that a call says, in a timed_map.
     using Life = typename Times::Life;
 
-    template <class Make> Status open_with(const MapOptions &options, Hash hash, Make make_times) noexcept {
-        if (inner_) {
-            return Status::in_use;
-        }
-        std::unique_ptr<Inner> opened;
-        if (!inside::has_memory([&] { opened = std::make_unique<Inner>(std::move(hash), make_times()); })) {
-            return Status::no_memory;
-        }
-        if (!opened->identities.draw()) {
-            return Status::no_random;
-        }
-        const Status status = opened->table.open(options.entries, options.shards, options.passes, options.tries, mix);
-        return status == Status::ok && !inner_.own(std::move(opened)) ? Status::no_memory : status;
+    template <class... Lived> Status open_with(const MapOptions &options, Hash hash, const Lived &...lives) noexcept {
+        return inside::open_map(inner_, options, inside::mix_for<K, Hash>, [&] { return std::make_unique<Inner>(std::move(hash), Times(lives...)); });
     }
     Stored put_if_absent(Key key, const V &value, const Life &life) noexcept(never_throws) {
-        return change(key, Stored{Status::closed, false, false}, [&](const auto &known) { return inner_->table.put_if_absent(known, value, life); });
+        return change(key, Stored{Status::closed, false, false}, [&](const auto &known) { return inner_->entries.put_if_absent(known, value, life); });
     }
     Stored put(Key key, const V &value, const Life &life) noexcept(never_throws) {
-        return change(key, Stored{Status::closed, false, false}, [&](const auto &known) { return inner_->table.put(known, value, life); });
+        return change(key, Stored{Status::closed, false, false}, [&](const auto &known) { return inner_->entries.put(known, value, life); });
     }
     // A flight may begin while the user's function runs: after another thread has removed the key. It may not see what the function does. So after
     // the function it is outdated, too.
@@ -282,20 +271,20 @@ template <class K, class V, class Hash = SipHash<K>, class Times = inside::Timel
                 inner_->flights.outdate(known);
                 return value;
             };
-            return inner_->table.update(known, first, outdating, life);
+            return inner_->entries.update(known, first, outdating, life);
         });
     }
 
     struct Inner {
-        Inner(Hash &&hash, const Times &times) : identities(std::move(hash)), table(times) {}
+        Inner(Hash &&hash, const Times &times) : identities(std::move(hash)), entries(times) {}
 
         inside::Identities<Key, Hash> identities;
-        inside::Table<V, Times> table;
+        inside::Table<V, Times> entries;
         inside::AllFlights flights{};
     };
 
     Status set(std::optional<V> &value, Key key) const noexcept(never_throws) {
-        return inner_ ? inner_->table.find(inner_->identities.of(key), value) : Status::closed;
+        return inner_ ? inner_->entries.find(inner_->identities.of(key), value) : Status::closed;
     }
     // Changes a key's entry by `make`, and outdates its flight first. `closed`: the answer of a map that is not open.
     template <class Result, class Change> Result change(Key key, Result closed, Change make) {
@@ -308,8 +297,6 @@ template <class K, class V, class Hash = SipHash<K>, class Times = inside::Timel
     }
 
     inside::OwnedPointer<Inner> inner_{};
-    // The index hashes what a hash of the user's may have spread badly.
-    static constexpr uint32_t mix = std::is_same_v<Hash, SipHash<K>> ? CEFRODIL_MIX_NONE : CEFRODIL_MIX_FULL;
 
     // Each fault has one message. A type that is too large or not trivial gets no second one. Clang skips the members after a failed assertion, so
     // these come last.

@@ -93,18 +93,8 @@ template <class K, class V, class Hash = SipHash<K>, class Equal = std::equal_to
         return open(options, std::move(rules), std::move(hash));
     }
     [[nodiscard]] Status open(const MapOptions &options, Rules rules, Hash hash = Hash()) noexcept {
-        if (inner_) {
-            return Status::in_use;
-        }
-        std::unique_ptr<Inner> opened;
-        if (!inside::has_memory([&] { opened = std::make_unique<Inner>(options.passes, std::move(rules), std::move(hash)); })) {
-            return Status::no_memory;
-        }
-        if (!opened->identities.draw()) {
-            return Status::no_random;
-        }
-        const Status status = opened->objects.open(options, mix);
-        return status == Status::ok && !inner_.own(std::move(opened)) ? Status::no_memory : status;
+        return inside::open_map(inner_, options, inside::mix_for<K, Hash>,
+                                [&] { return std::make_unique<Inner>(options.passes, std::move(rules), std::move(hash)); });
     }
     bool is_open() const noexcept { return bool(inner_); }
     // Closes the map, and destroys its objects.
@@ -116,9 +106,9 @@ template <class K, class V, class Hash = SipHash<K>, class Equal = std::equal_to
         if (!inner_) {
             return Status::closed;
         }
-        Pinned pinned(inner_->objects);
+        Pinned pinned(inner_->entries);
         const inside::Identity known = inner_->identities.of(key);
-        const Seen seen = inner_->look(pinned, known, key, inner_->objects.turns().looks(), inner_->generation());
+        const Seen seen = inner_->look(pinned, known, key, inner_->entries.turns().looks(), inner_->generation());
         pinned.count(seen.status);
         if (seen.status == Status::ok) {
             see(static_cast<const V &>(seen.object->value));
@@ -131,7 +121,7 @@ template <class K, class V, class Hash = SipHash<K>, class Equal = std::equal_to
         if (!inner_) {
             return Status::closed;
         }
-        Pinned pinned(inner_->objects);
+        Pinned pinned(inner_->entries);
         const Seen seen = Inner::own(pinned.peek(inner_->identities.of(key).index, inner_->generation()), key);
         if (seen.status == Status::ok) {
             see(static_cast<const V &>(seen.object->value));
@@ -167,14 +157,14 @@ template <class K, class V, class Hash = SipHash<K>, class Equal = std::equal_to
     }
     // Puts a key, whether it is there or not. Unless ok, an earlier value is still there.
     template <class Value = V> [[nodiscard]] Stored insert_or_assign(Key key, Value &&value) {
-        return put<Value>(key, value, std::nullopt, [&](const auto &known, Own &object, Change &change) { return inner_->objects.put(known.index, object, change); });
+        return put<Value>(key, value, std::nullopt, [&](const auto &known, Own &object, Change &change) { return inner_->entries.put(known.index, object, change); });
     }
     // The same, with a time to live of its own, in any map. A time of 0 or less is over at once, and `forever` never.
     template <class Value = V> [[nodiscard]] Stored insert_for(Key key, Value &&value, std::chrono::nanoseconds life) {
         return put<Value>(key, value, life, [&](const auto &known, Own &object, Change &change) { return inner_->insert(known, key, object, change); });
     }
     template <class Value = V> [[nodiscard]] Stored insert_or_assign_for(Key key, Value &&value, std::chrono::nanoseconds life) {
-        return put<Value>(key, value, life, [&](const auto &known, Own &object, Change &change) { return inner_->objects.put(known.index, object, change); });
+        return put<Value>(key, value, life, [&](const auto &known, Own &object, Change &change) { return inner_->entries.put(known.index, object, change); });
     }
     // Replaces the value of a key that is there by what the function makes of it, `V function(const V &)`. If another thread is first, it is called
     // again. Or it is `std::optional<V> function(const V &)`. If that returns none, the status is `declined`. Unless ok, the old value stays. absent: the
@@ -201,12 +191,12 @@ template <class K, class V, class Hash = SipHash<K>, class Equal = std::equal_to
             if (seen.object == nullptr) {
                 return seen.status;
             }
-            Change change(inner_->objects);
-            const Status status = inner_->objects.take(known.index, seen.since, change);
+            Change change(inner_->entries);
+            const Status status = inner_->entries.take(known.index, seen.since, change);
             if (status == Status::ok && seen.status == Status::ok) {
                 see(static_cast<const V &>(change.old->value));
             }
-            if (status != Status::changed || repeat >= inner_->objects.turns().tries()) {
+            if (status != Status::changed || repeat >= inner_->entries.turns().tries()) {
                 return status == Status::ok ? seen.status : status;
             }
         }
@@ -222,7 +212,7 @@ template <class K, class V, class Hash = SipHash<K>, class Equal = std::equal_to
                 return {Status::ok, std::move(*found), false};
             }
             // No listener and no destructor runs while others wait for the flight.
-            Change change(inner_->objects);
+            Change change(inner_->entries);
             if (std::optional<Computed<V>> computed = compute(key, function, change)) {
                 return std::move(*computed);
             }
@@ -235,7 +225,7 @@ template <class K, class V, class Hash = SipHash<K>, class Equal = std::equal_to
             return Status::closed;
         }
         inner_->flights.outdate_all();
-        return inner_->objects.clear();
+        return inner_->entries.clear();
     }
     // Once it has returned, no key is found that was put before it began, nor a value that find_or_compute was computing then. As by cefrodil::map. The
     // objects stay until others overwrite or evict them, or until erase_expired. Until then `size` and `weight` count them. ok or closed.
@@ -243,32 +233,32 @@ template <class K, class V, class Hash = SipHash<K>, class Equal = std::equal_to
         if (!inner_) {
             return Status::closed;
         }
-        inner_->objects.generation().begin_next();
+        inner_->entries.generation().begin_next();
         inner_->flights.outdate_all();
         return Status::ok;
     }
     // Removes what has expired, and what was put before invalidate_all. As by `clear`. Until then it stays until it is overwritten or evicted, and `size` and
     // `weight` count it.
-    [[nodiscard]] Status erase_expired() { return inner_ ? inner_->objects.erase_expired() : Status::closed; }
+    [[nodiscard]] Status erase_expired() { return inner_ ? inner_->entries.erase_expired() : Status::closed; }
     // Frees what has left the map and no call can use any more. Other calls do so now and then. Returns how many objects.
-    size_t free_unused() noexcept { return inner_ ? inner_->objects.free_now() : 0; }
+    size_t free_unused() noexcept { return inner_ ? inner_->entries.free_now() : 0; }
 
-    uint64_t size() const noexcept { return inner_ ? inner_->objects.turns().keys() : 0; }
-    uint64_t capacity() const noexcept { return inner_ ? inner_->objects.turns().capacity() : 0; }
+    uint64_t size() const noexcept { return inner_ ? inner_->entries.turns().keys() : 0; }
+    uint64_t capacity() const noexcept { return inner_ ? inner_->entries.turns().capacity() : 0; }
     // The sum of the weights, exact while no call writes. What other calls are about to put counts, and what has left does not, though it may wait to
     // be freed. Without a weigher 0.
-    uint64_t weight() const noexcept { return inner_ ? inner_->objects.weight() : 0; }
+    uint64_t weight() const noexcept { return inner_ ? inner_->entries.weight() : 0; }
     // How many objects have left the map and wait to be freed, and what they weigh. `meter` has the same.
-    uint64_t waiting() const noexcept { return inner_ ? inner_->objects.waiting() : 0; }
-    uint64_t waiting_weight() const noexcept { return inner_ ? inner_->objects.waiting_weight() : 0; }
+    uint64_t waiting() const noexcept { return inner_ ? inner_->entries.waiting() : 0; }
+    uint64_t waiting_weight() const noexcept { return inner_ ? inner_->entries.waiting_weight() : 0; }
     // What the lookups of this map came to, each counted once: the calls of look, find, get, contains and find_or_compute. As by cefrodil::map.
-    Meter meter() const noexcept { return inner_ ? inner_->objects.turns().meter() : Meter(nullptr); }
+    Meter meter() const noexcept { return inner_ ? inner_->entries.turns().meter() : Meter(nullptr); }
 
   private:
     // A copy of the key's value, if it is there. It isn't counted.
     std::optional<V> seek(Key key) const {
-        Pinned pinned(inner_->objects);
-        const Seen seen = inner_->look(pinned, inner_->identities.of(key), key, inner_->objects.turns().looks(), inner_->generation());
+        Pinned pinned(inner_->entries);
+        const Seen seen = inner_->look(pinned, inner_->identities.of(key), key, inner_->entries.turns().looks(), inner_->generation());
         return seen.status == Status::ok ? std::optional<V>(seen.object->value) : std::nullopt;
     }
     // Computes the key's value, if no other call does so now, and puts it. None: another call did.
@@ -284,7 +274,7 @@ template <class K, class V, class Hash = SipHash<K>, class Equal = std::equal_to
             return Computed<V>{Status::ok, std::move(*found), false};
         }
         V value = function();
-        Own object = inner_->objects.make(key, [&]() -> const V & { return value; }, generation);
+        Own object = inner_->entries.make(key, [&]() -> const V & { return value; }, generation);
         const Status status = flight.land([&] { return object ? inner_->insert(known, key, object, change, true) : Status::no_memory; });
         return Computed<V>{status, std::move(value), true};
     }
@@ -298,12 +288,12 @@ template <class K, class V, class Hash = SipHash<K>, class Equal = std::equal_to
         const uint64_t generation = inner_->generation();
         for (uint32_t repeat = 0;; repeat++) {
             Seen seen{};
-            Change change(inner_->objects);
+            Change change(inner_->entries);
             const Status status = inner_->renew(known, key, life, function, generation, seen, change);
             if (seen.status != Status::ok || !Inner::is_lost(status)) {
                 return status;
             }
-            if (repeat >= inner_->objects.turns().tries()) {
+            if (repeat >= inner_->entries.turns().tries()) {
                 return Status::changed;
             }
         }
@@ -315,7 +305,7 @@ template <class K, class V, class Hash = SipHash<K>, class Equal = std::equal_to
         }
         const inside::Identity known = inner_->identities.of(key);
         const auto give = [&]() -> Value && { return std::forward<Value>(value); };
-        Objects &objects = inner_->objects;
+        Objects &objects = inner_->entries;
         const uint64_t generation = inner_->generation();
         Own object = life ? objects.make_until(key, give, generation, objects.deadline_after(*life)) : objects.make(key, give, generation);
         if (!object) {
@@ -335,8 +325,6 @@ template <class K, class V, class Hash = SipHash<K>, class Equal = std::equal_to
         return {status, change.renewed, change.evicted};
     }
     inside::OwnedPointer<Inner> inner_{};
-    // The index hashes what a hash of the user's may have spread badly.
-    static constexpr uint32_t mix = std::is_same_v<Hash, SipHash<K>> ? CEFRODIL_MIX_NONE : CEFRODIL_MIX_FULL;
 
     static_assert(std::is_object_v<K> && std::is_object_v<V> && !std::is_const_v<V>, "keys and values are objects");
     static_assert(std::is_nothrow_destructible_v<K> && std::is_nothrow_destructible_v<V>, "destructors of keys and values throw nothing");

@@ -18,16 +18,16 @@ namespace inside {
 
 template <class K, class V, class Hash, class Equal> struct KeyedObjects {
     using Key = Taken<K, Hash>;
-    using Entries = Objects<K, V>;
-    using Pinned = typename Entries::Pinned;
-    using Seen = typename Entries::Seen;
-    using Change = typename Entries::Change;
-    using Own = typename Entries::Own;
+    using All = Objects<K, V>;
+    using Pinned = typename All::Pinned;
+    using Seen = typename All::Seen;
+    using Change = typename All::Change;
+    using Own = typename All::Own;
     // A time to live that a call says, or that of the map.
     using Life = std::optional<std::chrono::nanoseconds>;
 
-    KeyedObjects(size_t slots, ObjectRules<K, V> &&rules, Hash &&its_hash) : identities(std::move(its_hash)), objects(slots, std::move(rules)) {}
-    uint64_t generation() noexcept { return objects.generation().now(); }
+    KeyedObjects(size_t slots, ObjectRules<K, V> &&rules, Hash &&its_hash) : identities(std::move(its_hash)), entries(slots, std::move(rules)) {}
+    uint64_t generation() noexcept { return entries.generation().now(); }
     // An object of another key with the same number is none of this key's.
     static Seen own(Seen seen, Key key) {
         const bool is_other = seen.status == Status::ok && !Equal()(seen.object->key, key);
@@ -49,10 +49,10 @@ template <class K, class V, class Hash, class Equal> struct KeyedObjects {
     // must not renew it.
     Seen look_to_take(const Identity &known, Key key) {
         const uint64_t now = generation();
-        Pinned pinned(objects);
-        const Seen seen = pinned.look_at_all(known.index, objects.turns().tries());
+        Pinned pinned(entries);
+        const Seen seen = pinned.look_at_all(known.index, entries.turns().tries());
         // This acquires what the object was made with, before its key is compared.
-        const bool has_ended = seen.object != nullptr && objects.has_ended(*seen.object, now);
+        const bool has_ended = seen.object != nullptr && entries.has_ended(*seen.object, now);
         Seen taken = own(seen, key);
         if (taken.object != nullptr && has_ended) {
             taken.status = Status::absent;
@@ -62,18 +62,18 @@ template <class K, class V, class Hash, class Equal> struct KeyedObjects {
     // Puts a key that is absent, or says `present`. What is there gives way if it has ended, or is another key's.
     Status insert(const Identity &known, Key key, Own &object, Change &change, bool is_computed = false) {
         for (uint32_t repeat = 0;; repeat++) {
-            const Seen seen = look(Pinned(objects), known, key, objects.turns().tries(), object->generation());
+            const Seen seen = look(Pinned(entries), known, key, entries.turns().tries(), object->generation());
             if (seen.status != Status::absent) {
                 return seen.status == Status::ok ? Status::present : seen.status;
             }
-            const Status status = objects.put_new(known.index, seen.since, object, is_computed, change);
+            const Status status = entries.put_new(known.index, seen.since, object, is_computed, change);
             if (!is_lost(status)) {
                 if (change.renewed) {
-                    objects.gave_way(change);
+                    entries.gave_way(change);
                 }
                 return status;
             }
-            if (repeat >= objects.turns().tries()) {
+            if (repeat >= entries.turns().tries()) {
                 return Status::changed;
             }
         }
@@ -88,21 +88,21 @@ template <class K, class V, class Hash, class Equal> struct KeyedObjects {
         }
         // A flight may have begun while the function ran.
         flights.outdate(known);
-        return object ? objects.replace(known.index, seen.since, object, change) : Status::no_memory;
+        return object ? entries.replace(known.index, seen.since, object, change) : Status::no_memory;
     }
     template <class Function>
     [[gnu::always_inline]] Own made_of(const Identity &known, Key key, const Life &life, Function &function, uint64_t generation,
                                        Seen &seen) {
-        Pinned pinned(objects);
-        seen = look(pinned, known, key, objects.turns().tries(), generation);
+        Pinned pinned(entries);
+        seen = look(pinned, known, key, entries.turns().tries(), generation);
         if (seen.status != Status::ok) {
             return Own();
         }
         const auto made = [&] { return function(static_cast<const V &>(seen.object->value)); };
         // It has the generation of what it replaces.
         const auto make = [&](const auto &give) {
-            const uint64_t deadline = life ? objects.deadline_after(*life) : Entries::deadline_of(*seen.object);
-            return objects.make_until(key, give, seen.object->generation(), deadline);
+            const uint64_t deadline = life ? entries.deadline_after(*life) : All::deadline_of(*seen.object);
+            return entries.make_until(key, give, seen.object->generation(), deadline);
         };
         if constexpr (std::is_same_v<decltype(made()), std::optional<V>>) {
             std::optional<V> next = made();
@@ -115,7 +115,7 @@ template <class K, class V, class Hash, class Equal> struct KeyedObjects {
 
     Identities<Key, Hash> identities;
     AllFlights flights{};
-    Entries objects;
+    All entries;
 };
 
 } // namespace inside

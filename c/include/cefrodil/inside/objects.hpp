@@ -2,8 +2,7 @@
 #ifndef CEFRODIL_INSIDE_OBJECTS_HPP
 #define CEFRODIL_INSIDE_OBJECTS_HPP
 
-#include "generations.hpp"
-#include "../../cefrodil_map.hpp"
+#include "entries.hpp"
 #include "object.hpp"
 #include "weights.hpp"
 #include <algorithm>
@@ -21,7 +20,7 @@ namespace cefrodil {
 namespace inside {
 
 // The entries of a map of objects, and what has left them.
-template <class K, class V> class Objects {
+template <class K, class V> class Objects : public Entries<1> {
   public:
     using Each = Object<K, V>;
     using Heavy = WeighedObject<K, V>;
@@ -45,8 +44,8 @@ template <class K, class V> class Objects {
         static_cast<void>(free_now());
     }
 
-    [[nodiscard]] Status open(const MapOptions &options, uint32_t mix) noexcept {
-        const Status status = turns_.open(options.entries, options.shards, options.passes, options.tries, mix);
+    [[nodiscard]] Status open(uint32_t entries, uint32_t shards, uint32_t passes, uint32_t tries, uint32_t mix) noexcept {
+        const Status status = Entries::open(entries, shards, passes, tries, mix);
         is_open_ = status == Status::ok;
         waiting_weight_ = is_open_ && turns_.lines() ? &turns_.lines()->waiting_weight() : &uncounted_;
         return status;
@@ -172,14 +171,14 @@ template <class K, class V> class Objects {
     }
     // Each shard is listed at a moment of its own, and each key that is listed is removed.
     Status clear() noexcept {
-        return each_listed([this](uint64_t index) {
+        return each_listed([this](uint64_t index, const auto &) {
             Change change(*this);
             return removed(index, change, [&](Slot<1> &slot) { return slot.handle.try_take(index); });
         });
     }
     // Removes what has expired or is of an older generation, by such a list.
     Status erase_expired() noexcept {
-        return each_listed([this](uint64_t index) {
+        return each_listed([this](uint64_t index, const auto &) {
             const uint64_t since = Pinned(*this).expired(index, generation_.now());
             Change change(*this);
             return since != 0 ? take(index, since, change) : Status::ok;
@@ -192,20 +191,7 @@ template <class K, class V> class Objects {
     // The weights of all objects that are there, with those that calls are about to put. Without a weigher 0.
     uint64_t weight() const noexcept { return weights_.sum(); }
 
-    Generation &generation() noexcept { return generation_; }
-    const Turns<1> &turns() const noexcept { return turns_; }
-
   private:
-    // Calls with each key of a list of all, until a call fails. absent or changed: others were first.
-    template <class Call> Status each_listed(Call call) noexcept {
-        std::vector<uint64_t> list;
-        Status status = turns_.repeated([&](Slot<1> &slot) { return slot.handle.try_entries(list); });
-        for (size_t at = 0; at < list.size() && status == Status::ok; at += 2) {
-            status = call(list[at]);
-            status = status == Status::absent || status == Status::changed ? Status::ok : status;
-        }
-        return status;
-    }
     // Counts a new key, unless another one gave way to it.
     static Swapped<1> counted(Slot<1> &slot, const Swapped<1> &tried) noexcept {
         slot.add(tried.status == Status::ok && !tried.old ? 1 : 0);
@@ -385,8 +371,6 @@ template <class K, class V> class Objects {
     // Whether the call comes from so many listeners within each other that it is refused.
     bool is_too_deep() const noexcept { return rules_.listener && listeners() >= most_listeners; }
 
-    Turns<1> turns_{};
-    Generation generation_{};
     bool is_open_ = false;
     Epochs epochs_;
     const Rules rules_;

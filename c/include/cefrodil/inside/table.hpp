@@ -2,10 +2,9 @@
 #ifndef CEFRODIL_INSIDE_TABLE_HPP
 #define CEFRODIL_INSIDE_TABLE_HPP
 
-#include "generations.hpp"
+#include "entries.hpp"
 #include "packing.hpp"
 #include "times.hpp"
-#include "turns.hpp"
 #include <algorithm>
 #include <array>
 #include <optional>
@@ -31,10 +30,13 @@ struct Stored {
 namespace inside {
 
 // The entries of a map. `Times`: when they end, Timeless or Timed.
-template <class V, class Times = Timeless> class Table : private Packing<V, Times::moments>, private Times {
+template <class V, class Times = Timeless>
+class Table : public Entries<Packing<V, Times::moments>::words>, private Packing<V, Times::moments>, private Times {
     using Own = Packing<V, Times::moments>;
     using Own::words, Own::pack, Own::set_value, Own::ends_of, Own::set_ends;
     using typename Own::Words, typename Own::Ends;
+    using All = Entries<words>;
+    using All::turns_, All::generation_, All::each_listed, All::is_lost;
 
   public:
     using Life = typename Times::Life;
@@ -51,10 +53,6 @@ template <class V, class Times = Timeless> class Table : private Packing<V, Time
 
     Table() = default;
     explicit Table(const Times &times) : Times(times) {}
-
-    [[nodiscard]] Status open(uint32_t entries, uint32_t shards, uint32_t passes, uint32_t tries, uint32_t mix) noexcept {
-        return turns_.open(entries, shards, passes, tries, mix);
-    }
 
     // A lookup for its value, which is set if the status is ok. If it stays busy, that is a miss. It is counted.
     Status find(const Identity &key, std::optional<V> &value) noexcept {
@@ -185,10 +183,6 @@ template <class V, class Times = Timeless> class Table : private Packing<V, Time
         return each_listed([this](uint64_t index, const Words &listed) { return has_ended(listed) ? take_ended(index) : Status::ok; });
     }
 
-    Generation &generation() noexcept { return generation_; }
-    Turns<words> &turns() noexcept { return turns_; }
-    const Turns<words> &turns() const noexcept { return turns_; }
-
   private:
     // The key as its entries of the present generation have it.
     Identity now(const Identity &key) const noexcept { return in_generation(key, generation_.now()); }
@@ -240,18 +234,6 @@ template <class V, class Times = Timeless> class Table : private Packing<V, Time
             }
         }
     }
-    // Calls with each entry of a list of all, until a call fails. absent or changed: others were first.
-    template <class Call> Status each_listed(Call call) noexcept {
-        std::vector<uint64_t> list;
-        Status status = turns_.repeated([&](Slot<words> &slot) { return slot.handle.try_entries(list); });
-        for (size_t at = 0; at < list.size() && status == Status::ok; at += 1 + words) {
-            Words listed;
-            std::copy_n(list.begin() + static_cast<ptrdiff_t>(at + 1), words, listed.begin());
-            status = call(list[at], listed);
-            status = is_lost(status) ? Status::ok : status;
-        }
-        return status;
-    }
     // Whether the entry has expired or is of an older generation. That is read after the entry, so it is not older than that.
     bool has_ended(const Words &packed) const noexcept {
         return Times::have_passed(ends_of(packed)) || !Times::are_of(ends_of(packed), generation_.now());
@@ -261,9 +243,6 @@ template <class V, class Times = Timeless> class Table : private Packing<V, Time
         const Seen seen = turns_.get(turns_.own_slot(), index, turns_.tries(), packed);
         return seen.status == Status::ok && has_ended(packed) ? take_if(index, seen.since) : Status::ok;
     }
-    // Whether the entry is another one than was looked up.
-    static bool is_lost(Status status) noexcept { return status == Status::changed || status == Status::absent; }
-
     Words pack_in(uint64_t generation, const Identity &key, const Ends &ends, const V &value) const noexcept {
         return pack(in_generation(key, generation), Times::in_generation(ends, generation), value);
     }
@@ -309,9 +288,6 @@ template <class V, class Times = Timeless> class Table : private Packing<V, Time
         const V value = function(*entry.value);
         return {put_over(known, entry.since, pack(known, Times::renewed(entry.ends, life), value)), value};
     }
-
-    Turns<words> turns_{};
-    Generation generation_{};
 };
 
 } // namespace inside
