@@ -194,9 +194,9 @@ fn a_full_shard_evicts_what_was_not_used() {
     let map = BytesMap::<Counted>::builder(100).shards(1).threads(1).open().unwrap();
     (0..50).for_each(|key| done(map.put(make(key, 0)).unwrap()));
     (0..40).for_each(|key: u64| map.look(key.to_string().as_bytes(), |look| assert!(look.is_ok())));
-    let mut left: Vec<_> = (0..10).map(|_| map.evict(0, |block, _| block.key().to_vec()).unwrap().unwrap()).collect();
+    let mut left: Vec<_> = (0..5).map(|_| map.evict(0, |block, _| block.key().to_vec()).unwrap().unwrap()).collect();
     left.sort();
-    assert_eq!(left, (40..50).map(|key| key.to_string().into_bytes()).collect::<Vec<_>>());
+    assert_eq!(left, (40..45).map(|key| key.to_string().into_bytes()).collect::<Vec<_>>());
 }
 
 #[test]
