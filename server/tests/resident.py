@@ -39,7 +39,7 @@ def sizes_change(program):
         for sizes in PHASES:
             sent, batches = 0, 0
             # Small values fill the memory with fewer bytes.
-            while sent < 1.5 * MEMORY * MEGABYTE and batches < 1000:
+            while sent < 1.5 * MEMORY * MEGABYTE and batches < 1200:
                 commands, count = sets(sizes, number, draw)
                 number, sent, batches = number + count, sent + len(commands), batches + 1
                 assert ask(clients[batches % 4], commands + b'mn\r\n') == b'MN\r\n'
