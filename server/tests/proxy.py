@@ -115,13 +115,15 @@ def test(program, servers, ports, client):
 
 
 def main():
-    program, listen, stats, processes, ports = sys.argv[1], free_port(), free_port(), [], []
+    program, processes, ports = sys.argv[1], [], []
     with tempfile.TemporaryDirectory() as folder:
         try:
             for _ in range(2):
                 server, port = start(program, *OPTIONS)
                 processes.append(server)
                 ports.append(port)
+            # The servers have theirs by now, so these are others.
+            listen, stats = free_port(), free_port()
             config = os.path.join(folder, 'nutcracker.yml')
             with open(config, 'w', encoding='utf-8') as file:
                 file.write(f'pool:\n  listen: 127.0.0.1:{listen}\n  hash: md5\n  distribution: ketama\n  timeout: 400\n')
