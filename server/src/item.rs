@@ -98,7 +98,7 @@ impl About {
 
     /// Whether it was ever read.
     pub fn was_fetched(&self) -> bool {
-        // A hint, by which nothing but counts are told.
+        // A hint, for counts alone.
         self.is_fetched.load(Relaxed)
     }
 }
