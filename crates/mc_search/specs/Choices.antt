@@ -1,13 +1,14 @@
 -- Which items a choice has in use.
-use Rattle.std.specs.Prelude.{ℕ, ◌≡◌, ◌<◌, ◌⊎◌, length}
+use Rattle.std.specs.Prelude.{ℕ, ◌≡◌, ◌<◌, ◌⊎◌}
 use Rattle.mc_search.specs.ItemSets.{IsItemSet, bit_in}
+use Rattle.mc_search.specs.Notes.{AreNotes}
 use Rattle.mc_search.specs.declared.choice.Choice.{Choice}
 
 -- the item is in use: it is new or proven
 abbrev pub IsInUse : Choice → ℕ → Type 0
 IsInUse c i = (bit_in c.fresh i ≡ 1) ⊎ (bit_in c.proven i ≡ 1)
 
--- no item is both, both hands are at an item, and there are as many places for notes as items
+-- no item is both, and both hands are at an item
 pub record IsChoice (c : Choice) : Type 0 where
   pub fresh : IsItemSet c.fresh
   pub proven : IsItemSet c.proven
@@ -16,5 +17,5 @@ pub record IsChoice (c : Choice) : Type 0 where
   pub apart : (i : ℕ) → bit_in c.fresh i ≡ 1 → bit_in c.proven i ≡ 1 → ⊥
   pub fresh_hand : c.fresh_hand < c.items
   pub proven_hand : c.proven_hand < c.items
-  pub noted : length c.notes.items ≡ c.items
+  pub notes : AreNotes c.notes
   pub some : 0 < c.items

@@ -7,6 +7,7 @@ pub mod Sweeps
 pub mod Inside
 pub mod Entries
 pub mod ItemSets
+pub mod Notes
 pub mod Choices
 pub mod Picks
 pub mod Items

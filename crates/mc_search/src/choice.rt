@@ -1,8 +1,9 @@
 //! Which items are in use, and which of them gives way. An item is new until its bit is found set, or if its key had given way lately. Then it
 //! is proven. A new item gives way, unless more than nine in ten of those in use are proven.
-ghost use Rattle.std.specs.Prelude.{ℕ, ◌≡◌, ◌≢◌, ◌^◌, ◌<◌, ◌≤◌, ◌↔◌, ◌⊎◌, IfOk, MatchOption, length};
+ghost use Rattle.std.specs.Prelude.{ℕ, ◌≡◌, ◌≢◌, ◌^◌, ◌<◌, ◌↔◌, ◌⊎◌, IfOk, MatchOption};
 
 use crate::item_set::ItemSet;
+use crate::notes::Notes;
 use std::alloc::{AllocError, Global};
 
 /// The items in use, each of them new or proven, and the notes of keys that gave way while they were new. Its memory is taken once.
@@ -13,8 +14,7 @@ pub struct Choice {
     proven: ItemSet,
     fresh_hand: u32,
     proven_hand: u32,
-    /// Fingerprints of keys: as many places as items.
-    notes: Vec<u16>,
+    notes: Notes,
 }
 
 impl Choice {
@@ -31,7 +31,7 @@ impl Choice {
     {
         let fresh = ItemSet::new(alloc, items)?;
         let proven = ItemSet::new(alloc, items)?;
-        let notes = vec![in alloc; 0u16; items as usize]?;
+        let notes = Notes::new(alloc, items)?;
         Ok(Choice {
             items,
             fresh,
@@ -52,36 +52,21 @@ impl Choice {
         ensures items { self.new.items ≡ self.old.items }
         ensures takes { (j : ℕ) → IsInUse self.new j ↔ (IsInUse self.old j ⊎ (j ≡ item)) }
     {
-        if self.take_note(mixed) {
+        if self.notes.take(mixed) {
             self.proven.add(item);
-            return;
+        } else {
+            self.fresh.add(item);
         }
-        self.fresh.add(item);
+        self.fit_notes();
     }
 
-    // Whether the key is noted. Its note is cleared.
-    fn take_note(&mut self, mixed: u64) -> bool
+    fn fit_notes(&mut self)
         requires kept { IsChoice self.old }
         ensures kept { IsChoice self.new }
         ensures items { self.new.items ≡ self.old.items }
         ensures sets { (self.new.fresh ≡ self.old.fresh) × (self.new.proven ≡ self.old.proven) }
     {
-        let place = place_of(&self.notes, mixed);
-        let is_noted = self.notes[place] == print_of(mixed);
-        if is_noted {
-            self.notes[place] = 0;
-        }
-        is_noted
-    }
-
-    fn write_note(&mut self, mixed: u64)
-        requires kept { IsChoice self.old }
-        ensures kept { IsChoice self.new }
-        ensures items { self.new.items ≡ self.old.items }
-        ensures sets { (self.new.fresh ≡ self.old.fresh) × (self.new.proven ≡ self.old.proven) }
-    {
-        let place = place_of(&self.notes, mixed);
-        self.notes[place] = print_of(mixed);
+        self.notes.fit(self.fresh.len() + self.proven.len());
     }
 
     // A new item is proven from now on.
@@ -119,9 +104,10 @@ impl Choice {
         let is_proven = self.proven.has(item);
         if is_proven {
             self.proven.remove(item);
-            return;
+        } else {
+            self.fresh.remove(item);
         }
-        self.fresh.remove(item);
+        self.fit_notes();
     }
 
     /// Notes the key of an item that gives way, if the item is new.
@@ -133,7 +119,7 @@ impl Choice {
         ensures same { (j : ℕ) → IsInUse self.new j ↔ IsInUse self.old j }
     {
         if self.fresh.has(item) {
-            self.write_note(mixed);
+            self.notes.write(mixed);
         }
     }
 
@@ -147,9 +133,9 @@ impl Choice {
     {
         let was_new = self.fresh.has(item);
         if was_new {
-            self.write_note(old);
+            self.notes.write(old);
         }
-        let is_noted = self.take_note(new);
+        let is_noted = self.notes.take(new);
         if was_new && is_noted {
             self.prove(item);
         }
@@ -203,18 +189,4 @@ fn after_item(item: u32, items: u32) -> u32
 {
     let next = item + 1;
     if next == items { 0 } else { next }
-}
-
-/// Where a key is noted: by 32 bits that name no shard.
-fn place_of(notes: &Vec<u16>, mixed: u64) -> usize
-    requires some { 0 < length notes.now.items }
-    requires few { length notes.now.items < 2 ^ 31 }
-    ensures { result < length notes.now.items }
-{
-    (((mixed & 0xffff_ffff) * notes.len() as u64) >> 32) as usize
-}
-
-/// A key's fingerprint, of the bits above. It isn't 0, which is no key's.
-fn print_of(mixed: u64) -> u16 {
-    (((mixed >> 32) & 0xffff) as u16).max(1)
 }

@@ -21,6 +21,7 @@ mod free;
 mod item_set;
 mod items;
 mod listed;
+mod notes;
 mod path;
 mod pick;
 mod queue;

@@ -26,13 +26,13 @@ impl Mix {
     pub(crate) fn mix(self, key: u64) -> u64
         ensures { result ≡ mixed_key self key }
     {
+        // Computed in both cases: without a branch, and so that calls which mix the same key share it.
+        let once = fold(key).wrapping_mul(0xff51_afd7_ed55_8ccd);
+        let twice = fold(once).wrapping_mul(0xc4ce_b9fe_1a85_ec53);
+        let full = fold(twice);
         match self {
             Mix::Plain => key,
-            Mix::Fmix => {
-                let once = fold(key).wrapping_mul(0xff51_afd7_ed55_8ccd);
-                let twice = fold(once).wrapping_mul(0xc4ce_b9fe_1a85_ec53);
-                fold(twice)
-            }
+            Mix::Fmix => full,
         }
     }
 

@@ -265,13 +265,8 @@ impl Books {
         ensures shape { self.new.checked ≡ self.old.checked }
         ensures kept { peek.new ≡ peek.old }
     {
-        if self.free.is_empty() {
-            return None;
-        }
         let noted = self.for_notes(key);
-        let Some(item) = self.free.take_least(noted) else {
-            return None;
-        };
+        let item = self.free.take_least(noted)?;
         Some(self.store::<V, P>(peek, room, item, at))
     }
 }
