@@ -1,5 +1,5 @@
 -- Puts of many entries in one call: one put after the other, in the order of the entries.
-use Rattle.std.specs.Prelude.{ℕ, ◌≡◌, Bool, true, false, List, [], ◌∷◌, Result}
+use Rattle.std.specs.Prelude.{ℕ, ◌≡◌, List, [], ◌∷◌, Result}
 use Rattle.mc_words.specs.declared.history.Change.{Change}
 use Rattle.mc_words.specs.declared.shape.Shape.{Shape}
 use Rattle.mc_plan.specs.WholeCalls.{PutCall}
@@ -9,7 +9,7 @@ use Rattle.mc_plan.specs.declared.answer.PutError.{PutError}
 use Rattle.mc_shared.specs.Records.{WriterRecord}
 use Rattle.mc_writer.specs.WriterCalls.{HasCalled}
 use Rattle.mc_cache.specs.Failing.{PutFails, version_changes}
-use Rattle.mc_cache.specs.Plain.{Begins, PutMeans, history}
+use Rattle.mc_cache.specs.Plain.{PutMeans, history}
 
 -- for each of the things a step was made, in their order, with these answers: each begins where the one before it ended
 abbrev pub InOrder : {A B S : Type 0} → (A → S → S → B → Type 0) → List A → S → S → List B → Type 0
@@ -29,9 +29,3 @@ HavePut V sh entries w w' told = InOrder (HasPutEntry V sh) entries w w' told
 -- and what that means
 abbrev pub PutsMean : (V : ℕ) → List (Change V) → List (Change V) → List (ℕ × List ℕ) → List (Result Put PutError) → Type 0
 PutsMean V h h' entries told = InOrder (λ entry b b' answer. PutMeans V b b' entry.0 entry.1 answer) entries h h' told
-
--- what a try for the turn, to put many entries, means for what its pass has seen: the puts were made one right after the other, from a
--- history that begins with what the pass had seen, and all is seen now. If it was held, nothing was seen
-abbrev pub TurnPutsMean : (V : ℕ) → List (Change V) → List (Change V) → List (ℕ × List ℕ) → List (Result Put PutError) → Bool → Type 0
-TurnPutsMean V h h' entries told true = (before : List (Change V)) × Begins h before × PutsMean V before h' entries told
-TurnPutsMean V h h' entries told false = h' ≡ h

@@ -1,18 +1,15 @@
 -- What a try for the turn does, at the desk that has the writer.
-use Rattle.std.specs.Prelude.{ℕ, ◌≡◌, ◌⊎◌, Bool, true, false, List, length, Option, Some, None, Result, Ok, Err}
+use Rattle.std.specs.Prelude.{ℕ, ◌≡◌, ◌⊎◌, length, Option, Some, None, Result, Ok, Err}
 use Rattle.mc_words.specs.declared.history.Reply.{Reply}
 use Rattle.mc_words.specs.declared.history.Reply.TheVariants.{Busy}
 use Rattle.mc_words.specs.declared.shape.Shape.{Shape}
 use Rattle.mc_plan.specs.WholeCalls.{Call}
 use Rattle.mc_plan.specs.declared.answer.Answer.{Answer}
-use Rattle.mc_plan.specs.declared.answer.Put.{Put}
-use Rattle.mc_plan.specs.declared.answer.PutError.{PutError}
 use Rattle.mc_shared.specs.Records.{Opening, ReaderRecord, WriterRecord, reader_record}
 use Rattle.mc_shared.specs.SeatFacts.{IsRun}
 use Rattle.mc_shared.specs.Views.{IsFrontOf}
 use Rattle.mc_reader.specs.Records.{HasLooked}
 use Rattle.mc_writer.specs.WriterCalls.{HasCalled}
-use Rattle.mc_cache.specs.Batches.{HavePut}
 use Rattle.mc_cache.specs.Beside.{HasLookedBeside}
 use Rattle.mc_cache.specs.Orders.{HasAnsweredInOrder}
 use Rattle.mc_cache.specs.Plain.{HasMet, TellsNow, history, seen}
@@ -68,12 +65,6 @@ HasTriedToList V old new (Err (desk.Call why)) = HasMetAtDesk V old new
 abbrev pub HasTriedToPeek : (V : ℕ) → ReaderRecord → ReaderRecord → Option (Reply V) → Type 0
 HasTriedToPeek V old new (Some reply) = HasMetAtDesk V old new
 HasTriedToPeek V old new None = new ≡ old
-
--- whether a try for the turn, to put these entries in order, had the turn: then all were put in it, with these answers. If it was held,
--- nothing was done with the pass, and the answers stay what they were
-abbrev pub HasTriedToPutMany : (V : ℕ) → Shape → List (ℕ × List ℕ) → ReaderRecord → ReaderRecord → List (Result Put PutError) → List (Result Put PutError) → Bool → Type 0
-HasTriedToPutMany V sh entries old new told told' true = HasHadTurn V sh (λ before after. HavePut V sh entries before after told') old new
-HasTriedToPutMany V sh entries old new told told' false = (new ≡ old) × (told' ≡ told)
 
 -- a lookup was busy, and then the key was looked up beside the writer, which was laid down and is unchanged
 pub record HasFallenBack (V : ℕ) (sh : Shape) (k : ℕ) (old new : ReaderRecord) (reply : Reply V) : Type 0 where

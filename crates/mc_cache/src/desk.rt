@@ -3,8 +3,6 @@ ghost use Rattle.std.specs.Prelude.{◌≡◌, IfNone, IfSome};
 ghost use Rattle.mc_cache.specs.CallContracts.{put_contract, put_if_contract, remove_contract};
 ghost use Rattle.mc_cache.specs.Resting.{IsAtRest, IsFit};
 
-mod batches;
-mod looking;
 mod turns;
 
 use crate::cache::Cache;

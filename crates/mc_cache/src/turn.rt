@@ -1,22 +1,19 @@
 //! A turn with the writer in hand: the reader that is its pass meets the writer, the call is made, and they meet once more.
-ghost use Rattle.std.specs.Prelude.{◌≡◌, IfOk, Some, length, true};
-ghost use Rattle.mc_cache.specs.Batches.{TurnPutsMean};
-ghost use Rattle.mc_cache.specs.Stamped.{AreStampedEntriesOf};
+ghost use Rattle.std.specs.Prelude.{◌≡◌, IfOk, Some};
 ghost use Rattle.mc_cache.specs.TurnCalls.{CanMake, HasMade};
 ghost use Rattle.mc_cache.specs.Failing.{TurnFails, versions_seen};
 ghost use Rattle.mc_cache.specs.Inside.Turned.{HasBegunWith, HasEnded, turned};
 ghost use Rattle.mc_cache.specs.Plain.{AreEntriesOf, Begins, HasMet, PeekMeans, TurnMeans, history, seen};
 ghost use Rattle.mc_cache.specs.Resting.{IsAtRest};
-ghost use Rattle.mc_cache.specs.Turns.{HasLookedInTurn, HasMetAtDesk, HasTriedTo, HasTriedToList, HasTriedToPeek, HasTriedToPutMany};
+ghost use Rattle.mc_cache.specs.Turns.{HasLookedInTurn, HasMetAtDesk, HasTriedTo, HasTriedToList, HasTriedToPeek};
 ghost use Rattle.mc_words.specs.History.{key_count};
 
 use crate::cache::Cache;
 use crate::desk::DeskError;
 use crate::reader::Reader;
 use crate::writer::Writer;
-use mc_plan::{Put, PutError};
 use mc_words::{NoMemory, Reply};
-use mc_writer::{Entry, Evict, Replaced, Swapped, Take};
+use mc_writer::{Evict, Replaced, Swapped, Take};
 use std::alloc::Global;
 use std::marker::PhantomData;
 
@@ -95,27 +92,6 @@ pub fn make_in_turn<const V: usize, T, E, C: TurnCall<V, T, E>>(
     turned(answer)
 }
 
-/// A turn that puts the entries in order.
-pub fn put_many_in_turn<const V: usize>(
-    cache: &Cache<V>,
-    pass: &mut Reader<V>,
-    writer: &mut Writer<V>,
-    entries: &[(u64, [u64; V])],
-    answers: &mut [Result<Put, PutError>],
-)
-    requires of { (pass.old.of ≡ cache.now) × (writer.old.of ≡ cache.now) }
-    requires many { length answers.old ≡ length entries.now }
-    ensures writer { (writer.new.of ≡ writer.old.of) × IsAtRest V writer.new }
-    ensures of { pass.new.of ≡ pass.old.of }
-    ensures turn { HasTriedToPutMany V cache.now.layout.shape entries.now pass.old pass.new answers.old answers.new true }
-    ensures plain { TurnPutsMean V (seen V pass.old) (seen V pass.new) entries.now answers.new true }
-{
-    begin(cache, pass, writer);
-    cache.known();
-    writer.put_many(cache, entries, answers);
-    end(cache, pass, writer);
-}
-
 /// A turn that looks a key up beside the writer.
 pub fn get_in_turn<const V: usize>(
     cache: &Cache<V>,
@@ -163,23 +139,6 @@ pub fn list_in_turn<const V: usize>(
 {
     begin(cache, pass, writer);
     turned(writer.entries(alloc, cache))
-}
-
-/// A turn that lists the entries with their stamps.
-pub fn list_stamped_in_turn<const V: usize>(
-    alloc: Global,
-    cache: &Cache<V>,
-    pass: &mut Reader<V>,
-    writer: &mut Writer<V>,
-) -> Result<Vec<Entry<V>>, DeskError<NoMemory>>
-    requires of { (pass.old.of ≡ cache.now) × (writer.old.of ≡ cache.now) }
-    ensures writer { (writer.new ≡ writer.old) × IsAtRest V writer.new }
-    ensures met { HasTriedToList V pass.old pass.new result }
-    ensures begins { Begins (seen V pass.old) (seen V pass.new) }
-    ensures plain { IfOk result (λ es. AreStampedEntriesOf V (seen V pass.new) es.items) }
-{
-    begin(cache, pass, writer);
-    turned(writer.stamped_entries(alloc, cache))
 }
 
 /// A turn that counts the keys.

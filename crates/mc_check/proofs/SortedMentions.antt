@@ -1,37 +1,19 @@
 -- A search in the sorted mentions of a history.
-use Rattle.std.proofs.Common.{ℕ, ◌≡◌, ◌≢◌, ◌+◌, ◌-◌, ◌^◌, ◌<◌, ◌≤◌, List, [], ◌∷◌, ◌++◌, length, get_or, Some, None, refl, ap, sym, ◌∙◌, inl, inr, arith}
+use Rattle.std.proofs.Common.{ℕ, ◌≡◌, ◌≢◌, ◌-◌, ◌^◌, ◌<◌, ◌≤◌, List, length, get_or, Some, None, refl, ap, sym, ◌∙◌, inl, inr, arith}
 use Rattle.std.specs.Prelude.{slice_get, slice_index_or}
 use Rattle.std.specs.List.Sorted.{IsNonDecreasingBy, IsPermutation}
 use Rattle.std.proofs.lemmas.List.Sorted.{Contains-permutation, IsPermutation-sym}
-use Rattle.std.proofs.Math.Seq.{get_or-append_seam}
 use Rattle.std.proofs.lemmas.Bool.{cases_lt}
-use Rattle.std.proofs.lemmas.List.{get_or_append_left, get_or_default, length-append}
+use Rattle.std.proofs.lemmas.List.{get_or_default}
 use Rattle.std.proofs.lemmas.Option.{slice_get-get_or, slice_get_within}
 use Rattle.mc_words.specs.declared.history.Change.{Change}
 use Rattle.mc_words.specs.declared.history.Change.TheVariants.{Remove}
-use Rattle.mc_check.proofs.LastChanges.{Some-injective}
 use Rattle.mc_check.specs.declared.mentions.Mention.{Mention}
 use Rattle.mc_check.specs.Changes.{key_in}
 use Rattle.mc_check.specs.Inside.Last.{IsLast}
 use Rattle.mc_check.specs.Inside.Mentions.{AreInTime, AreMentionsOf, IsBound, MentionAll, mention, rank, rank_of}
 
 -- ---- in the order of time
-pub none_in_time : {V : ℕ} (h : List (Change V)) → AreInTime h 0 []
-none_in_time h = record { count = refl; at = λ i c d low there. absurd (omega arith) }
-
-pub one_more : {V : ℕ} (h : List (Change V)) (n : ℕ) (ms : List Mention) (c : Change V) → slice_get h n ≡ Some c → AreInTime h n ms → AreInTime h (n + 1) (ms ++ mention c n ∷ [])
-one_more {V} h n ms c there t = record {
-  count = omega (arith, length-append ms (mention c n ∷ []), t.count);
-  at = λ i c' d low there'.
-      elim (cases_lt i n) [
-        | inl before ↦ get_or_append_left ms (mention c n ∷ []) d i (omega (arith, t.count)) ∙ t.at i c' d before there'
-        | inr past ↦
-            let same : i ≡ n = omega (arith, low, past) in
-            let one : c ≡ c' = Some-injective c c' (sym there ∙ (ap (slice_get h) (sym same) ∙ there')) in
-            ap (λ (k : ℕ). slice_index_or (ms ++ mention c n ∷ []) k d) (same ∙ sym t.count) ∙ (get_or-append_seam ms (mention c n) [] d ∙ (ap (λ (x : Change V). mention x n) one ∙ ap (mention c') (sym same)))
-      ];
-}
-
 pub in_time : {V : ℕ} (h : List (Change V)) (ms : List Mention) → length h < 2 ^ 64 → AreInTime h (length h) ms → MentionAll h ms
 in_time h ms small t = record {
   small = small;

@@ -1,17 +1,12 @@
 -- What the word of one slot says of the keys that stand there.
 use Rattle.std.specs.Option.{MatchOption}
-use Rattle.std.proofs.Common.{Option, Some, None, ℕ, ◌≡◌, ◌≢◌, ◌<◌, ◌*◌, List, sym, ◌∙◌, ap, arith}
+use Rattle.std.proofs.Common.{Option, Some, None, ℕ, ◌≡◌, ◌≢◌, List, sym, ◌∙◌, ap, arith}
 use Rattle.mc_words.proofs.Frames.{slot_word-parts}
 use Rattle.mc_words.specs.Keys.{NamesUnder}
-use Rattle.mc_words.specs.Places.{IsPlace, slot_number, slot, item}
+use Rattle.mc_words.specs.Places.{slot, item}
 use Rattle.mc_words.specs.Shapes.{IsShape}
 use Rattle.mc_words.specs.Standing.{NamesItem, Stands}
-use Rattle.mc_words.specs.declared.place.Place.{Place}
 use Rattle.mc_words.specs.declared.shape.Shape.{Shape}
-
--- the number of a slot of the table is one of the table
-pub number_in : (sh : Shape) (p : Place) → IsPlace sh p → slot_number p < 4 * sh.buckets
-number_in sh p is = omega (arith, is.in_table, is.in_bucket)
 
 -- the item that the word of a slot names is the one that the slot names
 pub named_item : (sh : Shape) (w : List ℕ) (q tag i g : ℕ) → IsShape sh → NamesUnder sh (slot sh w q) tag i → NamesItem sh w q g → g ≡ i

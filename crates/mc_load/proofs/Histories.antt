@@ -3,7 +3,6 @@ use Rattle.std.proofs.Common.{ℕ, ◌≡◌, ◌+◌, ◌*◌, ◌%◌, add-one
 use Rattle.std.specs.Prelude.{replicate}
 use Rattle.std.proofs.Math.Dec.{eqb}
 use Rattle.std.proofs.lemmas.Bool.Decides.{nat_tests}
-use Rattle.std.proofs.lemmas.List.Elements.{All-push}
 use Rattle.std.proofs.Math.Seq.{get_or-append_seam}
 use Rattle.std.proofs.lemmas.List.{append_assoc, append-nil, get_or_append_left, length-append, take-append-le}
 use Rattle.mc_words.specs.History.{IsTrueAnswer, map_value}
@@ -124,7 +123,3 @@ drawn_more {V} load r records x all one = λ n d low.
     (λ k under e. ap (λ (y : Record V). y.key) (get_or_append_left records (x ∷ []) e k under) ∙ all k e under)
     (λ e. ap (λ (y : Record V). y.key) (get_or-append_seam records x [] e) ∙ one)
     n (omega (arith, low, length-append records (x ∷ []))) d
-
--- a lookup more
-pub told_more : (V : ℕ) (sh : Shape) (front acts : List Made) (records : List (Record V)) (r : Record V) → IsFrontOf front acts → AreTrue (state_of V sh front).history records → IsTrueAnswer (state_of V sh acts).history r.key r.reply → AreTrue (state_of V sh acts).history (records ++ r ∷ [])
-told_more V sh front acts records r begins all one = All-push (λ (x : Record V). IsTrueAnswer (state_of V sh acts).history x.key x.reply) records r (told_later V sh front acts records begins all) one

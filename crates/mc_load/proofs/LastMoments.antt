@@ -17,11 +17,6 @@ its_shard V s mix shards lasts k n all e =
 pub lasts_none : (V : ℕ) (s : Sharded) (mix : Mix) (shards : ℕ) (lasts : List ℕ) → s.shape.mix ≡ mix → length s.tables ≡ shards → ((n : ℕ) → n < length lasts → get_or lasts n 0 ≡ 0) → AreLasts V s mix shards lasts
 lasts_none V s mix shards lasts mixes many none = record { mixed = mixes; many = many; each = λ n low. inl (none n low) }
 
--- a moment that isn't 0 was looked up
-pub last_known : (V : ℕ) (s : Sharded) (n last : ℕ) → IsLastOf V s n last → (last ≡ 0 → ⊥) → IsLookedUp V s n last
-last_known V s n last (inl none) some = absurd (some none)
-last_known V s n last (inr looked) some = looked
-
 -- what was looked up of one shard is written
 pub last_written : (V : ℕ) (s : Sharded) (lasts : List ℕ) (n x k : ℕ) → n < length lasts → IsLookedUp V s n x → IsLastOf V s k (get_or lasts k 0) → IsLastOf V s k (get_or (set lasts n x) k 0)
 last_written V s lasts n x k low one was =

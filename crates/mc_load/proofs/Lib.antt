@@ -7,7 +7,6 @@ pub mod Looked
 pub mod OneShard
 pub mod Readers
 pub mod Refused
-pub mod Told
 pub mod Totals
 pub mod Tries
 pub mod Words

@@ -1,5 +1,5 @@
 -- Lookups by a pass of shards, one after the other.
-use Rattle.std.proofs.Common.{ℕ, ◌≡◌, ◌+◌, ◌<◌, List, [], ◌∷◌, ◌++◌, length, get_or, set, take, ap, inl, refl, subst, sym, ◌∙◌, arith}
+use Rattle.std.proofs.Common.{ℕ, ◌+◌, ◌<◌, List, [], ◌∷◌, ◌++◌, length, get_or, set, take, ap, inl, refl, subst, sym, ◌∙◌, arith}
 use Rattle.std.specs.Prelude.{All}
 use Rattle.std.proofs.lemmas.List.{get_or-map, length-map, take_more, take_more_set}
 use Rattle.mc_words.specs.declared.history.Reply.{Reply}
@@ -11,16 +11,11 @@ use Rattle.mc_shards.specs.Sharded.{ArePassOf, Sharded}
 use Rattle.mc_load.specs.Inside.Handles.{records_of}
 use Rattle.mc_load.specs.Inside.Workers.{AreReadersIn, HasLooked, HasLookedFrom, HaveAllGot, answers_of}
 use Rattle.mc_load.specs.Inside.Works.{HaveRun}
-use Rattle.mc_load.specs.Lookups.{AreLookups, HasGot, HasLookedIn, HaveLookedIn, one_shard}
+use Rattle.mc_load.specs.Lookups.{HasGot, HasLookedIn, HaveLookedIn, one_shard}
 use Rattle.mc_load.specs.declared.asked.Load.{Load}
 use Rattle.mc_load.specs.declared.reader_thread.ReaderThread.{ReaderThread}
 use Rattle.mc_load.proofs.OneShard.{belongs, one_changes}
 use Rattle.mc_load.proofs.Readers.{some_element}
-
--- none yet
-pub looked_none : {V : ℕ} (s : Sharded) (pass : List ReaderRecord) (records : List (Record V)) → length records ≡ 0 → AreLookups s pass pass records
-looked_none s pass [] none = refl
-looked_none s pass (r ∷ rs) none = absurd (omega (arith, none))
 
 -- some, and then others
 pub looked_more : (V : ℕ) (s : Sharded) (ks ls : List ℕ) (a b c : List ReaderRecord) (rs qs : List (Reply V)) → HaveLookedIn V s ks a b rs → HaveLookedIn V s ls b c qs → HaveLookedIn V s (ks ++ ls) a c (rs ++ qs)

@@ -4,12 +4,10 @@ use Rattle.std.specs.Prelude.{IfSome}
 use Rattle.std.proofs.Math.Nat.{eq-or-lt_of_le}
 use Rattle.std.proofs.Math.Seq.{get_or-append_seam}
 use Rattle.std.proofs.lemmas.List.{get_or_append_left, length-append}
-use Rattle.mc_words.specs.Readers.{HasReaders}
-use Rattle.mc_words.specs.Shapes.{IsShape}
 use Rattle.std.proofs.lemmas.Option.{same_Some}
-use Rattle.mc_load.specs.Loads.{AreTrue, HasKeys, IsCall, RefusesLoad, history_after}
+use Rattle.mc_load.specs.Loads.{AreTrue, history_after}
 use Rattle.mc_load.specs.Inside.Parted.{AreFirst, AreRest}
-use Rattle.mc_load.specs.Inside.Refusals.{AreRefusedBy, IsFirstRefusal, IsFirstRefused}
+use Rattle.mc_load.specs.Inside.Refusals.{AreRefusedBy, IsFirstRefused}
 use Rattle.mc_shared.specs.Records.{Opening, WriterRecord}
 use Rattle.mc_shared.specs.Views.{IsFrontOf}
 use Rattle.mc_check.specs.declared.record.Record.{Record}
@@ -19,8 +17,6 @@ use Rattle.mc_load.specs.declared.handle.CacheReader.{CacheReader}
 use Rattle.mc_load.specs.declared.handle.Handle.{Handle}
 use Rattle.mc_load.specs.declared.handle.Handle.TheVariants as handle
 use Rattle.mc_load.proofs.Histories.{told_later}
-use Rattle.mc_load.specs.declared.error.LoadError.{LoadError}
-use Rattle.mc_load.specs.declared.error.LoadError.TheVariants as error
 use Rattle.mc_load.specs.declared.reader_thread.ReaderThread.{ReaderThread}
 use Rattle.mc_load.specs.Inside.Workers.{AreWhole, HasEnded, HaveAllNoted, HaveEnded}
 
@@ -54,33 +50,9 @@ reader_seat {V} may load ls n call who many ended by place r =
     let told : may (n + 1) call = subst (λ (x : Option ℕ). IfSome x (λ c. may (n + 1) c)) r.refused mine in
     let low = r.below in (made.0, (omega arith, omega (arith, many), made.1), subst (λ (w : ℕ). may w call) (sym place) told)
 
-reader_call : {V : ℕ} (may : ℕ → ℕ → Type 0) (load : Load) (ls : List (ReaderThread V)) (n call who : ℕ) → length ls ≡ load.readers → HaveEnded V load ls → AreRefusedBy may ls → who ≡ n + 1 → IsFirstRefused ls n call
-    → IsCall load who call × may who call
-reader_call may load ls n call who many ended by place r = let one = reader_seat may load ls n call who many ended by place r in ((one.0, inr one.1), one.2)
-
 -- if it refused nothing, each has noted all
 pub all_noted : {V : ℕ} (load : Load) (ls : List (ReaderThread V)) → HaveEnded V load ls → AreWhole ls → HaveAllNoted load ls
 all_noted load ls ended whole = λ n d low. record { many = (ended n d low).whole (whole n d low); drawn = (ended n d low).keys }
-
--- the gate's refusal is one of the load's
-pub refused_call : {V : ℕ} (may : ℕ → ℕ → Type 0) (load : Load) (ls : List (ReaderThread V)) (why : LoadError) → HasKeys load.keys → IsShape load.shape → HasReaders load.readers
-    → length ls ≡ load.readers → HaveEnded V load ls → AreRefusedBy may ls → IsFirstRefusal ls why → RefusesLoad may load why
-refused_call may load ls (error.Gate who call) keys shape readers many ended by r =
-    let one = reader_call may load ls r.0 call who many ended by r.1 r.2 in (keys, shape, readers, one.0, one.1)
-refused_call may load ls (error.Open x) keys shape readers many ended by r = absurd r
-refused_call may load ls error.NoMemory keys shape readers many ended by r = absurd r
-refused_call may load ls error.Keys keys shape readers many ended by r = absurd r
-refused_call may load ls error.Writers keys shape readers many ended by r = absurd r
-refused_call may load ls error.Shards keys shape readers many ended by r = absurd r
-
--- what no gate refuses is refused whatever the gate may refuse
-pub refused_by_none : (may : ℕ → ℕ → Type 0) (load : Load) (why : LoadError) → RefusesLoad (λ who call. ⊥) load why → RefusesLoad may load why
-refused_by_none may load (error.Gate who call) r = absurd r.4
-refused_by_none may load (error.Open x) r = r
-refused_by_none may load error.NoMemory r = r
-refused_by_none may load error.Keys r = r
-refused_by_none may load error.Writers r = absurd r
-refused_by_none may load error.Shards r = absurd r
 
 -- a reader's answers are true of the history of a writer that it has met
 pub told_of_cache : {V : ℕ} (h : Handle V) (held : CacheReader V) (w : WriterRecord) (records : List (Record V)) → h ≡ handle.Cache held → cache_of h ≡ Some w.of → IsFrontOf held.reader.front w.acts → AreAllTold V h records

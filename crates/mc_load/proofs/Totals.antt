@@ -1,5 +1,5 @@
 -- How many answers there are of each kind.
-use Rattle.std.proofs.Common.{ℕ, zero, suc, ◌≡◌, ◌+◌, ◌≤◌, ◌<◌, inl, inr, Bool, List, [], ◌∷◌, ◌++◌, cond, get_or, length, take, ap, refl, ◌∙◌, arith}
+use Rattle.std.proofs.Common.{ℕ, zero, suc, ◌≡◌, ◌+◌, ◌<◌, inl, inr, Bool, List, [], ◌∷◌, ◌++◌, cond, get_or, length, take, ap, refl, ◌∙◌, arith}
 use Rattle.std.proofs.Math.Seq.{take-suc}
 use Rattle.std.proofs.lemmas.List.{map-append}
 use Rattle.std.specs.Prelude.{All, count_by, sum_by}
@@ -58,9 +58,3 @@ pub all_true : {V : ℕ} (h : List (Change V)) (records : List (Record V)) (n : 
 all_true {V} h [] n none w = λ k d low. absurd (omega (arith, low))
 all_true {V} h (r ∷ rs) n none (inl w) = λ k d low. all_true_at h r rs w.0 (all_true h rs n none w.1) k d low
 all_true {V} h (r ∷ rs) n none (inr w) = absurd (omega (arith, none, w.1.1))
-
--- no more records are wrong than there are
-pub few_wrong : {V : ℕ} (h : List (Change V)) (records : List (Record V)) (n : ℕ) → AreWrong h records n → n ≤ length records
-few_wrong h [] n w = omega (arith, w)
-few_wrong h (r ∷ rs) n (inl w) = let rest = few_wrong h rs n w.1 in omega (arith, rest)
-few_wrong h (r ∷ rs) n (inr w) = let rest = few_wrong h rs w.1.0 w.1.2 in omega (arith, rest, w.1.1)

@@ -31,14 +31,6 @@ lines_more a b c text status end lines zero some =
       | inr part ↦ absurd (cc (part.0, zero))
     ]
 
--- lines of which not all were written
-pub lines_only : (s : Stream) (text : List ℕ) (status : ℕ) → WritesLines false s text status → (asked : Bool) → WritesLines asked s text status
-lines_only s text status lines asked = (lines.0, (λ e. lines.1 refl), lines.2)
-
 -- lines that say what is to be reported
 pub lines_told : (s : Stream) (text due : List ℕ) (status : ℕ) (asked : Bool) → asked ≡ true → text ≡ due → WritesLines true s text status → WritesLines asked s due status
 lines_told s text due status asked wanted same lines = subst (λ (b : Bool). WritesLines b s due status) (sym wanted) (subst (λ (t : List ℕ). WritesLines true s t status) same lines)
-
--- so do lines with nothing written after them
-pub lines_told_only : (s : Stream) (text due : List ℕ) (status : ℕ) (asked : Bool) → text ≡ due → WritesLines false s text status → WritesLines asked s due status
-lines_told_only s text due status asked same lines = lines_only s due status (subst (λ (t : List ℕ). WritesLines false s t status) same lines) asked

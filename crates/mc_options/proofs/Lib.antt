@@ -1,4 +1,3 @@
 pub mod CommandLines
-pub mod CommandLineRows
 pub mod LoadCommandLines
 pub mod ToldLines

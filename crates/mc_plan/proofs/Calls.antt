@@ -10,8 +10,6 @@ pub mod AfterSweep
 pub mod Picks
 pub mod StoredKeys
 pub mod CanEnd
-pub mod ActKinds
-pub mod EndOnce
 pub mod DueActs
 pub mod UsedItems
 pub mod Evictions

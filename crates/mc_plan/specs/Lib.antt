@@ -10,7 +10,6 @@ pub mod Books
 pub mod Decisions
 pub mod Deciding
 pub mod Clerks
-pub mod Ends
 pub mod Loads
 pub mod Due
 pub mod Evicting

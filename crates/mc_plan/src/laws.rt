@@ -1,6 +1,5 @@
 //! The laws of plans, one function each. A body does nothing: what it ensures is the law.
 ghost use Rattle.mc_plan.specs.Due.{DueActsCanBeMade, PlansAreDue, PlansEndCalls, SweepsCanRead};
-ghost use Rattle.mc_plan.specs.Ends.{CallsEndOnce};
 ghost use Rattle.mc_plan.specs.Moves.{MovesMakeRoom};
 ghost use Rattle.mc_plan.specs.Puts.{PutsMakeRoom};
 ghost use Rattle.mc_plan.specs.Replacing.{EvictionsMakeRoom};
@@ -48,11 +47,6 @@ pub fn puts_make_room<const V: usize>()
 /// place. They take the other key out and put the key.
 pub fn evictions_make_room<const V: usize>()
     ensures { EvictionsMakeRoom V }
-{}
-
-/// A call ends once: acts that are a whole call are the beginning of no other, whatever it answers. So a call by single acts is answered at one of them, and at no other.
-pub fn calls_end_once<const V: usize>()
-    ensures { CallsEndOnce V }
 {}
 
 /// The acts of a plan are due in the state where it was made: they are allowed one after the other, and end quiet and within the limit.

@@ -64,10 +64,6 @@ told_as P text t (Err NothingToStep) is F err ok then = absurd (cc (err))
 told_as P text t (Err WriteFailed) is F err ok then = absurd (cc (err))
 told_as P text t (Err BadShape) is F err ok then = absurd (cc (err))
 
--- memory ran out
-pub wanted : {V : ℕ} (P : List ℕ → Option Fault → Replay V → Type 0) (text : List ℕ) (t : Replay V) (fault : Fault) → fault ≡ NoMemory → DoneAs P text t (Err fault)
-wanted {V} P text t fault e = subst (λ (f : Fault). DoneAs P text t (Err f)) (sym e) tt
-
 -- ---- whole calls
 pub idle_in : {V : ℕ} → Trace V → Replay V
 idle_in w = record { world = w; running = None }

@@ -7,7 +7,7 @@ use Rattle.mc_theory.specs.Lists.{Made, after_all, state_of}
 use Rattle.mc_theory.specs.States.{State}
 use Rattle.mc_theory.specs.Traces.{Trace, first_trace}
 use Rattle.mc_search.specs.Entries.{AreInOrder}
-use Rattle.mc_plan.proofs.Calls.Loading.{loads_more, loads_none}
+use Rattle.mc_plan.proofs.Calls.Loading.{loads_more}
 use Rattle.mc_plan.specs.Loads.{Loads, changes_by, left_by}
 use Rattle.mc_plan.specs.WholeCalls.{Answered, KeptCall}
 use Rattle.mc_plan.specs.declared.answer.Answer.{Answer}
@@ -19,25 +19,13 @@ use Rattle.mc_replay.specs.Replay.{Pending, WriterMakes, with_sizes}
 use Rattle.mc_replay.specs.Texts.{reopened_lines}
 use Rattle.mc_replay.specs.Inside.Players.{CallIsWhole, FitsCall, HasRoom, IsIdle, most_entries, most_loading, most_steps, shape_of_player}
 use Rattle.mc_replay.specs.Inside.Reopenings.{HasEntries, HasLoaded, MovesTo}
-use Rattle.mc_replay.proofs.WriterCalls.{idle_more, makes_append, makes_none}
+use Rattle.mc_replay.proofs.WriterCalls.{idle_more, makes_append}
 
 -- entries in order are no more than the items
 pub few_in_order : (V : ℕ) (sh : Shape) (w : List ℕ) (from to : ℕ) (es : List (ℕ × List ℕ)) → AreInOrder V sh w from to es → from + length es ≤ to
 few_in_order V sh w from to [] in_order = omega (arith, in_order)
 few_in_order V sh w from to (e ∷ es) in_order =
     let rest = few_in_order V sh w (in_order.0 + 1) to es in_order.4 in omega (arith, rest, in_order.2)
-
--- no entry was put yet
-pub loaded_none : (V : ℕ) (player : Player V) (w : Trace V) → IsIdle V player 0 w → HasLoaded V player player w [] []
-loaded_none V player w idle = record {
-  acts = [];
-  changes = [];
-  after = w;
-  loads = loads_none V Clock (shape_of_player player) (state_of V (shape_of_player player) w.acts) 0;
-  makes = makes_none V (shape_of_player player) w;
-  shape = refl;
-  idle = idle;
-}
 
 -- there is room for one more
 pub room_to_load : (es : List (ℕ × List ℕ)) → length es ≤ most_entries → HasRoom (length es * most_steps)

@@ -1,7 +1,6 @@
 pub mod Texts
 pub mod Faults
 pub mod Replay
-pub mod Laws
 pub mod Scripts
 pub mod FaultTexts
 pub mod Inside

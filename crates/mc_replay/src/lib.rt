@@ -14,7 +14,6 @@
 mod command;
 mod engine;
 mod fault;
-pub mod laws;
 mod lines;
 mod player;
 mod reading;

@@ -61,14 +61,6 @@ in_order_past V sh w from n [] o = omega (arith, o)
 in_order_past V sh w from n (e ∷ es) o = (o.0, o.1, o.2, o.3, in_order_past V sh w (o.0 + 1) n es o.4)
 
 -- ---- the lists
-pub none_yet : (V : ℕ) (sh : Shape) (w : List ℕ) (h : List (Change V)) → AreEntriesBelow V sh w h 0 []
-none_yet V sh w h = record {
-  here = λ k q i l s. absurd (omega (arith, l));
-  away = λ k no. refl;
-  once = λ i j d l m. absurd (omega (arith, m));
-  order = omega arith;
-}
-
 pub one_more : (V : ℕ) (sh : Shape) (w : List ℕ) (h : List (Change V)) (n q x : ℕ) (v : List ℕ) (es : List (ℕ × List ℕ)) → Agrees V sh w None h → AreEntriesBelow V sh w h n es → Stands V sh w x q n → value_held h x ≡ Some v → AreEntriesBelow V sh w h (n + 1) (es ++ (x, v) ∷ [])
 one_more V sh w h n q x v es agrees b stands value =
     let fresh : lookup (λ y. eqb x y) es ≡ None = b.away x (λ p g l s. absurd (omega (arith, l, at_one_item V sh w h x q n p g agrees stands s))) in

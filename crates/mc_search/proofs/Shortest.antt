@@ -1,10 +1,10 @@
 -- No chain is shorter than the level that was reached.
-use Rattle.std.proofs.Common.{ℕ, ◌≡◌, ◌≢◌, ◌+◌, ◌-◌, ◌*◌, ◌<◌, ◌≤◌, ◌⊎◌, inl, inr, List, [], ◌∷◌, ◌++◌, length, Bool, true, false, refl, sym, ◌∙◌, ap, subst, arith}
+use Rattle.std.proofs.Common.{ℕ, ◌≡◌, ◌≢◌, ◌+◌, ◌-◌, ◌*◌, ◌<◌, ◌≤◌, ◌⊎◌, inl, inr, List, [], ◌∷◌, ◌++◌, length, Bool, true, false, sym, ◌∙◌, ap, subst, arith}
 use Rattle.std.specs.List.{IsDistinct}
 use Rattle.std.proofs.lemmas.Bool.{cases_lt}
 use Rattle.mc_words.specs.declared.place.Place.{Place}
 use Rattle.mc_words.specs.declared.shape.Shape.{Shape}
-use Rattle.mc_words.specs.Chains.{Leads, IsChain, IsLeastLength, NoChain, beyond}
+use Rattle.mc_words.specs.Chains.{Leads, IsChain, NoChain, beyond}
 use Rattle.mc_words.specs.Keys.{first_of, second_of}
 use Rattle.mc_words.specs.Places.{slot}
 use Rattle.mc_search.specs.declared.path.Path.{Path}
@@ -125,7 +125,3 @@ least_traced sh w k i q p found chain many = record {
   within = let deep = found.tree.deep i found.queued in omega arith;
   least = λ ps g c. let least = found.least ps g c in omega arith;
 }
-
--- its length is the least
-pub least_length : (sh : Shape) (w : List ℕ) (k : ℕ) (p : Path) → IsLeastPath sh w k p → IsLeastLength sh w k (length p.places.items)
-least_length sh w k p l = record { places = p.places.items; hole = p.hole; chain = l.chain; many = refl; least = l.least }

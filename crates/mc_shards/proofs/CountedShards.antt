@@ -1,6 +1,6 @@
 -- The keys of shards are counted one shard after the other, from the last one back.
 use Rattle.std.specs.Prelude.{IfSome}
-use Rattle.std.proofs.Common.{ℕ, ◌≡◌, ◌+◌, ◌*◌, ◌<◌, ◌≤◌, ◌∙◌, get_or, List, [], ◌∷◌, length, drop, min, Some, ap, arith, subst, sym}
+use Rattle.std.proofs.Common.{ℕ, ◌≡◌, ◌+◌, ◌*◌, ◌≤◌, ◌∙◌, List, [], ◌∷◌, length, drop, Some, ap, arith, subst, sym}
 use Rattle.std.proofs.lemmas.List.{length-map}
 use Rattle.std.proofs.Math.Nat.{mul-suc}
 use Rattle.std.proofs.lemmas.List.Sums.{sum_by-cons}
@@ -15,8 +15,8 @@ use Rattle.mc_cache.specs.Plain.{Begins, history, seen}
 use Rattle.mc_cache.specs.Resting.{IsAtRest}
 use Rattle.mc_cache.specs.Turns.{HasMetAtDesk}
 use Rattle.mc_shards.proofs.Dealt.{as_many}
-use Rattle.mc_shards.proofs.ListedShards.{drop_all, from_change, from_place}
-use Rattle.mc_shards.specs.Counted.{changes_in_all, keys_in_all}
+use Rattle.mc_shards.proofs.ListedShards.{drop_all, from_change}
+use Rattle.mc_shards.specs.Counted.{keys_in_all}
 use Rattle.mc_shards.specs.Plain.{seens}
 use Rattle.mc_shards.specs.Sharded.{ArePassOf, ChangesAt, Sharded}
 
@@ -54,15 +54,3 @@ pub room_left : (items left now most many more : ℕ) → left ≡ now + 1 → m
 room_left items left now most many more next few room =
     let each : items * left ≡ items * now + items = ap (λ (n : ℕ). items * n) (next ∙ add-one now) ∙ mul-suc items now in
     omega (arith, each, few, room)
-
--- ---- the same of a holder, whose histories stay
-pub keys_more : (V m n : ℕ) (hs : List (List (Change V))) (many more : ℕ) → m ≡ n + 1 → n < length hs → many ≡ keys_in_all (drop m hs) → more ≡ key_count (get_or hs n []) → many + more ≡ keys_in_all (drop n hs)
-keys_more V m n hs many more next within was now =
-    let after = ap (λ (z : List (List (Change V))). keys_in_all z) (from_place hs n m [] next within) ∙ sum_by-cons key_count (get_or hs n []) (drop m hs) in
-    omega (arith, after, was, now)
-
-pub changes_more : (V m n : ℕ) (hs : List (List (Change V))) (many more told : ℕ) → m ≡ n + 1 → n < length hs → many ≡ min (changes_in_all (drop m hs)) 18446744073709551615 → more ≡ length (get_or hs n []) → told ≡ min (many + more) 18446744073709551615
-    → told ≡ min (changes_in_all (drop n hs)) 18446744073709551615
-changes_more V m n hs many more told next within was now is =
-    let after = ap (λ (z : List (List (Change V))). changes_in_all z) (from_place hs n m [] next within) ∙ sum_by-cons length (get_or hs n []) (drop m hs) in
-    omega (arith, after, was, now, is)

@@ -4,17 +4,13 @@ use Rattle.std.specs.Prelude.{slice_get, slice_set}
 use Rattle.std.specs.Option.{option_map}
 use Rattle.std.proofs.lemmas.List.{length-map, length_push, map-append, map-set}
 use Rattle.std.proofs.lemmas.List.Elements.{All-cons, All-head, All-nil, All-push, All-tail, All-weaker}
-use Rattle.std.proofs.lemmas.Option.{get_or_from_slice_get, none-some, same_Some, slice_get-map, slice_get_read}
+use Rattle.std.proofs.lemmas.Option.{get_or_from_slice_get, same_Some, slice_get-map, slice_get_read}
 use Rattle.std.proofs.Math.Seq.{map-set_same}
 use lib.Seq.{set-get_or}
-use Rattle.mc_words.specs.declared.policy.Policy.{Policy}
 use Rattle.mc_words.specs.Keys.{shard_of}
 use Rattle.mc_words.specs.declared.history.Change.{Change}
 use Rattle.mc_words.specs.declared.mix.Mix.{Mix}
-use Rattle.mc_words.specs.declared.shape.Shape.{Shape}
 use Rattle.mc_shared.specs.Records.{IsNewReader, Opening, ReaderRecord, new_readers, reader_record}
-use Rattle.mc_shared.specs.Views.{layout_with}
-use Rattle.mc_shared.specs.declared.layout.Layout.{Layout}
 use Rattle.mc_cache.specs.Plain.{seen}
 use Rattle.mc_cache.proofs.PlainCalls.{seen_new}
 use Rattle.mc_shards.specs.Inside.Dealt.{AreDealt}
@@ -56,16 +52,7 @@ seens_change V n rs r r' Goes was goes = record {
 pub unchanged : {A : Type 0} (n : ℕ) (xs ys : List A) → ChangesAt n xs ys (λ x y. y ≡ x) → ys ≡ xs
 unchanged {A} n xs ys c = c.is ∙ (ap (λ (x : A). slice_set xs n x) (c.goes ∙ sym (get_or_from_slice_get xs n c.before c.before c.was)) ∙ set-get_or xs n c.before)
 
--- the shape of a table
-pub at_shape : (V : ℕ) (policy : Policy) (sh : Shape) (tables : List Opening) (n : ℕ) (o : Opening) → All (λ t. t.layout ≡ layout_with V policy sh) tables → slice_get tables n ≡ Some o → o.layout.shape ≡ sh
-at_shape V policy sh [] n o a e = absurd (none-some o e)
-at_shape V policy sh (t ∷ ts) zero o a e = ap (λ (x : Opening). x.layout.shape) (sym (same_Some t o e)) ∙ ap (λ (l : Layout). l.shape) (All-head (λ (x : Opening). x.layout ≡ layout_with V policy sh) t ts a)
-at_shape V policy sh (t ∷ ts) (suc n) o a e = at_shape V policy sh ts n o (All-tail (λ (x : Opening). x.layout ≡ layout_with V policy sh) t ts a) e
-
 -- ---- while shards are opened
-pub dealt_none : AreDealt [] []
-dealt_none = record { of = refl; fresh = All-nil (λ (r : ReaderRecord). r.front ≡ []) }
-
 -- a pass gets one reader more
 pub dealt_more : (ts : List Opening) (o : Opening) (rs : List ReaderRecord) (r : ReaderRecord) → AreDealt ts rs → r.of ≡ o → r.front ≡ [] → AreDealt (ts ++ o ∷ []) (rs ++ r ∷ [])
 dealt_more ts o rs r d of blank = record {
@@ -79,10 +66,6 @@ sees_none V [] a = All-nil (λ (h : List (Change V)). h ≡ [])
 sees_none V (r ∷ rs) a =
     let Blank : ReaderRecord → Type 0 = λ x. x.front ≡ [] in
     All-cons (λ (h : List (Change V)). h ≡ []) (seen V r) (seens V rs) (seen_new V r.of r refl (All-head Blank r rs a)) (sees_none V rs (All-tail Blank r rs a))
-
-pub passes_of : (s : Sharded) (tables : List Opening) (ps : List (List ReaderRecord)) → tables ≡ s.tables → All (AreDealt tables) ps → All (ArePassOf s) ps
-passes_of s tables [] is a = All-nil (ArePassOf s)
-passes_of s tables (p ∷ ps) is a = All-cons (ArePassOf s) p ps ((All-head (AreDealt tables) p ps a).of ∙ is) (passes_of s tables ps is (All-tail (AreDealt tables) p ps a))
 
 pub passes_new : (V : ℕ) (tables : List Opening) (ps : List (List ReaderRecord)) → All (AreDealt tables) ps → All (HasSeenNothing V) ps
 passes_new V tables [] a = All-nil (HasSeenNothing V)

@@ -5,9 +5,9 @@ use mathlib.Core.Option.{Option, some}
 use lib.ListN.{get_elem?}
 use prog.Atomic.{either}
 use Rattle.atomic_table.proofs.Lists.{exchanged}
-use Rattle.atomic_table.specs.Table.{Act, Allows, Enters, Me, State, Valid, carried_after, gives, keeps, opening, put_back, stepped, takes}
+use Rattle.atomic_table.specs.Table.{Act, Allows, Me, State, Valid, carried_after, gives, keeps, put_back, stepped, takes}
 use Rattle.std.specs.declared.snapshot.Snapshot.{Snapshot}
-use Rattle.mc_shared.specs.Records.{Opening, WriterRecord}
+use Rattle.mc_shared.specs.Records.{WriterRecord}
 use Rattle.mc_cache.specs.Resting.{IsFit}
 use Rattle.mc_shards.specs.Lending.{HasTaken, IsKept}
 
@@ -19,14 +19,6 @@ Words = State WriterRecord Key
 
 abbrev Holder : Type 0
 Holder = Me WriterRecord Key
-
--- a new place
-pub kept_new : (V : ℕ) (o : Opening) (n : ℕ) (ns : List ℕ) (w : WriterRecord) (key : Key) → IsFit V o w → IsKept V o (opening (n ∷ ns) (w ∷ []) key)
-kept_new V o n ns w key fits = record { wide = omega arith; there = λ z. (w, refl, fits) }
-
--- a seat comes
-pub comes : (V n : ℕ) (key : Key) → Enters (IsKept V key.value.of) n 0 (λ found v. v ≡ key)
-comes V n key s k long small = (key, record { wide = k.wide; there = k.there }, refl)
 
 abbrev Goes : (V n id : ℕ) (key : Key) → Words → Holder → (ℕ → Holder → Type 0) → ℕ → Type 0
 Goes V n id key s m then x = (v : Key) × (a : Act WriterRecord) × Valid s.homes m.1 a × IsKept V key.value.of (stepped s 0 x id m.1 v a) × then (get_or s.words 0 0) (v, carried_after m.1 a)

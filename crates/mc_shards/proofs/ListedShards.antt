@@ -152,6 +152,3 @@ pub held_all : (V : ℕ) (mix : Mix) (many n : ℕ) (hs : List (List (Change V))
 held_all V mix many n hs es shards long none l =
     let whole : AreListed V mix many 0 hs es = subst (λ (k : ℕ). AreListed V mix many k (drop k hs) es) none l in
     entries_of_all V mix hs es (λ k. shard_below mix (length hs) k (omega (arith, long, shards.0))) (subst (λ (m : ℕ). AreListed V mix m 0 hs es) (sym long) whole)
-
-pub held_none : (V : ℕ) (mix : Mix) (many n : ℕ) (hs : List (List (Change V))) (es : List (ℕ × List ℕ)) → n ≡ length hs → es ≡ [] → AreListed V mix many n (drop n hs) es
-held_none V mix many n hs es is none = subst (λ (z : List (List (Change V))). AreListed V mix many n z es) (sym (drop_all hs n is)) none

@@ -10,7 +10,7 @@ use Rattle.mc_words.specs.declared.history.Change.{Change}
 use Rattle.mc_words.specs.declared.mix.Mix.{Mix}
 use Rattle.mc_writer.specs.GivenWay.{Holds}
 use Rattle.mc_writer.specs.declared.entry.Entry.{Entry}
-use Rattle.mc_shards.proofs.ListedShards.{held_all, held_more, held_none}
+use Rattle.mc_shards.proofs.ListedShards.{held_all, held_more}
 use Rattle.mc_shards.specs.Inside.Listed.{AddsStamped, AreListed, own_stamped_of}
 use Rattle.mc_shards.specs.Own.{own_of}
 use Rattle.mc_shards.specs.Plain.{history_of}
@@ -44,12 +44,6 @@ own_stamps V mix many n hs (e ∷ es) long a =
     ]
 
 -- ---- before the first, after one more, after all
-pub stamped_none : (V : ℕ) (mix : Mix) (hs : List (List (Change V))) (es : List (Entry V)) → es ≡ [] → AreStamped V mix hs es
-stamped_none V mix hs es none = subst (λ (xs : List (Entry V)). AreStamped V mix hs xs) (sym none) (All-nil (λ (e : Entry V). Holds (history_of mix hs e.key) e.key (Some e)))
-
-pub pairs_none : (V : ℕ) (mix : Mix) (many n : ℕ) (hs : List (List (Change V))) (es : List (Entry V)) → n ≡ length hs → es ≡ [] → AreListed V mix many n (drop n hs) (map pair_of es)
-pairs_none V mix many n hs es is none = held_none V mix many n hs (map pair_of es) is (ap (map pair_of) none)
-
 pub stamped_more : (V : ℕ) (mix : Mix) (many n : ℕ) (hs : List (List (Change V))) (es es' : List (Entry V)) → length hs ≡ many → AreStamped V mix hs es → AddsStamped V mix many n (get_or hs n []) es es' → AreStamped V mix hs es'
 stamped_more V mix many n hs es es' long were adds =
     subst (λ (xs : List (Entry V)). AreStamped V mix hs xs) (sym adds.2)

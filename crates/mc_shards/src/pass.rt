@@ -96,8 +96,7 @@ impl<const V: usize> Pass<V> {
         lender.get_or_lend(cache, reader, key)
     }
 
-    /// Tries once for the turn of the key's shard, and with it looks the key up, as `Desk::try_peek` does. Condition: the pass belongs to
-    /// these shards.
+    /// Tries once for the turn of the key's shard, and with it calls `Writer::peek`. Condition: the pass belongs to these shards.
     pub fn try_peek(&mut self, shards: &Shards<V>, key: u64) -> Option<Reply<V>>
         requires of { ArePassOf shards.now self.old }
         ensures of { ArePassOf shards.now self.new }

@@ -35,10 +35,6 @@ bit_stays t marks bit bit' c d = d.is ∙ sym c.is
 pub marked_is_set : (t : Trace) (marks bit bit' : ℕ) → Coherent t marks bit → Coherent t (marks + 1) bit' → bit' ≡ 1
 marked_is_set t marks bit bit' c d = let a = c.seen in let b = d.is in omega arith
 
--- and after one of the writer
-pub touched_is_set : (t : Trace) (marks bit : ℕ) → Coherent (trace_marked t) marks bit → bit ≡ 1
-touched_is_set t marks bit d = let b = d.is in omega arith
-
 -- a hand that leaves the bit clear reported the bit that was there, and counted all marks
 pub swept_is_told : (t : Trace) (marks n bit told : ℕ) → Coherent t marks bit → Coherent (trace_swept t told n) marks 0 → (told ≡ bit) × (n ≡ marks)
 swept_is_told t marks n bit told c d =

@@ -1,9 +1,5 @@
 -- A lookup among all acts and a whole record.
-use mathlib.Core.Logic.{dite}
-use mathlib.Core.Option.{some, some-injective, some-ne-none}
-use native.Mathlib.Decide.{dec_le}
-use lib.ListN.{get_elem?}
-use Rattle.std.proofs.Common.{◌<◌, get_or, ◌≡◌, ◌⊎◌, ⊎_elim, inl, inr, ℕ, zero, suc, ◌+◌, ◌-◌, ◌≤◌, List, [], ◌∷◌, ◌++◌, length, ap, sym, ◌∙◌, subst, arith}
+use Rattle.std.proofs.Common.{get_or, ◌≡◌, ◌⊎◌, ⊎_elim, inl, inr, ℕ, zero, suc, ◌+◌, ◌-◌, ◌≤◌, List, [], ◌∷◌, ◌++◌, length, ap, sym, ◌∙◌, subst, arith}
 use Rattle.mc_words.specs.History.{IsTrueAnswer}
 use Rattle.mc_words.specs.Keys.{stripe_of}
 use Rattle.mc_words.specs.declared.history.Reply.{Reply}
@@ -19,7 +15,7 @@ use Rattle.mc_theory.specs.States.{State}
 use Rattle.mc_theory.proofs.Lists.Fronts.{front_all, front_old}
 use Rattle.mc_theory.proofs.Lists.Readings.{read_parts, rise_parts}
 use Rattle.mc_theory.proofs.Replies.TrueReplies.{replies_are_true}
-use Rattle.mc_shared.specs.ExactFronts.{steps_by, StepsRise, made_by, StandsAt, StandAt}
+use Rattle.mc_shared.specs.ExactFronts.{made_by, StandsAt, StandAt}
 use Rattle.mc_shared.specs.ExactLaws.{LookupsAreInTime, LookupsStandInOrder}
 use Rattle.mc_shared.specs.Views.{Note, layout_with}
 use Rattle.mc_shared.specs.declared.layout.Layout.{Layout}
@@ -30,25 +26,6 @@ use Rattle.mc_shared.proofs.ExactReadings.{entered, readings_are_newest}
 made_most : (a n : ℕ) (ts : List Note) → made_by a n ts ≤ length ts
 made_most a n [] = omega arith
 made_most a n (t ∷ ts) = let h = made_most a n ts in omega (arith, h)
-
--- of notes that are all later than n, no act was made by n
-made_none : (a n f : ℕ) (ts : List Note) (g : ℕ) → n < f → StepsRise a f ts g → made_by a n ts ≡ 0
-made_none a n f [] g l r = omega arith
-made_none a n f (t ∷ ts) g l r = let h = made_none a n (steps_by a t) ts g (omega (arith, l, r.0)) r.1 in omega (arith, h, l, r.0)
-
--- the acts that were made when a record had at most n entries are a first part of all: just those with a note of at most n
-pub made_before : (a n f : ℕ) (ts : List Note) (g k : ℕ) (t : Note) → StepsRise a f ts g → get_elem? ts k ≡ some t → (steps_by a t ≤ n → k < made_by a n ts) × (k < made_by a n ts → steps_by a t ≤ n)
-made_before a n f [] g k t r e = absurd (some-ne-none t (sym e))
-made_before a n f (x ∷ xs) g zero t r e =
-    let same : steps_by a x ≡ steps_by a t = ap (steps_by a) (some-injective _ _ e) in (
-      (λ le. omega (arith, same, le)),
-      (λ some'. dite (dec_le (steps_by a x) n) (λ le. omega (arith, same, le)) (λ more. absurd (omega (arith, more, some', made_none a n (steps_by a x) xs g (omega (arith, more)) r.1)))),
-    )
-made_before a n f (x ∷ xs) g (suc k) t r e =
-    let h = made_before a n (steps_by a x) xs g k t r.1 e in
-    dite (dec_le (steps_by a x) n)
-    (λ le. ((λ l. omega (arith, le, h.0 l)), (λ l. h.1 (omega (arith, le, l)))))
-    (λ more. let none = made_none a n (steps_by a x) xs g (omega (arith, more)) r.1 in ((λ l. absurd (omega (arith, none, h.0 l))), (λ l. absurd (omega (arith, none, more, l)))))
 
 -- no entry stands later than the acts that were made by then
 stands_by : (x : Access) (front made : ℕ) → StandsAt x front made → front ≤ made

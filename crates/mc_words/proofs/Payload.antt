@@ -60,9 +60,3 @@ payload_from V sh w i n v has is =
                 has.1 j less ∙ sym (get_or_append_left v (n ∷ []) 0 j less)
           ],
     )
-
--- an item that has these words has the value in them
-pub value_in : (V : ℕ) (sh : Shape) (w : List ℕ) (i : ℕ) (xs : List ℕ) → HasPayload V sh w i xs → HasValue V sh w i (value_of V xs)
-value_in V sh w i xs has =
-    let many = value_length V xs has.0 in
-    (many, λ j l. has.1 j (omega (arith, l, many, has.0, value_fits V)) ∙ sym (get_or-take V xs j 0 (omega (arith, l, many))))

@@ -3,7 +3,6 @@ pub mod Pens
 pub mod RunningDeeds
 pub mod WholeCalls
 pub mod Rests
-pub mod AbsentCalls
 pub mod Chosen
 pub mod Picked
 pub mod Searched

@@ -5,9 +5,8 @@ use Rattle.mc_theory.specs.Lists.{Made}
 use Rattle.mc_theory.specs.declared.act.Act.{Act}
 use Rattle.mc_plan.specs.Due.{AreDue}
 use Rattle.mc_plan.specs.Making.{as_made}
-use Rattle.mc_shared.specs.Records.{HasActed}
 use Rattle.mc_shared.specs.Views.{with_bit}
-use Rattle.mc_shared.proofs.GrownNotes.{grow_acted, grow_self, grow_trans}
+use Rattle.mc_shared.proofs.GrownNotes.{grow_self, grow_trans}
 use Rattle.mc_writer.specs.Inside.Pens.{IsDue, IsSamePen, HasMade, HasMadeUpTo}
 use Rattle.mc_writer.specs.declared.pen.Pen.{Pen}
 use Rattle.mc_writer.proofs.Due.{due_made}
@@ -43,10 +42,6 @@ shape_kept s = ap (λ c. c.now.layout.shape) s.cells
 
 pub same_then : {V : ℕ} {p q r : Pen V} → IsSamePen V p q → IsSamePen V q r → IsSamePen V p r
 same_then s t = record { cells = t.cells ∙ s.cells; seat = t.seat ∙ s.seat }
-
--- one act
-pub made_one : {V : ℕ} {p q : Pen V} {a : Act} → IsSamePen V p q → HasActed p.seat.now q.seat.now a 0 → HasMade V (a ∷ []) p q
-made_one s h = record { same = s; of = h.of; acts = h.acts; notes = grow_acted h }
 
 pub made_none : (V : ℕ) (p : Pen V) → HasMade V [] p p
 made_none V p = record { same = record { cells = refl; seat = refl }; of = refl; acts = sym (append-nil p.seat.now.acts); notes = grow_self p.seat.now.notes }

@@ -1,8 +1,8 @@
-//! Puts of many entries in one call, by the writer and in a turn: none, one group of 16, one more, and a hundred.
+//! Puts of many entries in one call: none, one group of 16, one more, and a hundred.
 ghost use Rattle.std.specs.Prelude.{◌≡◌, ◌≤◌};
 
 use crate::opened::open_for_one;
-use mc_cache::{Cache, Desk, Put, PutError, Reader, Shape, Writer};
+use mc_cache::{Cache, Put, PutError, Shape, Writer};
 use std::test::Fail;
 
 const MOST: usize = 100;
@@ -43,23 +43,6 @@ fn puts_all(cache: &Cache<1>, writer: &mut Writer<1>, first: u64, many: usize) -
     are_stored(&answers[..many], before)
 }
 
-fn puts_all_in_a_turn(
-    cache: &Cache<1>,
-    desk: &Desk<1>,
-    pass: &mut Reader<1>,
-    first: u64,
-    many: usize,
-) -> bool
-    requires of { (desk.now ≡ cache.now) × (pass.old.of ≡ cache.now) }
-    requires many { many ≤ 100 }
-    ensures { pass.new.of ≡ pass.old.of }
-{
-    let entries = entries_from(first);
-    let mut answers = [Err(PutError::NoPath); MOST];
-    desk.try_put_many(cache, pass, &entries[..many], &mut answers[..many])
-        && are_stored(&answers[..many], first)
-}
-
 #[test]
 fn a_writer_puts_many_in_one_call(rt: HostRuntime) -> Result<(), Fail> {
     let (cache, mut writer, _reader) = open_for_one(rt.alloc(), Shape::for_items(1000)?)?;
@@ -68,18 +51,5 @@ fn a_writer_puts_many_in_one_call(rt: HostRuntime) -> Result<(), Fail> {
     assert!(rt; puts_all(&cache, &mut writer, 16, 17));
     assert!(rt; puts_all(&cache, &mut writer, 33, 100));
     assert!(rt; writer.len() == 133);
-    Ok(())
-}
-
-#[test]
-fn a_turn_puts_many_in_one_call(rt: HostRuntime) -> Result<(), Fail> {
-    let (cache, writer, mut pass) = open_for_one(rt.alloc(), Shape::for_items(1000)?)?;
-    let desk = Desk::new(writer);
-    assert!(rt; puts_all_in_a_turn(&cache, &desk, &mut pass, 0, 0));
-    assert!(rt; puts_all_in_a_turn(&cache, &desk, &mut pass, 0, 16));
-    assert!(rt; puts_all_in_a_turn(&cache, &desk, &mut pass, 16, 17));
-    assert!(rt; puts_all_in_a_turn(&cache, &desk, &mut pass, 33, 100));
-    let left = desk.end().map(|writer| writer.len());
-    assert!(rt; left == Some(133));
     Ok(())
 }

@@ -83,11 +83,9 @@ fn returns_entries(cache: &Cache<1>, desk: &Desk<1>, pass: &mut Reader<1>) -> bo
         && desk.try_call(cache, pass, Swapping(6, &[8])) == Ok(second(entry(6, 7, 1)))
         && desk.try_call(cache, pass, SwappingIf(6, 2, &[9])) == Ok(Replaced { at, old })
         && desk.try_call(cache, pass, SwappingIf(6, 2, &[10])) == changed
-        && desk.try_len(cache, pass) == Some(1)
-        && desk.try_peek(cache, pass, 6) == Some(found())
+        && pass.get(cache, 6) == found()
         && desk.try_call(cache, pass, Taking(6)) == Ok(taken())
         && desk.try_call(cache, pass, Taking(6)) == Ok(Take::NotThere { at: 4 })
-        && desk.try_len(cache, pass) == Some(0)
 }
 
 // Whether a key is put if it is absent, and otherwise its stamp is told. Two keys are more than the cache has items.

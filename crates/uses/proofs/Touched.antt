@@ -1,29 +1,17 @@
 -- What the map holds of a key changes only by a change of the key.
-use Rattle.std.proofs.Common.{ℕ, ◌≡◌, ◌≢◌, ◌∙◌, ◌⊎◌, List, [], ◌∷◌, ◌++◌, length, All, Some, None, Result, Ok, Err, ap, append-nil, append_assoc, arith, inl, inr, refl, subst, sym}
-use Rattle.std.proofs.Math.Seq.{get_or-append_seam}
+use Rattle.std.proofs.Common.{ℕ, ◌≡◌, ◌≢◌, ◌∙◌, ◌⊎◌, List, [], ◌∷◌, ◌++◌, Some, None, Result, Ok, Err, ap, append-nil, append_assoc, inl, inr, refl, subst, sym}
 use Rattle.std.proofs.lemmas.Bool.Decides.{eqb_tells}
-use Rattle.std.proofs.lemmas.List.{length_push}
-use Rattle.std.proofs.lemmas.List.Elements.{All-get_or}
 use Rattle.mc_cache.specs.Change.{Change}
 use Rattle.mc_cache.specs.Entry.{Entry}
 use Rattle.mc_cache.specs.IfError.{IfError}
 use Rattle.mc_cache.specs.IfError.TheVariants as why
 use Rattle.mc_cache.specs.Plain.{Begins, PutIfMeans, TurnMeans, map_value}
 use Rattle.mc_cache.specs.PlainLaws.{HistoryLaws, key_of}
-use Rattle.mc_cache.specs.Stamped.{AreStampedEntriesOf}
-use Rattle.mc_cache.specs.Taking.{Holds}
 use Rattle.mc_cache.specs.declared.desk.DeskError.{DeskError}
 use Rattle.mc_cache.specs.declared.desk.DeskError.TheVariants as desk
 use Rattle.uses.proofs.Stamps.{none_some, same_stamp}
 use Rattle.uses.specs.Owned.{HasEntry}
 use Rattle.uses.specs.Touched.{SaysTouched, WasTouched}
-
--- the last of the entries that were listed is one of them
-pub last_has : (h : List (Change 1)) (es others : List (Entry 1)) (entry : Entry 1) → es ≡ others ++ entry ∷ [] → AreStampedEntriesOf 1 h es → HasEntry h entry
-last_has h es others entry is are =
-    let Has : Entry 1 → Type 0 = λ e. Holds h e.key (Some e) in
-    let at = All-get_or Has (others ++ entry ∷ []) (length others) entry (omega (arith, length_push others entry)) (subst (All Has) is are.stamps) in
-    (subst Has (get_or-append_seam others entry [] entry) at).1
 
 module _ (law : HistoryLaws 1) where
   kept_or_touched : (h later : List (Change 1)) (k : ℕ) → (map_value (h ++ later) k ≡ map_value h k) ⊎ WasTouched h (h ++ later) k

@@ -1,14 +1,12 @@
 -- What a refused put on the condition of a stamp says.
 use Rattle.std.specs.Prelude.{ℕ, ◌≡◌, List, ◌∷◌, ◌++◌, Result, Err}
 use Rattle.mc_cache.specs.Change.{Change}
-use Rattle.mc_cache.specs.Entry.{Entry}
 use Rattle.mc_cache.specs.IfError.{IfError}
 use Rattle.mc_cache.specs.IfError.TheVariants as why
 use Rattle.mc_cache.specs.Plain.{Begins}
 use Rattle.mc_cache.specs.PlainLaws.{key_of}
 use Rattle.mc_cache.specs.declared.desk.DeskError.{DeskError}
 use Rattle.mc_cache.specs.declared.desk.DeskError.TheVariants as desk
-use Rattle.uses.specs.Owned.{HasEntry}
 
 -- after the one history, the other has a change of the key
 pub record WasTouched (h h' : List (Change 1)) (k : ℕ) : Type 0 where
@@ -24,10 +22,3 @@ abbrev pub SaysTouched : List (Change 1) → List (Change 1) → ℕ → Result 
 SaysTouched h h' k (Err (desk.Call (why.NotThere at))) = WasTouched h h' k
 SaysTouched h h' k (Err (desk.Call (why.Changed stands))) = WasTouched h h' k
 SaysTouched h h' k told = Unit {0}
-
--- the entry was listed at some history that a pass saw between the two, and a refusal reports a change of its key after that
-pub record IsOverwrittenOrTouched (h h' : List (Change 1)) (entry : Entry 1) (told : Result ℕ (DeskError IfError)) : Type 0 where
-  pub listed : List (Change 1)
-  pub begins : Begins h listed
-  pub has : HasEntry listed entry
-  pub says : SaysTouched listed h' entry.key told

@@ -1,7 +1,5 @@
 -- A turn in its parts.
-use Rattle.std.specs.Prelude.{ℕ, ◌≡◌, List, Result, Ok, Err, IfOk}
-use Rattle.mc_words.specs.declared.history.Change.{Change}
-use Rattle.mc_words.specs.declared.no_memory.NoMemory.{NoMemory}
+use Rattle.std.specs.Prelude.{ℕ, ◌≡◌, Result, Ok, Err}
 use Rattle.mc_words.specs.declared.shape.Shape.{Shape}
 use Rattle.mc_shared.specs.Records.{Opening, ReaderRecord, WriterRecord, reader_record}
 use Rattle.mc_shared.specs.Views.{IsFrontOf}
@@ -27,7 +25,3 @@ pub record HasEnded (V : ℕ) (sh : Shape) (old new : ReaderRecord) (w : WriterR
 abbrev pub turned : {T E : Type 0} → Result T E → Result T (DeskError E)
 turned (Ok done) = Ok done
 turned (Err why) = Err (Call why)
-
--- a list that changes nothing, of entries of which this holds
-abbrev pub Lists : {T : Type 0} {V : ℕ} → List (Change V) → List (Change V) → Result T NoMemory → (T → Type 0) → Type 0
-Lists h h' told Are = (h' ≡ h) × IfOk told Are

@@ -1,5 +1,5 @@
 -- What a put makes that takes its item from another key, or finds every item in use and recent.
-use Rattle.std.proofs.Common.{ℕ, ◌≡◌, ◌+◌, ◌*◌, ◌%◌, ◌<◌, ◌≤◌, ◌∙◌, inl, inr, List, [], ◌∷◌, ◌++◌, Option, Some, None, Ok, Err, ap, refl, sym, subst, length, arith, length-append}
+use Rattle.std.proofs.Common.{ℕ, ◌≡◌, ◌+◌, ◌*◌, ◌%◌, ◌<◌, ◌≤◌, ◌∙◌, inl, inr, List, [], ◌∷◌, ◌++◌, Some, None, Ok, Err, ap, refl, sym, subst, length, arith, length-append}
 use Rattle.std.proofs.Math.Nat.{mod-lt}
 use Rattle.mc_words.specs.declared.policy.Policy.TheVariants.{Clock, ScanResistant}
 use Rattle.mc_words.specs.declared.policy.Policy.{Policy}
@@ -9,9 +9,9 @@ use Rattle.mc_words.specs.declared.place.Place.{Place}
 use Rattle.mc_words.specs.Answers as means
 use Rattle.mc_words.specs.Chains.{IsChain}
 use Rattle.mc_words.specs.Checks.{policy_of, shape_of}
-use Rattle.mc_words.specs.History.{IsWord, map_value}
+use Rattle.mc_words.specs.History.{IsWord}
 use Rattle.mc_words.specs.Places.{IsPlace, item, moment, slot_number}
-use Rattle.mc_words.specs.Standing.{NamesItem, Stands, AgreesAt, IsAbsent}
+use Rattle.mc_words.specs.Standing.{NamesItem, Stands, IsAbsent}
 use Rattle.mc_words.specs.declared.shape.Shape.{Shape}
 use Rattle.mc_theory.specs.States.{State}
 use Rattle.mc_theory.specs.declared.act.Act.{Act}
@@ -35,7 +35,7 @@ use Rattle.mc_plan.specs.Replacing.{CanReplace, replace_acts}
 use Rattle.mc_search.specs.Sweeps.{Swept, IsOver, IsSearch, IsSearchBy, victim_of}
 use Rattle.mc_plan.proofs.Calls.AfterPlan.{deeds_put, needs_item, next_word}
 use Rattle.mc_plan.proofs.Calls.NewKeys.{new_marked, stored_marks}
-use Rattle.mc_plan.proofs.Deeds.QuietStates.{agrees_quiet, keys_quiet, stands_held}
+use Rattle.mc_plan.proofs.Deeds.QuietStates.{agrees_quiet, stands_held}
 use Rattle.mc_plan.proofs.Puts.Replacements.{evictions_room}
 use Rattle.mc_plan.proofs.Calls.SweptStates.{over_without, swept_below, sweep_allowed, swept_cleared, swept_hand, swept_home, sweep_quiet, swept_still, victim_below}
 
@@ -62,15 +62,6 @@ victim_used V b k v room call s rs i on =
 pub victim_stands : (V : ℕ) (b : Books) (k : ℕ) (v : List ℕ) (room : Room) (call : Call) (s : State V) (rs : List Swept) (i : ℕ) → IsReplacing V b k v room call s rs i
     → (i < (shape_of b.checked).items) × ((q : ℕ) × Stands V (shape_of b.checked) s.words (item V (shape_of b.checked) s.words i 0) q i)
 victim_stands V b k v room call s rs i on = used_stands V (record b { hand = on.before }) s i on.waits.known (victim_used V b k v room call s rs i on)
-
--- a key stands at one item
-one_item_on : (V : ℕ) (sh : Shape) (w : List ℕ) (k q i p g : ℕ) (o : Option (List ℕ)) → AgreesAt V sh w k o → Stands V sh w k q i → Stands V sh w k p g → g ≡ i
-one_item_on V sh w k q i p g None a one two = absurd (a q i one)
-one_item_on V sh w k q i p g (Some v) a one two = (a.2.once p g two).1 ∙ sym (a.2.once q i one).1
-
--- while nothing runs a key stands at one item alone
-pub one_item : (V : ℕ) (sh : Shape) (s : State V) (k q i p g : ℕ) → IsQuiet V sh s → Stands V sh s.words k q i → Stands V sh s.words k p g → g ≡ i
-one_item V sh s k q i p g quiet one two = one_item_on V sh s.words k q i p g (map_value s.history k) (keys_quiet V sh s quiet k) one two
 
 -- ---- CLOCK's sweep
 pub swept_by : (V : ℕ) (b : Books) (waiting : Waiting V) (call : Call) (s : State V) (rs : List Swept) → IsSweeping V b waiting call s rs → IsSearchBy (policy_of b.checked) (shape_of b.checked).items s.hand rs

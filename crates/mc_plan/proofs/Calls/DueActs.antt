@@ -1,5 +1,5 @@
 -- Acts of a plan, made one after the other.
-use Rattle.std.proofs.Common.{ℕ, ◌≡◌, ◌≤◌, ◌∙◌, List, [], ◌∷◌, ◌++◌, Some, refl, sym, subst, append_assoc, append-nil}
+use Rattle.std.proofs.Common.{ℕ, ◌≡◌, ◌≤◌, ◌∙◌, List, [], ◌∷◌, ◌++◌, Some, refl, sym, subst, append_assoc}
 use Rattle.mc_words.specs.Checks.{policy_of, shape_of}
 use Rattle.mc_words.specs.declared.shape.Shape.{Shape}
 use Rattle.mc_theory.specs.Acts.{IsAllowed}
@@ -38,14 +38,6 @@ due_made V sh all acts a due d =
 pub due_may : (V : ℕ) → DueActsCanBeMade V
 due_may V sh all acts a due d =
     (d.allowed.0, changes_left V sh (state_of V sh acts) (a ∷ due) 0 a sh.limit d.allowed refl d.quiet d.within, due_made V sh all acts a due d)
-
--- if none is due any more, all were made
-pub all_made : (V : ℕ) (sh : Shape) (all acts : List Made) → AreDue V sh all acts [] → acts ≡ all
-all_made V sh all acts d = sym (append-nil acts) ∙ d.whole
-
--- acts in two parts
-pub due_apart : (V : ℕ) (sh : Shape) (all acts : List Made) (xs ys due : List Act) → AreDue V sh all acts ((xs ++ ys) ++ due) → AreDue V sh all acts (xs ++ (ys ++ due))
-due_apart V sh all acts xs ys due d = subst (λ (zs : List Act). AreDue V sh all acts zs) (append_assoc xs ys due) d
 
 -- ---- the hand
 pub sweep_may : (V : ℕ) → SweepsCanRead V

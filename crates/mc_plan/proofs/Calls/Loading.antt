@@ -15,10 +15,6 @@ use Rattle.mc_plan.specs.declared.answer.Why.TheVariants.{NoPath, NoItem, Spent}
 use Rattle.mc_plan.specs.Loads.{LoadsBy, changes_by, left_by}
 use Rattle.mc_plan.specs.WholeCalls.{AnsweredBy, KeptCall, Means}
 
--- no entries
-pub loads_none : (V : ℕ) (policy : Policy) (sh : Shape) (s : State V) (n : ℕ) → LoadsBy V sh policy s n [] [] [] []
-loads_none V policy sh s n = (refl, refl, refl)
-
 -- one entry more
 pub loads_more : (V : ℕ) (policy : Policy) (sh : Shape) (s : State V) (n m : ℕ) (es : List (ℕ × List ℕ)) (k : ℕ) (v : List ℕ) (acts more : List Made) (changes : List (Change V)) (left : List (ℕ × Why)) (told : Result Put Why) → LoadsBy V sh policy s n es acts changes left → m ≡ n + length es
     → AnsweredBy V sh policy (KeptCall k v) (after_all sh s acts) more (answer.Kept told) → LoadsBy V sh policy s n (es ++ (k, v) ∷ []) (acts ++ more) (changes ++ changes_by k v told) (left ++ left_by m told)

@@ -173,18 +173,6 @@ pub swept_cleared : (V : ℕ) (sh : Shape) (s : State V) (items : ℕ) (rs : Lis
 swept_cleared V sh s items [] i searches found = absurd (cc)
 swept_cleared V sh s items (r ∷ rs) i searches found = last_cleared V sh s items r rs searches ∙ found
 
--- the hand is then one past the victim of a search
-pub past_victim : (V : ℕ) (sh : Shape) (s : State V) (rs : List Swept) (i : ℕ) → IsSearch sh.items rs → victim_of rs ≡ Some i → (after_all sh s (hand_acts rs)).hand ≡ (i + 1) % sh.items
-past_victim V sh s [] i searches found = absurd (cc)
-past_victim V sh s (r ∷ []) i searches found = elim (first_victim r [] i found) [
-  | inl h ↦ ap (λ (j : ℕ). (j + 1) % sh.items) h.1
-  | inr h ↦ absurd (cc (h.1))
-]
-past_victim V sh s (r ∷ x ∷ rs) i searches found = elim (first_victim r (x ∷ rs) i found) [
-  | inl h ↦ absurd (false≢true (sym (first_set sh.items r x rs searches) ∙ h.0))
-  | inr h ↦ past_victim V sh (after_act sh s (Hand r.item) r.bit) (x ∷ rs) i (search_tail sh.items r (x ∷ rs) searches) h.1
-]
-
 -- ---- which acts of the hand are allowed
 -- the hand reads an item between two deeds
 is_allowed : (V : ℕ) (sh : Shape) (s : State V) (i : ℕ) → s.phase ≡ Quiet → i < sh.items → IsAllowed sh s (Hand i)

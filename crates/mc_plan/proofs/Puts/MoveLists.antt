@@ -1,6 +1,5 @@
 -- Moves as a list, and their acts.
-use Rattle.std.proofs.Common.{ℕ, ◌≡◌, ◌+◌, ◌<◌, ◌≤◌, ◌∙◌, List, [], ◌∷◌, ◌++◌, ap, drop, get_or, refl, sym, length, append_assoc, append-nil, add-one, drop-cons}
-use Rattle.std.proofs.Math.ListN.{drop_of_length-le}
+use Rattle.std.proofs.Common.{ℕ, ◌≡◌, ◌+◌, ◌∙◌, List, [], ◌∷◌, ◌++◌, ap, refl, sym, append_assoc}
 use Rattle.mc_words.specs.declared.policy.Policy.{Policy}
 use Rattle.mc_words.specs.declared.place.Place.{Place}
 use Rattle.mc_words.specs.declared.shape.Shape.{Shape}
@@ -18,18 +17,6 @@ use Rattle.mc_plan.specs.Replacing.{replace_acts}
 pub moves_push : (ms : List Move) (m : Move) → acts_of_moves (ms ++ m ∷ []) ≡ acts_of_moves ms ++ move_acts m.key m.word m.from m.to
 moves_push [] m = refl
 moves_push (x ∷ ms) m = ap (λ (acts : List Act). move_acts x.key x.word x.from x.to ++ acts) (moves_push ms m)
-
--- the acts of one move more are in the list, and those of one are left less
-pub move_step : (acts : List Act) (j : ℕ) (ms : List Move) (d : Move) (m : Move) → j < length ms → m ≡ get_or ms j d
-    → (acts ++ move_acts m.key m.word m.from m.to) ++ acts_of_moves (drop (j + 1) ms) ≡ acts ++ acts_of_moves (drop j ms)
-move_step acts j ms d m l is =
-    let parts : drop j ms ≡ get_or ms j d ∷ drop (j + 1) ms = rw add-one (drop-cons ms j d l) in
-    append_assoc acts (move_acts m.key m.word m.from m.to) (acts_of_moves (drop (j + 1) ms))
-    ∙ ap (λ (xs : List Move). acts ++ acts_of_moves xs) (ap (λ (x : Move). x ∷ drop (j + 1) ms) is ∙ sym parts)
-
--- no move is left
-pub moves_done : (acts all : List Act) (n : ℕ) (ms : List Move) → length ms ≤ n → acts ++ acts_of_moves (drop n ms) ≡ all → acts ≡ all
-moves_done acts all n ms l left = sym (append-nil acts) ∙ ap (λ (rest : List Move). acts ++ acts_of_moves rest) (sym (drop_of_length-le ms l)) ∙ left
 
 -- the acts that put a new key
 pub stored_acts : (policy : Policy) (V : ℕ) (sh : Shape) (w : List ℕ) (k : ℕ) (v : List ℕ) (ps : List Place) (hole : Place) (listed : List Move) (storing : Storing) → acts_of_moves (moves_of listed storing.moves) ≡ moves_acts V sh w ps hole → storing.place ≡ first_place ps hole
