@@ -66,7 +66,8 @@ impl Choice {
         ensures items { self.new.items ≡ self.old.items }
         ensures sets { (self.new.fresh ≡ self.old.fresh) × (self.new.proven ≡ self.old.proven) }
     {
-        self.notes.fit(self.fresh.len() + self.proven.len());
+        let used = u64::from(self.fresh.len()) + u64::from(self.proven.len());
+        self.notes.fit(used);
     }
 
     // A new item is proven from now on.

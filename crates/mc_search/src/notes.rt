@@ -56,13 +56,14 @@ impl Notes {
 
     /// Uses about as many places as items are in use, which is one more or one less than before. A table may hold far fewer keys than it could, if
     /// they are evicted by their weights: then keys would stay noted for too long.
-    pub(crate) fn fit(&mut self, used: u32)
+    pub(crate) fn fit(&mut self, used: u64)
         requires { AreNotes self.old }
         ensures { AreNotes self.new }
     {
-        if used > self.places {
+        let places = u64::from(self.places);
+        if used > places {
             self.places = (2 * self.places).min(self.prints.len() as u32);
-        } else if used < self.places / 8 * 3 {
+        } else if used < places / 8 * 3 {
             self.places /= 2;
         }
     }
