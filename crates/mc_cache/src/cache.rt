@@ -21,11 +21,13 @@ impl<const V: usize> Model for Cache<V> {
 
 impl<const V: usize> Cache<V> {
     ghost use Rattle.mc_words.specs.Places.{IsWidth};
+    ghost use Rattle.mc_words.specs.Shapes.{IsShape};
 
-    /// What always holds of a cache, for proofs: a value has from 1 to 8 words. Does nothing at run time.
+    /// What always holds of a cache, for proofs: a value has from 1 to 8 words, and the shape was checked. Does nothing at run time.
     #[inline(always)]
     pub fn known(&self)
-        ensures { IsWidth V }
+        ensures width { IsWidth V }
+        ensures shape { IsShape self.now.layout.shape }
     {
         self.cells.checked();
     }

@@ -23,7 +23,7 @@ use Rattle.mc_shared.proofs.OrderedLookups.{lookups_are_in_time}
 use Rattle.mc_reader.specs.Records.{HaveLooked}
 use Rattle.mc_writer.specs.WriterCalls.{RepliesNow}
 use Rattle.mc_executions.specs.Executions.{TableState, IsExecution, HasRecord, HasActs}
-use Rattle.mc_executions.specs.TimedLookups.{HoldsNow, history_at, IsTimed, LooksBetween, LookupsAreTimed, GetsAreTimed, ManyAreTimed, WritersGetsAreTimed, BesideIsTimed, FallbacksAreTimed}
+use Rattle.mc_executions.specs.TimedLookups.{HoldsNow, history_at, IsTimed, LooksBetween, LookupsAreTimed, GetsAreTimed, ManyAreTimed, WritersGetsAreTimed, BesideIsTimed}
 use Rattle.mc_executions.proofs.ExecutionRuns.{FoundEntry, same_parts, entry_between, record_there, front_between, acts_are, records_pass}
 use Rattle.mc_executions.proofs.TimedChanges.{begins_all, holds_between, many_rise}
 
@@ -139,7 +139,7 @@ now_true h k (Absent at) x = (omega (arith, x.1), ap (λ (z : List (Change _)). 
 now_true h k Busy x = tt
 
 module _ (V : ℕ) {policy : Policy} (sh : Shape) (states : ℕ → TableState) (run : IsExecution (layout_with V policy sh) states) where
-  now_timed : (n k : ℕ) (h : List (Change V)) (reply : Reply V) → history_at V sh states run n ≡ h → HoldsNow h k reply → IsTimed V sh states run k reply n n
+  pub now_timed : (n k : ℕ) (h : List (Change V)) (reply : Reply V) → history_at V sh states run n ≡ h → HoldsNow h k reply → IsTimed V sh states run k reply n n
   now_timed n k h reply same now = by_reply reply (subst (λ (z : List (Change V)). HoldsNow z k reply) (sym same) now)
     where
       by_reply : (y : Reply V) → HoldsNow (history_at V sh states run n) k y → IsTimed V sh states run k y n n
@@ -148,7 +148,7 @@ module _ (V : ℕ) {policy : Policy} (sh : Shape) (states : ℕ → TableState) 
       by_reply Busy x = record { truth = tt; between = tt; held = (n, omega arith, omega arith, tt) }
 
   -- no change is made between states with the same history
-  still : (i j n : ℕ) (h : List (Change V)) → history_at V sh states run i ≡ h → history_at V sh states run j ≡ h → i ≤ n → n ≤ j → history_at V sh states run n ≡ h
+  pub still : (i j n : ℕ) (h : List (Change V)) → history_at V sh states run i ≡ h → history_at V sh states run j ≡ h → i ≤ n → n ≤ j → history_at V sh states run n ≡ h
   still i j n h a b le le' =
       let one = begins_all V sh ((run.ruled i).log) ((run.ruled n).log) (front_between (layout_with V policy sh) states run i n le) in
       let most = many_rise V sh states run n j le' in
@@ -159,11 +159,11 @@ module _ (V : ℕ) {policy : Policy} (sh : Shape) (states : ℕ → TableState) 
       empty [] e = refl
       empty (x ∷ xs) e = absurd (omega (arith, e))
 
-  history_of : (n : ℕ) (acts : List Made) → HasActs (states n) acts → history_at V sh states run n ≡ (state_of V sh acts).history
+  pub history_of : (n : ℕ) (acts : List Made) → HasActs (states n) acts → history_at V sh states run n ≡ (state_of V sh acts).history
   history_of n acts h = ap (λ (z : List Made). (state_of V sh z).history) (acts_are (layout_with V policy sh) states run n acts h)
 
 -- what a reply that the writer's state gives says of the map
-replies_hold : {A : Type 0} (V : ℕ) (sh : Shape) (k : ℕ) (s : State V) (mark : ℕ → A) (done done' : List A) (reply : Reply V) → RepliesNow V sh k s mark done done' reply → HoldsNow s.history k reply
+pub replies_hold : {A : Type 0} (V : ℕ) (sh : Shape) (k : ℕ) (s : State V) (mark : ℕ → A) (done done' : List A) (reply : Reply V) → RepliesNow V sh k s mark done done' reply → HoldsNow s.history k reply
 replies_hold V sh k s mark done done' (Found v at since) x = (x.0, x.1)
 replies_hold V sh k s mark done done' (Absent at) x = (x.0, x.1)
 replies_hold V sh k s mark done done' Busy x = absurd x
@@ -183,6 +183,3 @@ writers_gets_are_timed V policy sh states run i j k before after reply h h' got 
 pub beside_is_timed : (V : ℕ) → BesideIsTimed V
 beside_is_timed V policy sh states run i j k acts before after reply h h' looked n le le' =
     now_timed V sh states run n k _ reply (still V sh states run i j n _ (history_of V sh states run i acts h) (history_of V sh states run j acts h') le le') (replies_hold V sh k (state_of V sh acts) (λ i. mark_at i acts) before.done after.done reply looked.replies)
-
-pub fallbacks_are_timed : (V : ℕ) → FallbacksAreTimed V
-fallbacks_are_timed V policy sh states run i j k old new reply fallen h h' = beside_is_timed V policy sh states run i j k fallen.writer.acts fallen.mid new reply h h' fallen.looked

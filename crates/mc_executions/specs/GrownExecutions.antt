@@ -9,9 +9,12 @@ use Rattle.mc_theory.specs.Readings.{Reading}
 use Rattle.mc_theory.specs.Writes.{place_read}
 use Rattle.mc_theory.specs.declared.access.Access.{Access}
 use Rattle.mc_shared.specs.TableRule.{Ruled}
-use Rattle.mc_shared.specs.Views.{tally_for, writer_view, reader_view, new_writer_view}
+use Rattle.mc_shared.specs.Inside.Seats.{MayMake}
+use Rattle.mc_shared.specs.Inside.Steps.{WritesAt, IsOffBits}
+use Rattle.mc_shared.specs.Views.{Tally, tally_for, with_bit, writer_view, reader_view, new_writer_view}
+use Rattle.mc_theory.specs.declared.act.Act.{Act}
 use Rattle.mc_shared.specs.declared.layout.Layout.{Layout}
-use Rattle.mc_executions.specs.Executions.{TableState, IsStep, IsExecution, HasRecord}
+use Rattle.mc_executions.specs.Executions.{TableState, IsStep, IsExecution, HasRecord, HasActs}
 
 -- the states up to n, and this one from there on
 abbrev pub grown : (ℕ → TableState) → ℕ → TableState → ℕ → TableState
@@ -41,3 +44,12 @@ pub record ReadersMayCome (l : Layout) : Type 0 where
 
 abbrev pub AllReadersMayCome : Type 0
 AllReadersMayCome = (l : Layout) → ReadersMayCome l
+
+-- in particular the writer may make any lawful act that writes a word before the recency words
+pub record WritersMayAct (l : Layout) : Type 0 where
+  pub acts : (states : ℕ → TableState) (n seat place x : ℕ) (acts : List Made) (tally : Tally) (a : Act) → IsExecution l states → get_elem? (states n).views seat ≡ some (writer_view l acts tally) →
+      IsOffBits a → MayMake l acts a → WritesAt l acts a place x → slice_index (states n).words place < 2 ^ 64 →
+      (states' : ℕ → TableState) × IsExecution l states' × ((k : ℕ) → k ≤ n → states' k ≡ states k) × HasActs (states' (suc n)) (acts ++ with_bit a 0 ∷ [])
+
+abbrev pub AllWritersMayAct : Type 0
+AllWritersMayAct = (l : Layout) → WritersMayAct l

@@ -18,7 +18,7 @@ use Rattle.mc_reader.specs.Records.{HasLooked, HaveLooked}
 use Rattle.mc_writer.specs.WriterCalls.{HasGot}
 use Rattle.mc_cache.specs.Beside.{HasLookedBeside}
 use Rattle.mc_cache.specs.Turns.{HasFallenBack}
-use Rattle.mc_executions.specs.Executions.{TableState, IsExecution, HasRecord, HasActs, log_at}
+use Rattle.mc_executions.specs.Executions.{TableState, IsExecution, HasRecord, HasReader, HasActs, log_at}
 
 -- the changes of the map that were made by state n
 abbrev pub history_at : (V : ℕ) {policy : Policy} (sh : Shape) (states : ℕ → TableState) → IsExecution (layout_with V policy sh) states → ℕ → List (Change V)
@@ -97,8 +97,9 @@ BesideIsTimed V =
     (policy : Policy) (sh : Shape) (states : ℕ → TableState) (run : IsExecution (layout_with V policy sh) states) (i j k : ℕ) (acts : List Made) (before after : ReaderRecord) (reply : Reply V) →
     HasActs (states i) acts → HasActs (states j) acts → HasLookedBeside V sh k acts before after reply → IsTimedAt V sh states run i j k reply
 
--- what `get_or_desk` ensures where the lookup was busy: states i and j are those at which the turn was got and given back
+-- What `get_or_desk` ensures where the lookup was busy: the reader's records at call and return are enough, since the busy lookup read a
+-- word after the call
 abbrev pub FallbacksAreTimed : ℕ → Type 0
 FallbacksAreTimed V =
-    (policy : Policy) (sh : Shape) (states : ℕ → TableState) (run : IsExecution (layout_with V policy sh) states) (i j k : ℕ) (old new : ReaderRecord) (reply : Reply V) → (fallen : HasFallenBack V sh k old new reply) →
-    HasActs (states i) fallen.writer.acts → HasActs (states j) fallen.writer.acts → IsTimedAt V sh states run i j k reply
+    (policy : Policy) (sh : Shape) (states : ℕ → TableState) (run : IsExecution (layout_with V policy sh) states) (i j k : ℕ) (old new : ReaderRecord) (reply : Reply V) → IsShape sh → k < 2 ^ 64 → i ≤ j →
+    HasReader old (states i) → HasReader new (states j) → HasFallenBack V sh k old new reply → IsTimed V sh states run k reply i j

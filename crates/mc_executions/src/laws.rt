@@ -1,10 +1,11 @@
 //! The laws of executions, one function each. A body does nothing: what it ensures is the law.
 ghost use Rattle.mc_executions.specs.Headline.{Headline};
-ghost use Rattle.mc_executions.specs.GrownExecutions.{AllExecutionsGrow, AllReadersMayCome};
+ghost use Rattle.mc_executions.specs.GrownExecutions.{AllExecutionsGrow, AllReadersMayCome, AllWritersMayAct};
 ghost use Rattle.mc_executions.specs.TimedLookups.{LookupsAreTimed, GetsAreTimed, ManyAreTimed, WritersGetsAreTimed, BesideIsTimed, FallbacksAreTimed};
 ghost use Rattle.mc_executions.specs.ShardedTime.{ShardsAreTimed};
 ghost use Rattle.mc_executions.specs.TimeOrder.{MomentsKeepOrder, WritesAreSeen, ChangesAreSteps, LogIsOne, RecordIsOne, RecordsPass};
 ghost use Rattle.mc_executions.specs.ClearVictims.{VictimsWereClear};
+ghost use Rattle.mc_executions.specs.Linearizable.{CallsAreLinearizable};
 ghost use Rattle.mc_executions.specs.RunningSteps.{EachIsAStep};
 ghost use Rattle.mc_executions.specs.Example.{PutBesideGet};
 
@@ -57,7 +58,7 @@ pub fn beside_is_timed<const V: usize>()
     ensures { BesideIsTimed V }
 {}
 
-/// And so is that of `get_or_desk` if it looked the key up in a turn: at each moment of the turn.
+/// The reply of `get_or_desk` is true at a moment between call and return, if it looked the key up in a turn, too.
 pub fn fallbacks_are_timed<const V: usize>()
     ensures { FallbacksAreTimed V }
 {}
@@ -80,6 +81,11 @@ pub fn writes_are_seen<const V: usize>()
 /// Each change of a call of the writer takes effect at one step of that call.
 pub fn changes_are_steps<const V: usize>()
     ensures { ChangesAreSteps V }
+{}
+
+/// Lookups whose answers are true within their calls, and calls of the writer, are linearizable: each takes effect at one moment of its call.
+pub fn calls_are_linearizable<const V: usize>()
+    ensures { CallsAreLinearizable V }
 {}
 
 /// In every execution the recency bit of each victim's item was 0 when the hand's step read it, and nothing was opened or swept between.
@@ -106,4 +112,9 @@ pub fn record_is_one()
 /// A record passes through each of its parts.
 pub fn records_pass()
     ensures { RecordsPass }
+{}
+
+/// The writer may make any lawful act next.
+pub fn writers_may_act()
+    ensures { AllWritersMayAct }
 {}

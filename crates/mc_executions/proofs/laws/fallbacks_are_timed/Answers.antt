@@ -1,4 +1,4 @@
-use Rattle.mc_executions.proofs.TimedLookups.{fallbacks_are_timed}
+use Rattle.mc_executions.proofs.Fallbacks.{fallbacks_are_timed}
 use Rattle.mc_executions.proofs.laws.fallbacks_are_timed.Goals as goal
 
 pub returns : goal.returns

@@ -1,0 +1,36 @@
+-- When the answers of lookups from C are true.
+use Rattle.std.proofs.Common.{⊎_elim, inl, inr, ℕ, ◌^◌, ◌<◌, List}
+use Rattle.mc_words.specs.declared.history.Reply.{Reply}
+use Rattle.mc_door.specs.Looks.{reply_of}
+use Rattle.mc_door.specs.Means.{GetOrTurnTells, GetTells, Looks, LooksOrTries}
+use Rattle.mc_door.specs.Roles.{Role, Tries, Holds, Idle}
+use Rattle.mc_door.specs.declared.outcome.Outcome.{Outcome}
+use Rattle.mc_executions.specs.RunningDoor.{IsTimedBy, TellsTimed}
+use Rattle.mc_executions.proofs.RunningShards.{looked_or_met, holder_is_timed, pass_is_timed}
+
+pub looks_are_timed : (V : ℕ) (role role' : Role) (k : ℕ) (reply : Reply V) → k < 2 ^ 64 → Looks V role role' k reply → IsTimedBy V role role' k reply
+looks_are_timed V (Tries s rs) (Tries s' rs') k reply small looks = pass_is_timed V s k rs rs' reply small (looked_or_met V s k rs rs' reply looks.1.goes)
+looks_are_timed V (Holds s h) (Holds s' h') k reply small looks = holder_is_timed V s k h h' reply looks.1.of looks.1.got
+looks_are_timed V (Tries s rs) (Holds s' h') k reply small looks = absurd looks
+looks_are_timed V (Tries s rs) Idle k reply small looks = absurd looks
+looks_are_timed V (Holds s h) (Tries s' rs') k reply small looks = absurd looks
+looks_are_timed V (Holds s h) Idle k reply small looks = absurd looks
+looks_are_timed V Idle role' k reply small looks = absurd looks
+
+pub looks_or_tries_are_timed : (V : ℕ) (role role' : Role) (k : ℕ) (reply : Reply V) → k < 2 ^ 64 → LooksOrTries V role role' k reply → IsTimedBy V role role' k reply
+looks_or_tries_are_timed V (Tries s rs) (Tries s' rs') k reply small looks = pass_is_timed V s k rs rs' reply small looks.1.goes
+looks_or_tries_are_timed V (Holds s h) (Holds s' h') k reply small looks = holder_is_timed V s k h h' reply looks.1.of looks.1.got
+looks_or_tries_are_timed V (Tries s rs) (Holds s' h') k reply small looks = absurd looks
+looks_or_tries_are_timed V (Tries s rs) Idle k reply small looks = absurd looks
+looks_or_tries_are_timed V (Holds s h) (Tries s' rs') k reply small looks = absurd looks
+looks_or_tries_are_timed V (Holds s h) Idle k reply small looks = absurd looks
+looks_or_tries_are_timed V Idle role' k reply small looks = absurd looks
+
+-- ---- what was told of them
+pub gets_told_are_timed : (V : ℕ) (role role' : Role) (Same : Type 0) (k : ℕ) (old new : List ℕ) (told : Outcome) → k < 2 ^ 64 → GetTells V role role' Same k old new told → TellsTimed V role role' Same k old new told
+gets_told_are_timed V role role' Same k old new told small tells =
+    ⊎_elim (λ made. inl (record { made = made.made; is = made.is; means = looks_are_timed V role role' k (reply_of V new made.made) small made.means.1 })) (λ refused. inr refused) tells
+
+pub gets_or_turns_told_are_timed : (V : ℕ) (role role' : Role) (Same : Type 0) (k : ℕ) (old new : List ℕ) (told : Outcome) → k < 2 ^ 64 → GetOrTurnTells V role role' Same k old new told → TellsTimed V role role' Same k old new told
+gets_or_turns_told_are_timed V role role' Same k old new told small tells =
+    ⊎_elim (λ made. inl (record { made = made.made; is = made.is; means = looks_or_tries_are_timed V role role' k (reply_of V new made.made) small made.means.1 })) (λ refused. inr refused) tells

@@ -1,0 +1,19 @@
+-- The same for the calls from C.
+use Rattle.std.specs.Prelude.{◌≡◌, ℕ, List, length}
+use Rattle.mc_words.specs.declared.history.Reply.{Reply}
+use Rattle.mc_door.specs.Looks.{reply_of}
+use Rattle.mc_door.specs.Roles.{Role, Tries, Holds}
+use Rattle.mc_door.specs.Tellings.{lookup_told}
+use Rattle.mc_door.specs.Tells.{HasTold, Tells}
+use Rattle.mc_door.specs.declared.outcome.Outcome.{Outcome}
+use Rattle.mc_executions.specs.RunningShards.{HolderIsTimed, PassIsTimed}
+
+-- a lookup by either role
+abbrev pub IsTimedBy : (V : ℕ) → Role → Role → ℕ → Reply V → Type 0
+IsTimedBy V (Tries s rs) (Tries s' rs') k reply = PassIsTimed V s k rs rs' reply
+IsTimedBy V (Holds s h) (Holds s' h') k reply = HolderIsTimed V s k h h' reply
+IsTimedBy V _ _ k reply = ⊥
+
+-- What was returned is the answer of such a lookup, with its value in these words. Or the value has another width, and nothing has changed
+abbrev pub TellsTimed : (V : ℕ) → Role → Role → Type 0 → ℕ → List ℕ → List ℕ → Outcome → Type 0
+TellsTimed V role role' Same k old new told = Tells V (length old) (Same × (new ≡ old)) (HasTold lookup_told (λ made. IsTimedBy V role role' k (reply_of V new made)) told) told
