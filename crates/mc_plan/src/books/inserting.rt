@@ -266,7 +266,9 @@ impl Books {
         ensures kept { peek.new ≡ peek.old }
     {
         let noted = self.for_notes(key);
-        let item = self.free.take_least(noted)?;
+        let Some(item) = self.free.take_least(noted) else {
+            return None;
+        };
         Some(self.store::<V, P>(peek, room, item, at))
     }
 }

@@ -12,19 +12,6 @@ use Rattle.mc_plan.proofs.Calls.StoredKeys.{stored_by}
 use Rattle.mc_plan.proofs.Puts.PathSteps.{chain_taken}
 use Rattle.mc_plan.proofs.books.Books.insert.Goals as goal
 
-pub returns-then-is_empty-clause-inserted : goal.returns-then-is_empty-clause-inserted
-returns-then-is_empty-clause-inserted g c v s has same =
-    let waits : Waits g.row.V c.args.self.now c.args.key v s c.args.room = record {
-      known = has.lacks.known;
-      key = has.lacks.key;
-      value = has.lacks.value;
-      unspent = has.lacks.unspent;
-      absent = has.lacks.absent;
-      least = has.least;
-      none = c.is_empty.ensures.0 c.if-is_empty.true;
-    } in
-    waits
-
 pub returns-in_default-clause-inserted : goal.returns-in_default-clause-inserted
 returns-in_default-clause-inserted g c v s has same =
     let V = g.row.V in
