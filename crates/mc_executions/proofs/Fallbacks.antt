@@ -55,6 +55,7 @@ tail_of (y ∷ ys) = ys
 
 -- of two fronts of one list the shorter begins the longer
 nest : {A : Type 0} (xs ys p q : List A) → xs ++ p ≡ ys ++ q → length xs ≤ length ys → (more : List A) × (ys ≡ xs ++ more)
+unfolding tail_of head_of
 nest [] ys p q e le = (ys, refl)
 nest (x ∷ xs) [] p q e le = absurd (omega (arith, le))
 nest (x ∷ xs) (y ∷ ys) p q e le =
@@ -63,6 +64,7 @@ nest (x ∷ xs) (y ∷ ys) p q e le =
 
 -- ---- the first reading of a lookup is of a version, and stands at the front of all acts that were made
 first_is : (V : ℕ) (sh : Shape) (k t : ℕ) (e : Reading) (more rs : List Reading) (reply : Reply V) → 0 < t → rs ≡ e ∷ more → IsLookup V sh k t rs reply → e.access ≡ Version (stripe_of sh k)
+unfolding head_of
 first_is V sh k zero e more rs reply some is h = absurd (omega (arith, some))
 first_is V sh k (suc t) e more rs reply some is h =
     let first = λ (z : List Reading). (head_of e z).access in
