@@ -1,5 +1,5 @@
 -- When the answers of running calls are true.
-use Rattle.std.proofs.Common.{◌≡◌, ⊎_elim, ℕ, ◌^◌, ◌<◌, List, arith}
+use Rattle.std.proofs.Common.{⊎_elim, ℕ, ◌^◌, ◌<◌, List, arith}
 use Rattle.mc_words.specs.Shapes.{IsShape}
 use Rattle.mc_words.specs.declared.history.Change.{Change}
 use Rattle.mc_words.specs.declared.history.Reply.{Reply}

@@ -1,6 +1,6 @@
 -- When the answers of running calls of shards are true.
 use Rattle.std.proofs.Common.{◌≡◌, ⊎_elim, inl, ℕ, zero, suc, ◌+◌, ◌-◌, ◌^◌, ◌<◌, ◌≤◌, List, [], length, ap, sym, ◌∙◌, subst, arith}
-use Rattle.std.proofs.lemmas.Option.{get_or_from_slice_get, slice_get-map}
+use Rattle.std.proofs.lemmas.Option.{get_or_from_slice_get, slice_get-map, slice_get_within}
 use Rattle.std.specs.Prelude.{Some, map, option_map, slice_get, slice_index_or}
 use Rattle.mc_words.specs.Keys.{shard_of}
 use Rattle.mc_words.specs.declared.mix.Mix.{Mix}
@@ -35,14 +35,15 @@ shard_below mix n k some = omega (arith, some)
 
 -- a shard's steps only grow in number
 rise : (steps : ℕ → ℕ → ℕ) (s : ℕ) → AreStepsOf steps → (d i : ℕ) → steps i s ≤ steps (i + d) s
-rise steps s are zero i = subst (λ (n : ℕ). steps i s ≤ steps n s) (omega arith) (omega arith)
+rise steps s are zero i = let here : i ≡ i + 0 = omega arith in subst (λ (n : ℕ). steps i s ≤ steps n s) here (omega arith)
 rise steps s are (suc d) i =
     let more = rise steps s are d i in
     let one : steps (i + d) s ≤ steps (suc (i + d)) s = ⊎_elim (λ same. omega (arith, same)) (λ next. omega (arith, next)) (are.one (i + d) s) in
-    subst (λ (n : ℕ). steps i s ≤ steps n s) (omega arith) (omega (arith, more, one))
+    let here : suc (i + d) ≡ i + suc d = omega arith in
+    subst (λ (n : ℕ). steps i s ≤ steps n s) here (omega (arith, more, one))
 
 pub steps_rise : (steps : ℕ → ℕ → ℕ) (s : ℕ) → AreStepsOf steps → (i j : ℕ) → i ≤ j → steps i s ≤ steps j s
-steps_rise steps s are i j le = subst (λ (n : ℕ). steps i s ≤ steps n s) (omega (arith, le)) (rise steps s are (j - i) i)
+steps_rise steps s are i j le = let here : i + (j - i) ≡ j = omega (arith, le) in subst (λ (n : ℕ). steps i s ≤ steps n s) here (rise steps s are (j - i) i)
 
 -- a reply that is true within the key's shard is what the one map held
 between_shards : (V : ℕ) (policy : Policy) (of : Sharded) (k : ℕ) (Before After : TableState → Type 0) (reply : Reply V) (all : Together V policy of) →
@@ -74,7 +75,7 @@ looked_or_met V of k old new reply at = record { before = at.before; after = at.
 shape_at : (V : ℕ) (policy : Policy) (of : Sharded) (all : Together V policy of) (n : ℕ) (ws : List WriterRecord) (w : WriterRecord) → map (λ (x : WriterRecord). x.of) ws ≡ of.tables → slice_get ws n ≡ Some w → w.of.layout.shape ≡ of.shape
 shape_at V policy of all n ws w are at =
     let here : slice_get of.tables n ≡ Some w.of = ap (λ (os : List Opening). slice_get os n) (sym are) ∙ (slice_get-map (λ (x : WriterRecord). x.of) ws n ∙ ap (option_map (λ (x : WriterRecord). x.of)) at) in
-    ap (λ (l : Layout). l.shape) (all.tables n w.of here)
+    ap (λ (o : Opening). o.layout.shape) (sym (get_or_from_slice_get of.tables n w.of w.of here)) ∙ ap (λ (l : Layout). l.shape) (all.tables n w.of (slice_get_within of.tables n w.of here))
 
 pub holder_is_timed : (V : ℕ) (of : Sharded) (k : ℕ) (h h' : Holding) (reply : Reply V) → IsHolderOf of h' → ChangesAt (shard_in of k) h.writers h'.writers (λ w w'. HasGot V w.of.layout.shape k w w' reply) → HolderIsTimed V of k h h' reply
 holder_is_timed V of k h h' reply holds at = record {
