@@ -254,7 +254,7 @@ template <class K, class V, class Hash = SipHash<K>, class Times = inside::Timel
     using Life = typename Times::Life;
 
     template <class... Lived> Status open_with(const MapOptions &options, Hash hash, const Lived &...lives) noexcept {
-        return inside::open_map(inner_, options, inside::mix_for<K, Hash>, [&] { return std::make_unique<Inner>(std::move(hash), Times(lives...)); });
+        return inside::open_map(inner_, options, [&] { return std::make_unique<Inner>(std::move(hash), Times(lives...)); });
     }
     Stored put_if_absent(Key key, const V &value, const Life &life) noexcept(never_throws) {
         return change(key, Stored{Status::closed, false, false}, [&](const auto &known) { return inner_->entries.put_if_absent(known, value, life); });

@@ -18,8 +18,8 @@
 // The map then holds 1,000 pages or more, as long as they weigh no more than the bound together. While calls put, the sum may be above the bound by
 // what they put. What has left and waits to be freed weighs a sixteenth of the bound and one object more at most, while no function of `look` runs. If
 // a thread is stopped within a write, the sum may stay above the bound until a later put. A put that fails may have made others leave. Each shard
-// chooses by itself which of its objects leaves, and each eviction looks at another shard. Ask for about as many entries as weigh so much together: in a
-// much larger map fewer lookups hit.
+// has an equal share of the bound. What leaves was in a shard that had more, and that shard chooses. Ask for about as many entries as weigh so much
+// together: in a much larger map fewer lookups hit.
 //
 // Which objects leave: those that no call has found since their put. So keys that are used once evict few that are used often. If nearly all were found,
 // one that was not found lately leaves: perhaps the one that an update has made heavier. An object whose key left shortly before its put counts as found.
@@ -94,8 +94,7 @@ template <class K, class V, class Hash = SipHash<K>, class Equal = std::equal_to
         return open(options, std::move(rules), std::move(hash));
     }
     [[nodiscard]] Status open(const MapOptions &options, Rules rules, Hash hash = Hash()) noexcept {
-        return inside::open_map(inner_, options, inside::mix_for<K, Hash>,
-                                [&] { return std::make_unique<Inner>(options.passes, std::move(rules), std::move(hash)); });
+        return inside::open_map(inner_, options, [&] { return std::make_unique<Inner>(options.passes, std::move(rules), std::move(hash)); });
     }
     bool is_open() const noexcept { return bool(inner_); }
     // Closes the map, and destroys its objects.

@@ -96,7 +96,7 @@ static void an_update(Table &table) {
 
 int main() {
     Table table;
-    MUST(table.open(40, 1, 64, 5, CEFRODIL_MIX_FULL) == Status::ok);
+    MUST(table.open(40, 1, 64, 5) == Status::ok);
     a_put(table);
     a_put_of_an_absent_key(table);
     an_update(table);

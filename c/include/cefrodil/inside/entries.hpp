@@ -11,7 +11,6 @@
 #include <cstddef>
 #include <cstdint>
 #include <memory>
-#include <type_traits>
 #include <utility>
 #include <vector>
 
@@ -21,8 +20,8 @@ namespace inside {
 
 template <size_t Words> class Entries {
   public:
-    [[nodiscard]] Status open(uint32_t entries, uint32_t shards, uint32_t passes, uint32_t tries, uint32_t mix) noexcept {
-        return turns_.open(entries, shards, passes, tries, mix);
+    [[nodiscard]] Status open(uint32_t entries, uint32_t shards, uint32_t passes, uint32_t tries) noexcept {
+        return turns_.open(entries, shards, passes, tries);
     }
     Generation &generation() noexcept { return generation_; }
     Turns<Words> &turns() noexcept { return turns_; }
@@ -50,7 +49,7 @@ template <size_t Words> class Entries {
 
 // Opens a map: makes what it owns, draws its secret, and opens its index. Unless ok, nothing was done.
 template <class Inner, class Options, class Make>
-[[nodiscard]] Status open_map(OwnedPointer<Inner> &inner, const Options &options, uint32_t mix, Make make) noexcept {
+[[nodiscard]] Status open_map(OwnedPointer<Inner> &inner, const Options &options, Make make) noexcept {
     if (inner) {
         return Status::in_use;
     }
@@ -61,12 +60,9 @@ template <class Inner, class Options, class Make>
     if (!opened->identities.draw()) {
         return Status::no_random;
     }
-    const Status status = opened->entries.open(options.entries, options.shards, options.passes, options.tries, mix);
+    const Status status = opened->entries.open(options.entries, options.shards, options.passes, options.tries);
     return status == Status::ok && !inner.own(std::move(opened)) ? Status::no_memory : status;
 }
-
-// The index hashes what a hash of the user's may have spread badly.
-template <class K, class Hash> inline constexpr uint32_t mix_for = std::is_same_v<Hash, SipHash<K>> ? CEFRODIL_MIX_NONE : CEFRODIL_MIX_FULL;
 
 } // namespace inside
 

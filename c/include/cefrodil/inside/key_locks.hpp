@@ -36,11 +36,10 @@ class KeyLock {
     std::atomic<bool> is_taken_{false};
 };
 
-// Those of all keys of a map. There are so many that two threads seldom meet at one. Keys may be spread badly, so their bits are mixed: the multiplier
-// is odd, and its bits look random.
+// Those of all keys of a map. There are so many that two threads seldom meet at one.
 class KeyLocks {
   public:
-    KeyLock &of(uint64_t key) noexcept { return lines_[((key ^ key >> 32) * 0x9e3779b97f4a7c15) >> 58].lock; }
+    KeyLock &of(uint64_t key) noexcept { return lines_[key % lines_.size()].lock; }
 
   private:
     struct alignas(64) Line {

@@ -44,9 +44,12 @@ template <class K, class V> class Objects : public Entries<1> {
         static_cast<void>(free_now());
     }
 
-    [[nodiscard]] Status open(uint32_t entries, uint32_t shards, uint32_t passes, uint32_t tries, uint32_t mix) noexcept {
-        const Status status = Entries::open(entries, shards, passes, tries, mix);
+    [[nodiscard]] Status open(uint32_t entries, uint32_t shards, uint32_t passes, uint32_t tries) noexcept {
+        const Status status = Entries::open(entries, shards, passes, tries);
         is_open_ = status == Status::ok;
+        if (is_open_ && !has_memory([&] { weights_.divide(turns_.shards()); })) {
+            return Status::no_memory;
+        }
         waiting_weight_ = is_open_ && turns_.lines() ? &turns_.lines()->waiting_weight() : &uncounted_;
         return status;
     }
@@ -213,15 +216,15 @@ template <class K, class V> class Objects : public Entries<1> {
             return tried;
         });
         if (taken.old) {
-            change.old = out(*taken.old, change);
+            change.old = out(index, *taken.old, change);
         }
         return taken.status;
     }
-    // The index has it no more. Returns it, by its word.
-    Each *out(const std::array<uint64_t, 1> &word, Change &change) noexcept {
+    // The index has it no more. Returns it, by its word and any key of its shard.
+    Each *out(uint64_t key, const std::array<uint64_t, 1> &word, Change &change) noexcept {
         Each *const object = Each::at(word[0]);
         if (rules_.weigher) {
-            weights_.subtract(Heavy::of(*object).weight);
+            weights_.subtract(key, Heavy::of(*object).weight);
         }
         object->next = nullptr;
         *std::exchange(change.last, &object->next) = object;
@@ -267,7 +270,7 @@ template <class K, class V> class Objects : public Entries<1> {
         if (is_too_deep()) {
             return Status::too_deep;
         }
-        return rules_.weigher ? offered_weighed(index, object, change, is_new, make) : ended(object, change, turns_.locked(index, make));
+        return rules_.weigher ? offered_weighed(index, object, change, is_new, make) : ended(index, object, change, turns_.locked(index, make));
     }
     // Others leave for a new key before it is put, so that it is not itself what gives way.
     template <class IsNew, class Make>
@@ -276,15 +279,15 @@ template <class K, class V> class Objects : public Entries<1> {
         if (weight > weights_.bound()) {
             return Status::too_heavy;
         }
-        weights_.add(weight);
+        weights_.add(index, weight);
         if (weights_.is_over() && is_new()) {
-            shrink(index, change);
+            shrink(change);
         }
-        const Status status = ended(object, change, turns_.locked(index, make));
+        const Status status = ended(index, object, change, turns_.locked(index, make));
         if (status != Status::ok) {
-            weights_.subtract(weight);
+            weights_.subtract(index, weight);
         }
-        shrink(index, change);
+        shrink(change);
         return status;
     }
     // Whether the index has an object for the key.
@@ -292,29 +295,38 @@ template <class K, class V> class Objects : public Entries<1> {
         std::array<uint64_t, 1> word;
         return turns_.get(turns_.own_slot(), index, turns_.looks(), word).status == Status::ok;
     }
-    // Evicts objects until the others are within the bound, if they are not: each from a shard that is drawn from the key's number. Its own shard would
-    // not do: then some shards would keep much less than their share. It gives up if no shard seems to have any object, or if other threads keep it from
-    // so many tries: then a later put goes on.
-    void shrink(uint64_t near, Change &change) noexcept {
-        const uint32_t most_empty = looks_of_a_shard * turns_.shards();
-        for (uint32_t empty = 0, held = 0; weights_.is_over() && empty < most_empty && held <= turns_.tries();) {
-            // The numbers of this row are in any shard.
-            near = near * 6364136223846793005 + 1442695040888963407;
-            const Swapped<1> taken = turns_.call([&](Slot<1> &slot) { return evicted(slot, near); });
-            if (taken.status == Status::ok) {
-                static_cast<void>(out(*taken.old, change));
-                change.evicted = true;
+    // Evicts objects until the others are within the bound, if they are not: each from a shard that has more than its share. It goes round. What calls
+    // are about to put counts, so there may be no object in such a shard: then it goes round all shards. It gives up if it finds none there, or if other
+    // threads keep it from so many tries: then a later put goes on.
+    void shrink(Change &change) noexcept {
+        const uint32_t shards = turns_.shards();
+        for (uint32_t looks = 0, held = 0; weights_.is_over() && looks < 2 * shards && held <= turns_.tries();) {
+            const uint64_t near = weights_.next();
+            if (looks < shards && !weights_.has_more(near)) {
+                looks++;
                 continue;
             }
-            taken.status == Status::absent ? void(empty++) : wait_before(held++);
+            switch (evict(near, change)) {
+            case Status::ok: looks = 0; break;
+            case Status::absent: looks++; break;
+            default: wait_before(held++);
+            }
         }
     }
-    static Swapped<1> evicted(Slot<1> &slot, uint64_t near) noexcept {
-        const Swapped<1> tried = slot.handle.try_evict(near);
-        const bool is_done = tried.status == Status::ok;
-        slot.add(is_done ? -1 : 0);
-        slot.count(evictions, is_done ? 1 : 0);
-        return tried;
+    // Evicts an object of the shard that has this key.
+    Status evict(uint64_t near, Change &change) noexcept {
+        const Swapped<1> taken = turns_.call([&](Slot<1> &slot) {
+            const Swapped<1> tried = slot.handle.try_evict(near);
+            const bool is_done = tried.status == Status::ok;
+            slot.add(is_done ? -1 : 0);
+            slot.count(evictions, is_done ? 1 : 0);
+            return tried;
+        });
+        if (taken.old) {
+            static_cast<void>(out(near, *taken.old, change));
+            change.evicted = true;
+        }
+        return taken.status;
     }
     void end(Change &change) noexcept {
         for (Retired *next = change.first; next != nullptr;) {
@@ -347,13 +359,13 @@ template <class K, class V> class Objects : public Entries<1> {
         }
     }
     // The index has the object now, unless the put failed.
-    Status ended(Own &object, Change &change, const Swapped<1> &swapped) noexcept {
+    Status ended(uint64_t index, Own &object, Change &change, const Swapped<1> &swapped) noexcept {
         if (swapped.status != Status::ok) {
             return swapped.status;
         }
         static_cast<void>(object.release());
         if (swapped.old) {
-            change.old = out(*swapped.old, change);
+            change.old = out(index, *swapped.old, change);
             change.renewed = !swapped.evicted, change.evicted = change.evicted || swapped.evicted;
             change.why = change.renewed ? Left::replaced : Left::evicted;
         }
@@ -378,10 +390,6 @@ template <class K, class V> class Objects : public Entries<1> {
     Weights weights_;
     // That of what has left and waits to be freed. All puts of a map with a weigher share a sum, so they may share this.
     std::atomic<uint64_t> uncounted_{0}, *waiting_weight_ = &uncounted_;
-
-    // So often an empty shard is looked at, on average, before all of them are taken to be empty. Numbers are drawn, so one that isn't is missed with a
-    // chance of 2^-92.
-    static constexpr uint32_t looks_of_a_shard = 64;
 };
 
 } // namespace inside

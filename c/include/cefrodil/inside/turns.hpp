@@ -68,7 +68,7 @@ inline uint32_t shards_for(uint32_t entries) noexcept {
 template <size_t Words> class Turns {
   public:
     // 0 shards: as many as these entries ask for.
-    [[nodiscard]] Status open(uint32_t entries, uint32_t asked_shards, uint32_t passes, uint32_t tries, uint32_t mix) noexcept {
+    [[nodiscard]] Status open(uint32_t entries, uint32_t asked_shards, uint32_t passes, uint32_t tries) noexcept {
         if (!same_version()) {
             return Status::other_version;
         }
@@ -78,7 +78,7 @@ template <size_t Words> class Turns {
         if (status != Status::ok) {
             return status;
         }
-        shape.mix = mix;
+        shape.mix = CEFRODIL_MIX_NONE;
         shape.stripes = std::min(shape.stripes, std::max(stripes_of_a_shard, all_stripes / shards));
         tries_ = tries;
         looks_ = std::min(tries, most_looks);
