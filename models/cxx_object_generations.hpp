@@ -6,7 +6,6 @@
 #ifndef CXX_OBJECT_GENERATIONS_HPP
 #define CXX_OBJECT_GENERATIONS_HPP
 
-#include "cefrodil/inside/generations.hpp"
 #include "explored.hpp"
 
 struct CxxObjectGenerations : rl::test_suite<CxxObjectGenerations, 3> {

@@ -69,8 +69,10 @@
 namespace cefrodil {
 
 // A map of K to V. A hash of yours is as that of cefrodil::map; `Equal` compares a K with what a call takes as a key.
-template <class K, class V, class Hash = SipHash<K>, class Equal = std::equal_to<>> class object_map {
+template <class K, class V, class Hash = SipHash<K>, class Equal = std::equal_to<>>
+class object_map : public inside::AnyMap<inside::KeyedObjects<K, V, Hash, Equal>> {
     using Inner = inside::KeyedObjects<K, V, Hash, Equal>;
+    using inside::AnyMap<Inner>::inner_;
     using Objects = inside::Objects<K, V>;
     using Pinned = typename Inner::Pinned;
     using Seen = typename Inner::Seen;
@@ -94,11 +96,8 @@ template <class K, class V, class Hash = SipHash<K>, class Equal = std::equal_to
         return open(options, std::move(rules), std::move(hash));
     }
     [[nodiscard]] Status open(const MapOptions &options, Rules rules, Hash hash = Hash()) noexcept {
-        return inside::open_map(inner_, options, [&] { return std::make_unique<Inner>(options.passes, std::move(rules), std::move(hash)); });
+        return this->open_as(options, [&] { return std::make_unique<Inner>(options.passes, std::move(rules), std::move(hash)); });
     }
-    bool is_open() const noexcept { return bool(inner_); }
-    // Closes the map, and destroys its objects.
-    Status close() noexcept { return inner_.reset() ? Status::ok : Status::closed; }
 
     // Calls `see(const V &)` with the key's value. ok, or absent, busy or closed: then it was not called. The value stays for so long, though another
     // thread may remove it meanwhile.
@@ -108,7 +107,7 @@ template <class K, class V, class Hash = SipHash<K>, class Equal = std::equal_to
         }
         Pinned pinned(inner_->entries);
         const inside::Identity known = inner_->identities.of(key);
-        const Seen seen = inner_->look(pinned, known, key, inner_->entries.turns().looks(), inner_->generation());
+        const Seen seen = inner_->look(pinned, known, key, inner_->entries.looks(), inner_->generation());
         pinned.count(seen.status);
         if (seen.status == Status::ok) {
             see(static_cast<const V &>(seen.object->value));
@@ -185,7 +184,7 @@ template <class K, class V, class Hash = SipHash<K>, class Equal = std::equal_to
             return Status::closed;
         }
         const inside::Identity known = inner_->identities.of(key);
-        inner_->flights.outdate(known);
+        inner_->entries.flights.outdate(known);
         for (uint32_t repeat = 0;; repeat++) {
             const Seen seen = inner_->look_to_take(known, key);
             if (seen.object == nullptr) {
@@ -196,7 +195,7 @@ template <class K, class V, class Hash = SipHash<K>, class Equal = std::equal_to
             if (status == Status::ok && seen.status == Status::ok) {
                 see(static_cast<const V &>(change.old->value));
             }
-            if (status != Status::changed || repeat >= inner_->entries.turns().tries()) {
+            if (status != Status::changed || repeat >= inner_->entries.tries()) {
                 return status == Status::ok ? seen.status : status;
             }
         }
@@ -219,52 +218,27 @@ template <class K, class V, class Hash = SipHash<K>, class Equal = std::equal_to
         }
     }
 
-    // Removes each key that was put before. Unless ok, some keys may still be there.
-    [[nodiscard]] Status clear() {
-        if (!inner_) {
-            return Status::closed;
-        }
-        inner_->flights.outdate_all();
-        return inner_->entries.clear();
-    }
-    // Once it has returned, no key is found that was put before it began, nor a value that find_or_compute was computing then. As by cefrodil::map. The
-    // objects stay until others overwrite or evict them, or until erase_expired. Until then `size` and `weight` count them. ok or closed.
-    Status invalidate_all() noexcept {
-        if (!inner_) {
-            return Status::closed;
-        }
-        inner_->entries.generation().begin_next();
-        inner_->flights.outdate_all();
-        return Status::ok;
-    }
-    // Removes what has expired, and what was put before invalidate_all. As by `clear`. Until then it stays until it is overwritten or evicted, and `size` and
-    // `weight` count it.
-    [[nodiscard]] Status erase_expired() { return inner_ ? inner_->entries.erase_expired() : Status::closed; }
     // Frees what has left the map and no call can use any more. Other calls do so now and then. Returns how many objects.
     size_t free_unused() noexcept { return inner_ ? inner_->entries.free_now() : 0; }
 
-    uint64_t size() const noexcept { return inner_ ? inner_->entries.turns().keys() : 0; }
-    uint64_t capacity() const noexcept { return inner_ ? inner_->entries.turns().capacity() : 0; }
     // The sum of the weights, exact while no call writes. What other calls are about to put counts, and what has left does not, though it may wait to
     // be freed. Without a weigher 0.
     uint64_t weight() const noexcept { return inner_ ? inner_->entries.weight() : 0; }
     // How many objects have left the map and wait to be freed, and what they weigh. `meter` has the same.
     uint64_t waiting() const noexcept { return inner_ ? inner_->entries.waiting() : 0; }
     uint64_t waiting_weight() const noexcept { return inner_ ? inner_->entries.waiting_weight() : 0; }
-    // What the lookups of this map came to, each counted once: the calls of look, find, get, contains and find_or_compute. As by cefrodil::map.
-    Meter meter() const noexcept { return inner_ ? inner_->entries.turns().meter() : Meter(nullptr); }
 
   private:
     // A copy of the key's value, if it is there. It isn't counted.
     std::optional<V> seek(Key key) const {
         Pinned pinned(inner_->entries);
-        const Seen seen = inner_->look(pinned, inner_->identities.of(key), key, inner_->entries.turns().looks(), inner_->generation());
+        const Seen seen = inner_->look(pinned, inner_->identities.of(key), key, inner_->entries.looks(), inner_->generation());
         return seen.status == Status::ok ? std::optional<V>(seen.object->value) : std::nullopt;
     }
     // Computes the key's value, if no other call does so now, and puts it. None: another call did.
     template <class Function> std::optional<Computed<V>> compute(Key key, Function &function, Change &change) {
         const inside::Identity known = inner_->identities.of(key);
-        inside::Flight flight(inner_->flights.of(known), known);
+        inside::Flight flight(inner_->entries.flights.of(known), known);
         if (!flight.has_begun()) {
             return std::nullopt;
         }
@@ -284,16 +258,16 @@ template <class K, class V, class Hash = SipHash<K>, class Equal = std::equal_to
             return Status::closed;
         }
         const inside::Identity known = inner_->identities.of(key);
-        inner_->flights.outdate(known);
+        inner_->entries.flights.outdate(known);
         const uint64_t generation = inner_->generation();
         for (uint32_t repeat = 0;; repeat++) {
             Seen seen{};
             Change change(inner_->entries);
             const Status status = inner_->renew(known, key, life, function, generation, seen, change);
-            if (seen.status != Status::ok || !Inner::is_lost(status)) {
+            if (seen.status != Status::ok || !inside::is_lost(status)) {
                 return status;
             }
-            if (repeat >= inner_->entries.turns().tries()) {
+            if (repeat >= inner_->entries.tries()) {
                 return Status::changed;
             }
         }
@@ -311,7 +285,7 @@ template <class K, class V, class Hash = SipHash<K>, class Equal = std::equal_to
         if (!object) {
             return {Status::no_memory, false, false};
         }
-        inner_->flights.outdate(known);
+        inner_->entries.flights.outdate(known);
         Change change(objects);
         const Status status = make(known, object, change);
         if constexpr (std::is_same_v<Value, V> && std::is_move_assignable_v<V>) {
@@ -324,8 +298,6 @@ template <class K, class V, class Hash = SipHash<K>, class Equal = std::equal_to
         }
         return {status, change.renewed, change.evicted};
     }
-    inside::OwnedPointer<Inner> inner_{};
-
     static_assert(std::is_object_v<K> && std::is_object_v<V> && !std::is_const_v<V>, "keys and values are objects");
     static_assert(std::is_nothrow_destructible_v<K> && std::is_nothrow_destructible_v<V>, "destructors of keys and values throw nothing");
     static_assert(inside::hashes<Hash, inside::Taken<K, Hash>>, "a hash has the call that cefrodil::map asks for");

@@ -2,7 +2,6 @@
 #ifndef CEFRODIL_INSIDE_KEYED_OBJECTS_HPP
 #define CEFRODIL_INSIDE_KEYED_OBJECTS_HPP
 
-#include "flights.hpp"
 #include "hash.hpp"
 #include "objects.hpp"
 #include <algorithm>
@@ -27,17 +26,12 @@ template <class K, class V, class Hash, class Equal> struct KeyedObjects {
     using Life = std::optional<std::chrono::nanoseconds>;
 
     KeyedObjects(size_t slots, ObjectRules<K, V> &&rules, Hash &&its_hash) : identities(std::move(its_hash)), entries(slots, std::move(rules)) {}
-    uint64_t generation() noexcept { return entries.generation().now(); }
+    uint64_t generation() noexcept { return entries.generations.now(); }
     // An object of another key with the same number is none of this key's.
     static Seen own(Seen seen, Key key) {
         const bool is_other = seen.status == Status::ok && !Equal()(seen.object->key, key);
         return is_other ? Seen{Status::absent, nullptr, seen.since} : seen;
     }
-    // Whether the entry is another one than was looked up.
-    static bool is_lost(Status status) noexcept {
-        return status == Status::changed || status == Status::absent || status == Status::present;
-    }
-
     // The key's object. Compiled into its callers: a call costs a tenth of a lookup.
     Seen look(Pinned &&pinned, const Identity &known, Key key, uint32_t most, uint64_t generation) const {
         return look(pinned, known, key, most, generation);
@@ -50,7 +44,7 @@ template <class K, class V, class Hash, class Equal> struct KeyedObjects {
     Seen look_to_take(const Identity &known, Key key) {
         const uint64_t now = generation();
         Pinned pinned(entries);
-        const Seen seen = pinned.look_at_all(known.index, entries.turns().tries());
+        const Seen seen = pinned.look_at_all(known.index, entries.tries());
         // This acquires what the object was made with, before its key is compared.
         const bool has_ended = seen.object != nullptr && entries.has_ended(*seen.object, now);
         Seen taken = own(seen, key);
@@ -62,7 +56,7 @@ template <class K, class V, class Hash, class Equal> struct KeyedObjects {
     // Puts a key that is absent, or says `present`. What is there gives way if it has ended, or is another key's.
     Status insert(const Identity &known, Key key, Own &object, Change &change, bool is_computed = false) {
         for (uint32_t repeat = 0;; repeat++) {
-            const Seen seen = look(Pinned(entries), known, key, entries.turns().tries(), object->generation());
+            const Seen seen = look(Pinned(entries), known, key, entries.tries(), object->generation());
             if (seen.status != Status::absent) {
                 return seen.status == Status::ok ? Status::present : seen.status;
             }
@@ -73,7 +67,7 @@ template <class K, class V, class Hash, class Equal> struct KeyedObjects {
                 }
                 return status;
             }
-            if (repeat >= entries.turns().tries()) {
+            if (repeat >= entries.tries()) {
                 return Status::changed;
             }
         }
@@ -87,14 +81,14 @@ template <class K, class V, class Hash, class Equal> struct KeyedObjects {
             return seen.status;
         }
         // A flight may have begun while the function ran.
-        flights.outdate(known);
+        entries.flights.outdate(known);
         return object ? entries.replace(known.index, seen.since, object, change) : Status::no_memory;
     }
     template <class Function>
     [[gnu::always_inline]] Own made_of(const Identity &known, Key key, const Life &life, Function &function, uint64_t generation,
                                        Seen &seen) {
         Pinned pinned(entries);
-        seen = look(pinned, known, key, entries.turns().tries(), generation);
+        seen = look(pinned, known, key, entries.tries(), generation);
         if (seen.status != Status::ok) {
             return Own();
         }
@@ -114,7 +108,6 @@ template <class K, class V, class Hash, class Equal> struct KeyedObjects {
     }
 
     Identities<Key, Hash> identities;
-    AllFlights flights{};
     All entries;
 };
 

@@ -36,7 +36,7 @@ template <class K, class V> class Objects : public Entries<1> {
     ~Objects() {
         std::vector<uint64_t> list;
         if (is_open_) {
-            static_cast<void>(turns_.repeated([&](Slot<1> &slot) { return slot.handle.try_entries(list); }));
+            static_cast<void>(repeated([&](Slot<1> &slot) { return slot.handle.try_entries(list); }));
         }
         for (size_t at = 1; at < list.size(); at += 2) {
             static_cast<void>(Own(Each::at(list[at])));
@@ -47,10 +47,10 @@ template <class K, class V> class Objects : public Entries<1> {
     [[nodiscard]] Status open(uint32_t entries, uint32_t shards, uint32_t passes, uint32_t tries) noexcept {
         const Status status = Entries::open(entries, shards, passes, tries);
         is_open_ = status == Status::ok;
-        if (is_open_ && !has_memory([&] { weights_.divide(turns_.shards()); })) {
+        if (is_open_ && !has_memory([&] { weights_.divide(this->shards()); })) {
             return Status::no_memory;
         }
-        waiting_weight_ = is_open_ && turns_.lines() ? &turns_.lines()->waiting_weight() : &uncounted_;
+        waiting_weight_ = is_open_ && lines() ? &lines()->waiting_weight() : &uncounted_;
         return status;
     }
 
@@ -64,10 +64,10 @@ template <class K, class V> class Objects : public Entries<1> {
     // The only way to an object: none that is found while this lives is freed before it ends.
     class Pinned {
       public:
-        explicit Pinned(Objects &those) noexcept : objects_(those), slot_(those.turns_.own_slot()), own_(those.epochs_, those.turns_.place_of(slot_)) {}
+        explicit Pinned(Objects &those) noexcept : objects_(those), slot_(those.own_slot()), own_(those.epochs_, those.place_of(slot_)) {}
         [[gnu::always_inline]] Seen look(uint64_t index, uint32_t most, uint64_t generation) noexcept {
             std::array<uint64_t, 1> word;
-            const inside::Seen seen = objects_.turns_.get(slot_, index, most, word);
+            const inside::Seen seen = objects_.get(slot_, index, most, word);
             if (seen.status != Status::ok) {
                 return {seen.status, nullptr, seen.since};
             }
@@ -77,14 +77,14 @@ template <class K, class V> class Objects : public Entries<1> {
         // The same, also what has ended. It is no use of the object.
         Seen look_at_all(uint64_t index, uint32_t most) noexcept {
             std::array<uint64_t, 1> word;
-            const inside::Seen seen = objects_.turns_.get(slot_, index, most, word);
+            const inside::Seen seen = objects_.get(slot_, index, most, word);
             return {seen.status, seen.status == Status::ok ? Each::found_at(word[0]) : nullptr, seen.since};
         }
         // Counts a lookup of the map.
-        [[gnu::always_inline]] void count(Status status) noexcept { objects_.turns_.count(slot_, status); }
+        [[gnu::always_inline]] void count(Status status) noexcept { objects_.count(slot_, static_cast<Counted>(status)); }
         // The same as `look`, which is no use of the object. It takes the turn at the key's shard, so the status may be held, and never busy.
         Seen peek(uint64_t index, uint64_t generation) noexcept {
-            const Answer<1> answer = objects_.turns_.repeated([&](Slot<1> &slot) { return slot.handle.try_peek(index); });
+            const Answer<1> answer = objects_.repeated([&](Slot<1> &slot) { return slot.handle.try_peek(index); });
             if (!answer.value) {
                 return {answer.status, nullptr, answer.since};
             }
@@ -93,7 +93,7 @@ template <class K, class V> class Objects : public Entries<1> {
         }
         // The moment of the put of what is under a number, if that has expired or is of an older generation, or else 0. It is no use of the object.
         uint64_t expired(uint64_t index, uint64_t generation) noexcept {
-            const Answer<1> answer = objects_.turns_.repeated([&](Slot<1> &slot) { return slot.handle.try_peek(index); });
+            const Answer<1> answer = objects_.repeated([&](Slot<1> &slot) { return slot.handle.try_peek(index); });
             return answer.value && objects_.has_ended(*Each::at((*answer.value)[0]), generation) ? answer.since : 0;
         }
 
@@ -137,7 +137,7 @@ template <class K, class V> class Objects : public Entries<1> {
     [[gnu::always_inline]] Status put(uint64_t index, Own &object, Change &change) noexcept {
         const auto is_new = [&] { return !has(index); };
         return offered(index, object, change, is_new, [&](Slot<1> &slot) {
-            object->end_making(object->kind(), generation_.now());
+            object->end_making(object->kind(), generations.now());
             return counted(slot, slot.handle.try_swap(index, object->word()));
         });
     }
@@ -164,25 +164,26 @@ template <class K, class V> class Objects : public Entries<1> {
     // What gave way is no older value of the key: it is another key's, or had ended.
     void gave_way(Change &change) noexcept {
         change.why = Left::evicted, change.renewed = false, change.evicted = true;
-        if (!has_ended(*change.old, generation_.now())) {
-            turns_.call([](Slot<1> &slot) { slot.count(evictions, 1); });
+        if (!has_ended(*change.old, generations.now())) {
+            count(own_slot(), evictions);
         }
     }
     // Removes what was put at that moment.
     Status take(uint64_t index, uint64_t since, Change &change) noexcept {
         return removed(index, change, [&](Slot<1> &slot) { return slot.handle.try_take_if(index, since); });
     }
-    // Each shard is listed at a moment of its own, and each key that is listed is removed.
+    // Removes each key that is listed.
     Status clear() noexcept {
+        flights.outdate_all();
         return each_listed([this](uint64_t index, const auto &) {
             Change change(*this);
             return removed(index, change, [&](Slot<1> &slot) { return slot.handle.try_take(index); });
         });
     }
-    // Removes what has expired or is of an older generation, by such a list.
+    // Removes what has expired or is of an older generation.
     Status erase_expired() noexcept {
         return each_listed([this](uint64_t index, const auto &) {
-            const uint64_t since = Pinned(*this).expired(index, generation_.now());
+            const uint64_t since = Pinned(*this).expired(index, generations.now());
             Change change(*this);
             return since != 0 ? take(index, since, change) : Status::ok;
         });
@@ -202,7 +203,7 @@ template <class K, class V> class Objects : public Entries<1> {
     }
     // With the key's lock. The object gets the generation of now, or, if it was computed, must have that.
     bool begins(Each &object, bool is_computed) noexcept {
-        const uint64_t now = generation_.now(), own = object.generation();
+        const uint64_t now = generations.now(), own = object.generation();
         object.end_making(object.kind(), is_computed ? own : now);
         return !is_computed || own == now;
     }
@@ -210,7 +211,7 @@ template <class K, class V> class Objects : public Entries<1> {
         if (is_too_deep()) {
             return Status::too_deep;
         }
-        const Swapped<1> taken = turns_.locked(index, [&](Slot<1> &slot) {
+        const Swapped<1> taken = locked(index, [&](Slot<1> &slot) {
             const Swapped<1> tried = take(slot);
             slot.add(tried.status == Status::ok ? -1 : 0);
             return tried;
@@ -270,7 +271,7 @@ template <class K, class V> class Objects : public Entries<1> {
         if (is_too_deep()) {
             return Status::too_deep;
         }
-        return rules_.weigher ? offered_weighed(index, object, change, is_new, make) : ended(index, object, change, turns_.locked(index, make));
+        return rules_.weigher ? offered_weighed(index, object, change, is_new, make) : ended(index, object, change, locked(index, make));
     }
     // Others leave for a new key before it is put, so that it is not itself what gives way.
     template <class IsNew, class Make>
@@ -283,7 +284,7 @@ template <class K, class V> class Objects : public Entries<1> {
         if (weights_.is_over() && is_new()) {
             shrink(change);
         }
-        const Status status = ended(index, object, change, turns_.locked(index, make));
+        const Status status = ended(index, object, change, locked(index, make));
         if (status != Status::ok) {
             weights_.subtract(index, weight);
         }
@@ -293,29 +294,28 @@ template <class K, class V> class Objects : public Entries<1> {
     // Whether the index has an object for the key.
     bool has(uint64_t index) noexcept {
         std::array<uint64_t, 1> word;
-        return turns_.get(turns_.own_slot(), index, turns_.looks(), word).status == Status::ok;
+        return get(own_slot(), index, looks(), word).status == Status::ok;
     }
     // Evicts objects until the others are within the bound, if they are not: each from a shard that has more than its share. It goes round. What calls
     // are about to put counts, so there may be no object in such a shard: then it goes round all shards. It gives up if it finds none there, or if other
     // threads keep it from so many tries: then a later put goes on.
     void shrink(Change &change) noexcept {
-        const uint32_t shards = turns_.shards();
-        for (uint32_t looks = 0, held = 0; weights_.is_over() && looks < 2 * shards && held <= turns_.tries();) {
+        for (uint32_t looked = 0, held = 0; weights_.is_over() && looked < 2 * shards() && held <= tries();) {
             const uint64_t near = weights_.next();
-            if (looks < shards && !weights_.has_more(near)) {
-                looks++;
+            if (looked < shards() && !weights_.has_more(near)) {
+                looked++;
                 continue;
             }
             switch (evict(near, change)) {
-            case Status::ok: looks = 0; break;
-            case Status::absent: looks++; break;
+            case Status::ok: looked = 0; break;
+            case Status::absent: looked++; break;
             default: wait_before(held++);
             }
         }
     }
     // Evicts an object of the shard that has this key.
     Status evict(uint64_t near, Change &change) noexcept {
-        const Swapped<1> taken = turns_.call([&](Slot<1> &slot) {
+        const Swapped<1> taken = call([&](Slot<1> &slot) {
             const Swapped<1> tried = slot.handle.try_evict(near);
             const bool is_done = tried.status == Status::ok;
             slot.add(is_done ? -1 : 0);
@@ -338,16 +338,16 @@ template <class K, class V> class Objects : public Entries<1> {
     void retire(Each &object, Left why) noexcept {
         if (rules_.listener) {
             listeners()++;
-            rules_.listener(object.key, object.value, has_ended(object, generation_.now()) ? Left::expired : why);
+            rules_.listener(object.key, object.value, has_ended(object, generations.now()) ? Left::expired : why);
             listeners()--;
         }
-        Slot<1> *const slot = turns_.own_slot();
+        Slot<1> *const slot = own_slot();
         count_waiting(slot, object, 1);
-        static_cast<void>(free(epochs_.retire(object, turns_.place_of(slot))));
+        static_cast<void>(free(epochs_.retire(object, place_of(slot))));
     }
     // Counts one object more or less.
     void count_waiting(Slot<1> *slot, Each &object, int64_t more) noexcept {
-        turns_.count(slot, inside::waiting, static_cast<uint64_t>(more));
+        count(slot, inside::waiting, static_cast<uint64_t>(more));
         if (rules_.weigher) {
             waiting_weight_->fetch_add(static_cast<uint64_t>(more) * Heavy::of(object).weight, std::memory_order_relaxed);
         }
@@ -376,7 +376,7 @@ template <class K, class V> class Objects : public Entries<1> {
         for (Retired *next = nullptr; first != nullptr; first = next, count++) {
             next = first->next;
             const Own object(static_cast<Each *>(first));
-            count_waiting(turns_.own_slot(), *object, -1);
+            count_waiting(own_slot(), *object, -1);
         }
         return count;
     }
