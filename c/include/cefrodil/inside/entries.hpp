@@ -11,9 +11,7 @@
 #include <cstdint>
 #include <vector>
 
-namespace cefrodil {
-
-namespace inside {
+namespace cefrodil::inside {
 
 // The generation of a map's entries. `invalidate_all` begins the next one. Each entry has the generation in which the call began that put it. An entry
 // of an older generation is absent. map/SAFETY.md says why that suffices.
@@ -62,8 +60,6 @@ template <size_t Words> class Entries : public Turns<Words> {
     }
 };
 
-} // namespace inside
-
-} // namespace cefrodil
+} // namespace cefrodil::inside
 
 #endif

@@ -11,9 +11,7 @@
 #include <type_traits>
 #include <utility>
 
-namespace cefrodil {
-
-namespace inside {
+namespace cefrodil::inside {
 
 template <class K, class V, class Hash, class Equal> struct KeyedObjects {
     using Key = Taken<K, Hash>;
@@ -111,8 +109,6 @@ template <class K, class V, class Hash, class Equal> struct KeyedObjects {
     All entries;
 };
 
-} // namespace inside
-
-} // namespace cefrodil
+} // namespace cefrodil::inside
 
 #endif

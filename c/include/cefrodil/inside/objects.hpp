@@ -15,9 +15,7 @@
 #include <utility>
 #include <vector>
 
-namespace cefrodil {
-
-namespace inside {
+namespace cefrodil::inside {
 
 // The entries of a map of objects, and what has left them.
 template <class K, class V> class Objects : public Entries<1> {
@@ -90,11 +88,6 @@ template <class K, class V> class Objects : public Entries<1> {
             }
             Each *const object = Each::at((*answer.value)[0]);
             return objects_.has_ended(*object, generation) ? Seen{Status::absent, nullptr, answer.since} : Seen{Status::ok, object, answer.since};
-        }
-        // The moment of the put of what is under a number, if that has expired or is of an older generation, or else 0. It is no use of the object.
-        uint64_t expired(uint64_t index, uint64_t generation) noexcept {
-            const Answer<1> answer = objects_.repeated([&](Slot<1> &slot) { return slot.handle.try_peek(index); });
-            return answer.value && objects_.has_ended(*Each::at((*answer.value)[0]), generation) ? answer.since : 0;
         }
 
       private:
@@ -183,9 +176,9 @@ template <class K, class V> class Objects : public Entries<1> {
     // Removes what has expired or is of an older generation.
     Status erase_expired() noexcept {
         return each_listed([this](uint64_t index, const auto &) {
-            const uint64_t since = Pinned(*this).expired(index, generations.now());
+            const Seen seen = Pinned(*this).peek(index, generations.now());
             Change change(*this);
-            return since != 0 ? take(index, since, change) : Status::ok;
+            return seen.status == Status::absent && seen.since != 0 ? take(index, seen.since, change) : Status::ok;
         });
     }
     size_t free_now() noexcept { return free(epochs_.free_now()); }
@@ -392,8 +385,6 @@ template <class K, class V> class Objects : public Entries<1> {
     std::atomic<uint64_t> uncounted_{0}, *waiting_weight_ = &uncounted_;
 };
 
-} // namespace inside
-
-} // namespace cefrodil
+} // namespace cefrodil::inside
 
 #endif

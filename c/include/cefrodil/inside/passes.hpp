@@ -17,9 +17,7 @@
 #include <utility>
 #include <vector>
 
-namespace cefrodil {
-
-namespace inside {
+namespace cefrodil::inside {
 
 // Which passes no thread has. Pass 0 is the shared one, which no thread takes. A thread that has a pass keeps this, but not the passes: they may
 // end before the thread does.
@@ -255,8 +253,6 @@ template <size_t Words> class Passes {
     std::atomic<uint64_t> shared_calls_{0};
 };
 
-} // namespace inside
-
-} // namespace cefrodil
+} // namespace cefrodil::inside
 
 #endif

@@ -3,12 +3,16 @@
 #define CEFRODIL_INSIDE_TABLE_HPP
 
 #include "entries.hpp"
-#include "packing.hpp"
-#include "times.hpp"
+#include "hash.hpp"
+#include "lives.hpp"
+#include "values.hpp"
 #include <algorithm>
 #include <array>
+#include <cstddef>
+#include <cstdint>
+#include <cstring>
+#include <memory>
 #include <optional>
-#include <vector>
 
 namespace cefrodil {
 
@@ -28,6 +32,32 @@ struct Stored {
 };
 
 namespace inside {
+
+// How an entry lies in the words of the index: the check word of its key, the moments at which it ends, if it has any, and then its value.
+template <class V, size_t Moments> struct Packing {
+    // A larger value has no map, and gets no second message from the index.
+    static constexpr size_t words = std::min<size_t>(8, 1 + Moments + words_of<V>);
+    using Words = std::array<uint64_t, words>;
+    using Ends = std::array<uint64_t, Moments>;
+
+    static Words pack(const Identity &key, const Ends &ends, const V &value) noexcept {
+        Words packed{key.check};
+        const auto own = words_from(value);
+        std::copy(own.begin(), own.end(), packed.begin() + 1 + Moments);
+        set_ends(packed, ends);
+        return packed;
+    }
+    static void set_ends(Words &packed, const Ends &ends) noexcept { std::copy(ends.begin(), ends.end(), packed.begin() + 1); }
+    static Ends ends_of(const Words &packed) noexcept {
+        Ends ends{};
+        std::copy_n(packed.begin() + 1, Moments, ends.begin());
+        return ends;
+    }
+    // Sets the value where it stays: a copy of it would cost.
+    static void set_value(const Words &packed, std::optional<V> &value) noexcept {
+        std::memcpy(static_cast<void *>(std::addressof(value.emplace())), packed.data() + 1 + Moments, sizeof(V));
+    }
+};
 
 // A key as its entries of this generation have it: with another check word in each. The multiplier is odd, so no two generations have the same words.
 inline Identity in_generation(const Identity &key, uint64_t generation) noexcept {

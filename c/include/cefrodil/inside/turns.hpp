@@ -11,9 +11,7 @@
 #include <thread>
 #include <type_traits>
 
-namespace cefrodil {
-
-namespace inside {
+namespace cefrodil::inside {
 
 // map/SETTINGS has these numbers, and those of Rust's maps.
 // So many repetitions spin at first, and from a later one on a call sleeps before it is repeated.
@@ -179,8 +177,6 @@ template <size_t Words> class Turns : public Passes<Words> {
     uint64_t capacity_ = 0;
 };
 
-} // namespace inside
-
-} // namespace cefrodil
+} // namespace cefrodil::inside
 
 #endif

@@ -7,9 +7,7 @@
 #include <cstdint>
 #include <vector>
 
-namespace cefrodil {
-
-namespace inside {
+namespace cefrodil::inside {
 
 // The sum of all, and that of each shard. A key is one of the shard.
 //
@@ -51,8 +49,6 @@ class Weights {
     std::vector<Sum> sums_{};
 };
 
-} // namespace inside
-
-} // namespace cefrodil
+} // namespace cefrodil::inside
 
 #endif
