@@ -143,8 +143,9 @@ template <class Inner> class AnyMap {
 // Or it has 64 bits: `uint64_t operator()(const K &key, uint64_t seed) const`. Then it is called twice, with two seeds, which must give independent
 // hashes.
 // `Times`: a timed_map has another.
-template <class K, class V, class Hash = SipHash<K>, class Times = inside::Timeless> class map : public inside::AnyMap<inside::Values<K, V, Hash, Times>> {
-    using Inner = inside::Values<K, V, Hash, Times>;
+template <class K, class V, class Hash = SipHash<K>, class Times = inside::Timeless>
+class map : public inside::AnyMap<inside::Opened<K, Hash, inside::Table<V, Times>>> {
+    using Inner = inside::Opened<K, Hash, inside::Table<V, Times>>;
     using inside::AnyMap<Inner>::inner_;
     static constexpr bool never_throws = inside::Identities<inside::Taken<K, Hash>, Hash>::never_throws;
 

@@ -55,7 +55,7 @@
 #ifndef CEFRODIL_OBJECT_MAP_HPP
 #define CEFRODIL_OBJECT_MAP_HPP
 
-#include "cefrodil/inside/keyed_objects.hpp"
+#include "cefrodil/inside/objects.hpp"
 #include "cefrodil_map.hpp"
 #include <algorithm>
 #include <array>
@@ -70,15 +70,16 @@ namespace cefrodil {
 
 // A map of K to V. A hash of yours is as that of cefrodil::map; `Equal` compares a K with what a call takes as a key.
 template <class K, class V, class Hash = SipHash<K>, class Equal = std::equal_to<>>
-class object_map : public inside::AnyMap<inside::KeyedObjects<K, V, Hash, Equal>> {
-    using Inner = inside::KeyedObjects<K, V, Hash, Equal>;
+class object_map : public inside::AnyMap<inside::Opened<K, Hash, inside::Objects<K, V>>> {
+    using Inner = inside::Opened<K, Hash, inside::Objects<K, V>>;
     using inside::AnyMap<Inner>::inner_;
     using Objects = inside::Objects<K, V>;
-    using Pinned = typename Inner::Pinned;
-    using Seen = typename Inner::Seen;
-    using Change = typename Inner::Change;
-    using Own = typename Inner::Own;
-    using Life = typename Inner::Life;
+    using Pinned = typename Objects::Pinned;
+    using Seen = typename Objects::Seen;
+    using Change = typename Objects::Change;
+    using Own = typename Objects::Own;
+    // A time to live that a call says, or that of the map.
+    using Life = std::optional<std::chrono::nanoseconds>;
 
   public:
     // How a call takes a key. A string is taken as a view.
@@ -96,7 +97,7 @@ class object_map : public inside::AnyMap<inside::KeyedObjects<K, V, Hash, Equal>
         return open(options, std::move(rules), std::move(hash));
     }
     [[nodiscard]] Status open(const MapOptions &options, Rules rules, Hash hash = Hash()) noexcept {
-        return this->open_as(options, [&] { return std::make_unique<Inner>(options.passes, std::move(rules), std::move(hash)); });
+        return this->open_as(options, [&] { return std::make_unique<Inner>(std::move(hash), options.passes, std::move(rules)); });
     }
 
     // Calls `see(const V &)` with the key's value. ok, or absent, busy or closed: then it was not called. The value stays for so long, though another
@@ -107,7 +108,7 @@ class object_map : public inside::AnyMap<inside::KeyedObjects<K, V, Hash, Equal>
         }
         Pinned pinned(inner_->entries);
         const inside::Identity known = inner_->identities.of(key);
-        const Seen seen = inner_->look(pinned, known, key, inner_->entries.looks(), inner_->generation());
+        const Seen seen = look_up(pinned, known, key, inner_->entries.looks(), generation());
         pinned.count(seen.status);
         if (seen.status == Status::ok) {
             see(static_cast<const V &>(seen.object->value));
@@ -121,7 +122,7 @@ class object_map : public inside::AnyMap<inside::KeyedObjects<K, V, Hash, Equal>
             return Status::closed;
         }
         Pinned pinned(inner_->entries);
-        const Seen seen = Inner::own(pinned.peek(inner_->identities.of(key).index, inner_->generation()), key);
+        const Seen seen = own(pinned.peek(inner_->identities.of(key).index, generation()), key);
         if (seen.status == Status::ok) {
             see(static_cast<const V &>(seen.object->value));
         }
@@ -152,7 +153,7 @@ class object_map : public inside::AnyMap<inside::KeyedObjects<K, V, Hash, Equal>
     // Puts a key that is absent. Statuses are those of cefrodil::map, and no_memory, and too_heavy: it weighs more than the bound. Unless ok, a V that
     // was moved here is moved back.
     template <class Value = V> [[nodiscard]] Stored insert(Key key, Value &&value) {
-        return put<Value>(key, value, std::nullopt, [&](const auto &known, Own &object, Change &change) { return inner_->insert(known, key, object, change); });
+        return put<Value>(key, value, std::nullopt, [&](const auto &known, Own &object, Change &change) { return put_new(known, key, object, change); });
     }
     // Puts a key, whether it is there or not. Unless ok, an earlier value is still there.
     template <class Value = V> [[nodiscard]] Stored insert_or_assign(Key key, Value &&value) {
@@ -160,7 +161,7 @@ class object_map : public inside::AnyMap<inside::KeyedObjects<K, V, Hash, Equal>
     }
     // The same, with a time to live of its own, in any map. A time of 0 or less is over at once, and `forever` never.
     template <class Value = V> [[nodiscard]] Stored insert_for(Key key, Value &&value, std::chrono::nanoseconds life) {
-        return put<Value>(key, value, life, [&](const auto &known, Own &object, Change &change) { return inner_->insert(known, key, object, change); });
+        return put<Value>(key, value, life, [&](const auto &known, Own &object, Change &change) { return put_new(known, key, object, change); });
     }
     template <class Value = V> [[nodiscard]] Stored insert_or_assign_for(Key key, Value &&value, std::chrono::nanoseconds life) {
         return put<Value>(key, value, life, [&](const auto &known, Own &object, Change &change) { return inner_->entries.put(known.index, object, change); });
@@ -186,7 +187,7 @@ class object_map : public inside::AnyMap<inside::KeyedObjects<K, V, Hash, Equal>
         const inside::Identity known = inner_->identities.of(key);
         inner_->entries.flights.outdate(known);
         for (uint32_t repeat = 0;; repeat++) {
-            const Seen seen = inner_->look_to_take(known, key);
+            const Seen seen = look_to_take(known, key);
             if (seen.object == nullptr) {
                 return seen.status;
             }
@@ -229,10 +230,77 @@ class object_map : public inside::AnyMap<inside::KeyedObjects<K, V, Hash, Equal>
     uint64_t waiting_weight() const noexcept { return inner_ ? inner_->entries.waiting_weight() : 0; }
 
   private:
+    uint64_t generation() const noexcept { return inner_->entries.generations.now(); }
+    // An object of another key with the same number is none of this key's.
+    static Seen own(Seen seen, Key key) {
+        const bool is_other = seen.status == Status::ok && !Equal()(seen.object->key, key);
+        return is_other ? Seen{Status::absent, nullptr, seen.since} : seen;
+    }
+    // The key's object. Compiled into its callers: a call costs a tenth of a lookup.
+    [[gnu::always_inline]] static Seen look_up(const Pinned &pinned, const inside::Identity &known, Key key, uint32_t most, uint64_t begun) {
+        return own(pinned.look(known.index, most, begun), key);
+    }
+    // The key's object, for its removal, which is no use of it. If it has ended it is absent, but is removed all the same: an update that found it before
+    // must not renew it.
+    Seen look_to_take(const inside::Identity &known, Key key) {
+        const uint64_t now = generation();
+        Pinned pinned(inner_->entries);
+        const Seen seen = pinned.look_at_all(known.index, inner_->entries.tries());
+        // This acquires what the object was made with, before its key is compared.
+        const bool has_ended = seen.object != nullptr && inner_->entries.has_ended(*seen.object, now);
+        Seen taken = own(seen, key);
+        if (taken.object != nullptr && has_ended) {
+            taken.status = Status::absent;
+        }
+        return taken;
+    }
+    // Puts a key that is absent, or says `present`. What is there gives way if it has ended, or is another key's.
+    Status put_new(const inside::Identity &known, Key key, Own &object, Change &change, bool is_computed = false) {
+        Objects &objects = inner_->entries;
+        for (uint32_t repeat = 0;; repeat++) {
+            const Seen seen = look_up(Pinned(objects), known, key, objects.tries(), object->generation());
+            if (seen.status != Status::absent) {
+                return seen.status == Status::ok ? Status::present : seen.status;
+            }
+            const Status status = objects.put_new(known.index, seen.since, object, is_computed, change);
+            if (!inside::is_lost(status)) {
+                if (change.renewed) {
+                    objects.gave_way(change);
+                }
+                return status;
+            }
+            if (repeat >= objects.tries()) {
+                return Status::changed;
+            }
+        }
+    }
+    // Makes an object of what the function makes of the key's value. `seen`: what it looked up.
+    template <class Function>
+    [[gnu::always_inline]] Own made_of(const inside::Identity &known, Key key, const Life &life, Function &function, uint64_t begun, Seen &seen) {
+        Objects &objects = inner_->entries;
+        Pinned pinned(objects);
+        seen = look_up(pinned, known, key, objects.tries(), begun);
+        if (seen.status != Status::ok) {
+            return Own();
+        }
+        const auto made = [&] { return function(static_cast<const V &>(seen.object->value)); };
+        // It has the generation of what it replaces.
+        const auto make = [&](const auto &give) {
+            const uint64_t deadline = life ? objects.deadline_after(*life) : Objects::deadline_of(*seen.object);
+            return objects.make_until(key, give, seen.object->generation(), deadline);
+        };
+        if constexpr (std::is_same_v<decltype(made()), std::optional<V>>) {
+            std::optional<V> next = made();
+            seen.status = next ? Status::ok : Status::declined;
+            return next ? make([&] { return std::move(*next); }) : Own();
+        } else {
+            return make(made);
+        }
+    }
     // A copy of the key's value, if it is there. It isn't counted.
     std::optional<V> seek(Key key) const {
-        Pinned pinned(inner_->entries);
-        const Seen seen = inner_->look(pinned, inner_->identities.of(key), key, inner_->entries.looks(), inner_->generation());
+        const Pinned pinned(inner_->entries);
+        const Seen seen = look_up(pinned, inner_->identities.of(key), key, inner_->entries.looks(), generation());
         return seen.status == Status::ok ? std::optional<V>(seen.object->value) : std::nullopt;
     }
     // Computes the key's value, if no other call does so now, and puts it. None: another call did.
@@ -242,14 +310,14 @@ class object_map : public inside::AnyMap<inside::KeyedObjects<K, V, Hash, Equal>
         if (!flight.has_begun()) {
             return std::nullopt;
         }
-        const uint64_t generation = inner_->generation();
+        const uint64_t begun = generation();
         // Another flight may have ended between the lookup and the begin of this one.
         if (std::optional<V> found = seek(key)) {
             return Computed<V>{Status::ok, std::move(*found), false};
         }
         V value = function();
-        Own object = inner_->entries.make(key, [&]() -> const V & { return value; }, generation);
-        const Status status = flight.land([&] { return object ? inner_->insert(known, key, object, change, true) : Status::no_memory; });
+        Own object = inner_->entries.make(key, [&]() -> const V & { return value; }, begun);
+        const Status status = flight.land([&] { return object ? put_new(known, key, object, change, true) : Status::no_memory; });
         return Computed<V>{status, std::move(value), true};
     }
     // Replaces the value, until no other thread is first.
@@ -259,12 +327,18 @@ class object_map : public inside::AnyMap<inside::KeyedObjects<K, V, Hash, Equal>
         }
         const inside::Identity known = inner_->identities.of(key);
         inner_->entries.flights.outdate(known);
-        const uint64_t generation = inner_->generation();
+        const uint64_t begun = generation();
         for (uint32_t repeat = 0;; repeat++) {
             Seen seen{};
             Change change(inner_->entries);
-            const Status status = inner_->renew(known, key, life, function, generation, seen, change);
-            if (seen.status != Status::ok || !inside::is_lost(status)) {
+            Own object = made_of(known, key, life, function, begun, seen);
+            if (seen.status != Status::ok) {
+                return seen.status;
+            }
+            // A flight may have begun while the function ran.
+            inner_->entries.flights.outdate(known);
+            const Status status = object ? inner_->entries.replace(known.index, seen.since, object, change) : Status::no_memory;
+            if (!inside::is_lost(status)) {
                 return status;
             }
             if (repeat >= inner_->entries.tries()) {
@@ -280,8 +354,8 @@ class object_map : public inside::AnyMap<inside::KeyedObjects<K, V, Hash, Equal>
         const inside::Identity known = inner_->identities.of(key);
         const auto give = [&]() -> Value && { return std::forward<Value>(value); };
         Objects &objects = inner_->entries;
-        const uint64_t generation = inner_->generation();
-        Own object = life ? objects.make_until(key, give, generation, objects.deadline_after(*life)) : objects.make(key, give, generation);
+        const uint64_t begun = generation();
+        Own object = life ? objects.make_until(key, give, begun, objects.deadline_after(*life)) : objects.make(key, give, begun);
         if (!object) {
             return {Status::no_memory, false, false};
         }
@@ -298,6 +372,7 @@ class object_map : public inside::AnyMap<inside::KeyedObjects<K, V, Hash, Equal>
         }
         return {status, change.renewed, change.evicted};
     }
+
     static_assert(std::is_object_v<K> && std::is_object_v<V> && !std::is_const_v<V>, "keys and values are objects");
     static_assert(std::is_nothrow_destructible_v<K> && std::is_nothrow_destructible_v<V>, "destructors of keys and values throw nothing");
     static_assert(inside::hashes<Hash, inside::Taken<K, Hash>>, "a hash has the call that cefrodil::map asks for");

@@ -3,12 +3,14 @@
 #define CEFRODIL_INSIDE_ENTRIES_HPP
 
 #include "flights.hpp"
+#include "hash.hpp"
 #include "threads.hpp"
 #include "turns.hpp"
 #include <algorithm>
 #include <array>
 #include <cstddef>
 #include <cstdint>
+#include <utility>
 #include <vector>
 
 namespace cefrodil::inside {
@@ -58,6 +60,14 @@ template <size_t Words> class Entries : public Turns<Words> {
         }
         return status;
     }
+};
+
+// What an open map owns.
+template <class K, class Hash, class All> struct Opened {
+    template <class... Made> explicit Opened(Hash &&hash, Made &&...made) : identities(std::move(hash)), entries(std::forward<Made>(made)...) {}
+
+    Identities<Taken<K, Hash>, Hash> identities;
+    All entries;
 };
 
 } // namespace cefrodil::inside

@@ -63,7 +63,7 @@ template <class K, class V> class Objects : public Entries<1> {
     class Pinned {
       public:
         explicit Pinned(Objects &those) noexcept : objects_(those), slot_(those.own_slot()), own_(those.epochs_, those.place_of(slot_)) {}
-        [[gnu::always_inline]] Seen look(uint64_t index, uint32_t most, uint64_t generation) noexcept {
+        [[gnu::always_inline]] Seen look(uint64_t index, uint32_t most, uint64_t generation) const noexcept {
             std::array<uint64_t, 1> word;
             const inside::Seen seen = objects_.get(slot_, index, most, word);
             if (seen.status != Status::ok) {
@@ -73,15 +73,15 @@ template <class K, class V> class Objects : public Entries<1> {
             return objects_.is_used(*object, generation) ? Seen{Status::ok, object, seen.since} : Seen{Status::absent, nullptr, seen.since};
         }
         // The same, also what has ended. It is no use of the object.
-        Seen look_at_all(uint64_t index, uint32_t most) noexcept {
+        Seen look_at_all(uint64_t index, uint32_t most) const noexcept {
             std::array<uint64_t, 1> word;
             const inside::Seen seen = objects_.get(slot_, index, most, word);
             return {seen.status, seen.status == Status::ok ? Each::found_at(word[0]) : nullptr, seen.since};
         }
         // Counts a lookup of the map.
-        [[gnu::always_inline]] void count(Status status) noexcept { objects_.count(slot_, static_cast<Counted>(status)); }
+        [[gnu::always_inline]] void count(Status status) const noexcept { objects_.count(slot_, static_cast<Counted>(status)); }
         // The same as `look`, which is no use of the object. It takes the turn at the key's shard, so the status may be held, and never busy.
-        Seen peek(uint64_t index, uint64_t generation) noexcept {
+        Seen peek(uint64_t index, uint64_t generation) const noexcept {
             const Answer<1> answer = objects_.repeated([&](Slot<1> &slot) { return slot.handle.try_peek(index); });
             if (!answer.value) {
                 return {answer.status, nullptr, answer.since};

@@ -327,14 +327,6 @@ class Table : public Entries<Packing<V, Times::moments>::words>, private Packing
     }
 };
 
-// What an open map owns.
-template <class K, class V, class Hash, class Times> struct Values {
-    Values(Hash &&hash, const Times &times) : identities(std::move(hash)), entries(times) {}
-
-    Identities<Taken<K, Hash>, Hash> identities;
-    Table<V, Times> entries;
-};
-
 } // namespace inside
 
 } // namespace cefrodil
