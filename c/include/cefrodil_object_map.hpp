@@ -286,8 +286,8 @@ class object_map : public inside::AnyMap<inside::Opened<K, Hash, inside::Objects
         const auto made = [&] { return function(static_cast<const V &>(seen.object->value)); };
         // It has the generation of what it replaces.
         const auto make = [&](const auto &give) {
-            const uint64_t deadline = life ? objects.deadline_after(*life) : Objects::deadline_of(*seen.object);
-            return objects.make_until(key, give, seen.object->generation(), deadline);
+            const uint64_t deadline = life ? objects.deadline(life) : Objects::deadline_of(*seen.object);
+            return objects.make(key, give, seen.object->generation(), deadline);
         };
         if constexpr (std::is_same_v<decltype(made()), std::optional<V>>) {
             std::optional<V> next = made();
@@ -316,7 +316,7 @@ class object_map : public inside::AnyMap<inside::Opened<K, Hash, inside::Objects
             return Computed<V>{Status::ok, std::move(*found), false};
         }
         V value = function();
-        Own object = inner_->entries.make(key, [&]() -> const V & { return value; }, begun);
+        Own object = inner_->entries.make(key, [&]() -> const V & { return value; }, begun, inner_->entries.deadline({}));
         const Status status = flight.land([&] { return object ? put_new(known, key, object, change, true) : Status::no_memory; });
         return Computed<V>{status, std::move(value), true};
     }
@@ -354,8 +354,7 @@ class object_map : public inside::AnyMap<inside::Opened<K, Hash, inside::Objects
         const inside::Identity known = inner_->identities.of(key);
         const auto give = [&]() -> Value && { return std::forward<Value>(value); };
         Objects &objects = inner_->entries;
-        const uint64_t begun = generation();
-        Own object = life ? objects.make_until(key, give, begun, objects.deadline_after(*life)) : objects.make(key, give, begun);
+        Own object = objects.make(key, give, generation(), objects.deadline(life));
         if (!object) {
             return {Status::no_memory, false, false};
         }

@@ -111,20 +111,17 @@ template <class K, class V> class Objects : public Entries<1> {
         Retired *first = nullptr, **last = &first; // all that has left, each with the next one
     };
     // Makes an object of this generation. None without memory: then the function is not called.
-    template <class Key, class Give> [[gnu::always_inline]] Own make(const Key &key, const Give &give, uint64_t generation) const {
-        if (clock_.has_lives()) {
-            return make_mortal(key, give, generation, clock_.deadline());
+    template <class Key, class Give>
+    [[gnu::always_inline]] Own make(const Key &key, const Give &give, uint64_t generation, uint64_t deadline) const {
+        if (clock_.has_lives() || deadline != never) {
+            return make_mortal(key, give, generation, deadline);
         }
         return rules_.weigher ? made<Heavy>(Each::weighed, key, give, generation) : made<Each>(Each::plain, key, give, generation);
     }
-    // The same, with a deadline of its own.
-    template <class Key, class Give> Own make_until(const Key &key, const Give &give, uint64_t generation, uint64_t deadline) const {
-        const bool is_mortal = clock_.has_lives() || deadline != never;
-        return is_mortal ? make_mortal(key, give, generation, deadline) : make(key, give, generation);
-    }
     // For a call of this generation.
     bool has_ended(Each &object, uint64_t generation) const noexcept { return object.generation() < generation || has_expired(object); }
-    uint64_t deadline_after(std::chrono::nanoseconds life) const noexcept { return clock_.deadline_after(life); }
+    // Of what is put now, with a time to live of its own or that of the map.
+    uint64_t deadline(const std::optional<std::chrono::nanoseconds> &life) const noexcept { return clock_.deadline(life); }
     static uint64_t deadline_of(Each &object) noexcept { return is_mortal(object) ? Dated::of(object).deadline : never; }
     // Puts whatever is there. The object gets the generation with the key's lock, so what gives way is of no newer one.
     [[gnu::always_inline]] Status put(uint64_t index, Own &object, Change &change) noexcept {
@@ -225,7 +222,10 @@ template <class K, class V> class Objects : public Entries<1> {
         return object;
     }
     static bool is_mortal(const Each &object) noexcept { return object.kind() == Each::mortal; }
-    bool has_expired(Each &object) const noexcept { return is_mortal(object) && Dated::of(object).has_ended(clock_); }
+    bool has_expired(Each &object) const noexcept {
+        return is_mortal(object) &&
+               (clock_.has_passed(Dated::of(object).deadline) || clock_.has_passed(Dated::of(object).idle_deadline.load(std::memory_order_relaxed)));
+    }
     // A call of this generation has found it. Whether it has not ended: then its time to idle begins anew.
     [[gnu::always_inline]] bool is_used(Each &object, uint64_t generation) noexcept {
         const uint64_t head = object.head.load(std::memory_order_acquire);
@@ -233,8 +233,8 @@ template <class K, class V> class Objects : public Entries<1> {
     }
     [[gnu::noinline]] bool is_used_in_time(Dated &object) noexcept {
         const bool is_live = !has_expired(object);
-        if (is_live && clock_.has_idle()) {
-            object.begin_idle(clock_);
+        if (is_live && clock_.is_due(object.idle_deadline.load(std::memory_order_relaxed))) {
+            object.idle_deadline.store(clock_.idle_deadline(), std::memory_order_relaxed);
         }
         return is_live;
     }
