@@ -237,7 +237,7 @@ class object_map : public inside::AnyMap<inside::Opened<K, Hash, inside::Objects
         return is_other ? Seen{Status::absent, nullptr, seen.since} : seen;
     }
     // The key's object. Compiled into its callers: a call costs a tenth of a lookup.
-    [[gnu::always_inline]] static Seen look_up(const Pinned &pinned, const inside::Identity &known, Key key, uint32_t most, uint64_t begun) {
+    [[gnu::always_inline]] static Seen look_up(const Pinned &pinned, const inside::Identity &known, Key key, const uint32_t &most, uint64_t begun) {
         return own(pinned.look(known.index, most, begun), key);
     }
     // The key's object, for its removal, which is no use of it. If it has ended it is absent, but is removed all the same: an update that found it before

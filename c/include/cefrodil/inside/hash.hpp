@@ -185,9 +185,9 @@ template <class Key, class Hash> class Identities {
 
     Identity of(Key key) const noexcept(never_throws) {
         if constexpr (is_own_word<Key, Hash>) {
-            Identity known{sip_hash<1, 3>(std::addressof(key), sizeof key, secret_), 0};
-            std::memcpy(&known.check, std::addressof(key), sizeof key);
-            return known;
+            uint64_t own = 0;
+            std::memcpy(&own, std::addressof(key), sizeof key);
+            return {sip_hash<1, 3>(std::addressof(key), sizeof key, secret_), own};
         } else {
             const HashPair pair = pair_of(key);
             return {is_spread<Hash> ? pair.first : mixed(pair.first), pair.second};

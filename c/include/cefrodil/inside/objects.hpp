@@ -63,7 +63,7 @@ template <class K, class V> class Objects : public Entries<1> {
     class Pinned {
       public:
         explicit Pinned(Objects &those) noexcept : objects_(those), slot_(those.own_slot()), own_(those.epochs_, those.place_of(slot_)) {}
-        [[gnu::always_inline]] Seen look(uint64_t index, uint32_t most, uint64_t generation) const noexcept {
+        [[gnu::always_inline]] Seen look(uint64_t index, const uint32_t &most, uint64_t generation) const noexcept {
             std::array<uint64_t, 1> word;
             const inside::Seen seen = objects_.get(slot_, index, most, word);
             if (seen.status != Status::ok) {

@@ -94,7 +94,9 @@ class Table : public Entries<Packing<V, Times::moments>::words>, private Packing
     Status find(const Identity &key, std::optional<V> &value) noexcept {
         Slot<words> *const slot = this->own_slot();
         if (slot == nullptr) {
-            return find_shared(key, value);
+            Found<V> found = find_shared(key);
+            value = found.value;
+            return found.status;
         }
         const Status status = seek_by(slot, key, value);
         slot->count(static_cast<Counted>(status), 1);
@@ -227,10 +229,11 @@ class Table : public Entries<Packing<V, Times::moments>::words>, private Packing
         return packed[0] == known.check && !Times::have_passed(ends_of(packed));
     }
     // Not compiled into the callers, which are quicker then with a slot.
-    [[gnu::cold]] [[gnu::noinline]] Status find_shared(const Identity &key, std::optional<V> &value) noexcept {
-        const Status status = seek_by(nullptr, key, value);
-        this->count(nullptr, static_cast<Counted>(status));
-        return status;
+    [[gnu::cold]] [[gnu::noinline]] Found<V> find_shared(Identity key) noexcept {
+        Found<V> found{};
+        found.status = seek_by(nullptr, key, found.value);
+        this->count(nullptr, static_cast<Counted>(found.status));
+        return found;
     }
     [[gnu::always_inline]] Status seek_by(Slot<words> *slot, const Identity &key, std::optional<V> &value) noexcept {
         const Identity known = now(key);
@@ -242,7 +245,7 @@ class Table : public Entries<Packing<V, Times::moments>::words>, private Packing
         return seen.status;
     }
     // Compiled into `find`.
-    [[gnu::always_inline]] Seen looked(Slot<words> *slot, const Identity &known, uint32_t most, Words &packed, std::optional<V> &value) noexcept {
+    [[gnu::always_inline]] Seen looked(Slot<words> *slot, const Identity &known, const uint32_t &most, Words &packed, std::optional<V> &value) noexcept {
         const Seen seen = this->get(slot, known.index, most, packed);
         if (seen.status != Status::ok || !is_there(known, packed)) {
             return {seen.status == Status::ok ? Status::absent : seen.status, seen.since};

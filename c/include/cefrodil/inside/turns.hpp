@@ -97,8 +97,8 @@ template <size_t Words> class Turns : public Passes<Words> {
     }
 
     // Looks a key up by a slot that `own_slot` returned: ok, absent, or busy if it was that once and then so often. A value that is found is written. By
-    // `get_or_turn`, whose export is shorter. It isn't counted.
-    Seen get(Slot<Words> *own, uint64_t key, uint32_t most, std::array<uint64_t, Words> &value) noexcept {
+    // `get_or_turn`, whose export is shorter. It isn't counted. How often is only read when it was busy.
+    Seen get(Slot<Words> *own, uint64_t key, const uint32_t &most, std::array<uint64_t, Words> &value) noexcept {
         cefrodil_reply reply;
         const Status status = this->call_by(own, [&](Slot<Words> &slot) { return slot.look(key, value, reply); });
         return status == Status::busy ? get_again(key, most, value) : Seen{status, reply.since};
@@ -141,9 +141,9 @@ template <size_t Words> class Turns : public Passes<Words> {
         });
     }
 
-    uint32_t tries() const noexcept { return tries_; }
+    const uint32_t &tries() const noexcept { return tries_; }
     // How often a lookup is repeated that is a miss if it stays busy.
-    uint32_t looks() const noexcept { return looks_; }
+    const uint32_t &looks() const noexcept { return looks_; }
     uint32_t shards() const noexcept { return shards_; }
     uint64_t capacity() const noexcept { return capacity_; }
 
