@@ -7,7 +7,7 @@ out. Each cell has the hits in percent, and in percent of the bytes that were as
 
 usage: CEFRODIL_LIB=LIB bench/mixed_sizes.py [LOOKUPS]     LIB: the folder of libcefrodil.a; LOOKUPS: 1,000,000 unless it says otherwise
 
-It takes two minutes. It needs cargo and g++ and, of Debian, the server's crates: see server/README.md.
+It takes three minutes. It needs cargo and g++ and, of Debian, the server's crates: see server/README.md.
 """
 import itertools
 import os
