@@ -134,8 +134,7 @@ impl Store {
     /// Evicts one item, or also its neighbours. Returns whether it has.
     fn evict(&self, way: Way) -> bool {
         let mut neighbours = Vec::new();
-        // The time draws a shard.
-        let has_evicted = self.index.evict(self.books.clock.now(), &mut |item| {
+        let has_evicted = self.index.evict(&mut |item| {
             if way == Way::WithNeighbours {
                 look_around(item, |other| neighbours.push((self.index.hash_of(other.key()), address_of(other))));
             }

@@ -75,9 +75,8 @@ pub trait Index: Send + Sync {
     /// Removes the item with this hash if it has this token.
     fn remove(&self, hash: u64, token: Token) -> Result<Token, Refused>;
 
-    /// Removes the item that is to give way next in a shard that the number draws, or in another one, and calls `see` with it. Returns whether it has
-    /// removed one.
-    fn evict(&self, draw: u64, see: &mut dyn FnMut(&Item)) -> bool;
+    /// Removes the item that is to give way next, in the shard with the most items, and calls `see` with it. Returns whether it has removed one.
+    fn evict(&self, see: &mut dyn FnMut(&Item)) -> bool;
 
     /// How many items there are.
     fn len(&self) -> usize;

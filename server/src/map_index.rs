@@ -5,7 +5,6 @@ use crate::index::{Index, Refused, Seen, Token};
 use crate::item::{About, Item, NewItem};
 use cefrodil_map::{BytesMap, GetError, IfError, Inserted, Look, OpenError, Put, Reason};
 use std::cell::Cell;
-use std::hash::{BuildHasher, RandomState};
 use std::sync::Arc;
 use std::time::Duration;
 
@@ -30,8 +29,8 @@ const ITEMS_OF_A_LARGE_SHARD: usize = 60_000;
 const MOST_SHARDS: usize = 256;
 
 thread_local! {
-    /// The hash of the key that gave way to the put that this thread makes, for the log.
-    static EVICTED: Cell<Option<u64>> = const { Cell::new(None) };
+    /// The key that gave way to the put that this thread makes, for the log.
+    static EVICTED: Cell<Option<Vec<u8>>> = const { Cell::new(None) };
 }
 
 /// How many shards there are for so many items, if the map does not choose that well by itself.
@@ -59,15 +58,14 @@ impl MapIndex {
     /// Opens an index for at least so many items. `books` hears of each item that leaves it, and again when that is freed.
     pub fn open(items: usize, threads: usize, books: &Arc<Books>, audit: Option<Arc<Audit>>) -> Result<MapIndex, OpenError> {
         let ([freeing, leaving], is_logged) = ([Arc::clone(books), Arc::clone(books)], audit.is_some());
-        let (hasher, freed) = (RandomState::new(), move |item: &Item| freeing.freed(item));
-        let hash_of = hasher.clone();
+        let freed = move |item: &Item| freeing.freed(item);
         let listener = move |item: &Item, reason| {
             leaving.left(item, reason);
-            if reason == Reason::Evicted {
-                EVICTED.set(is_logged.then(|| hash_of.hash_one(item.key())));
+            if is_logged && reason == Reason::Evicted {
+                EVICTED.set(Some(item.key().to_vec()));
             }
         };
-        let mut builder = BytesMap::builder(items).threads(threads).listener(listener).freed(freed).hasher(hasher);
+        let mut builder = BytesMap::builder(items).threads(threads).listener(listener).freed(freed);
         if is_logged {
             // The log has one history, that of a shard.
             builder = builder.shards(1);
@@ -95,7 +93,7 @@ impl MapIndex {
     fn log_put(&self, logged: Option<(u64, u64)>, put: Put) {
         let (Some(audit), Some((hash, digest))) = (&self.audit, logged) else { return };
         if let (Inserted::Evicted, Some(evicted)) = (put.did, EVICTED.take()) {
-            audit.line(format_args!("evict {} {evicted}", put.at - 1));
+            audit.line(format_args!("evict {} {}", put.at - 1, self.hash_of(&evicted)));
         }
         audit.line(format_args!("put {} {hash} {digest}", put.at));
     }
@@ -168,8 +166,8 @@ impl Index for MapIndex {
         Ok(at)
     }
 
-    fn evict(&self, draw: u64, see: &mut dyn FnMut(&Item)) -> bool {
-        let evicted = self.map.evict(draw, |item, at| {
+    fn evict(&self, see: &mut dyn FnMut(&Item)) -> bool {
+        let evicted = self.map.evict(|item, at| {
             self.log_change("evict", at, || self.hash_of(item.key()));
             see(item);
         });

@@ -69,8 +69,8 @@ fn each_call_has_its_line() {
     assert_eq!(index.put_if(second, item(key, 3)), Err(Refused::Absent));
     let fourth = index.put_new(item(key, 4)).expect("it was absent");
     let mut evicted = None;
-    assert!(index.evict(hash, &mut |item| evicted = Some(item.flags)) && evicted == Some(4));
-    assert!(!index.evict(hash, &mut |_| panic!("there is none")));
+    assert!(index.evict(&mut |item| evicted = Some(item.flags)) && evicted == Some(4));
+    assert!(!index.evict(&mut |_| panic!("there is none")));
     let fifth = fourth + 1;
     let line = |kind: &str, at, more: &[u64]| (kind.to_owned(), at, more.to_vec());
     let digest = |flags| digest(&item(key, flags));

@@ -155,10 +155,10 @@ fn each_item_is_evicted_once() {
         put(&index, &books, &[key], key.into());
     }
     let mut evicted = BTreeSet::new();
-    for near in 0..100 {
-        assert!(index.evict(near, &mut |item| assert!(evicted.insert(item.flags))));
+    for _ in 0..100 {
+        assert!(index.evict(&mut |item| assert!(evicted.insert(item.flags))));
     }
-    assert!(!index.evict(0, &mut |_| panic!("there is none")));
+    assert!(!index.evict(&mut |_| panic!("there is none")));
     assert_eq!((books.counts.get(Count::Evicted), index.len(), books.budget.used()), (100, 0, 0));
 }
 
@@ -168,6 +168,6 @@ fn what_has_expired_is_not_counted_as_evicted() {
     let index = MapIndex::open(1000, 1, &books, None).expect("there is memory");
     books.budget.claim(cost(3, 0)).keep();
     assert!(index.put_new(new_item(1, 0, 0, b"key", &[]).expect("there is memory")).is_ok());
-    assert!(index.evict(0, &mut |item| assert_eq!(item.key(), b"key")));
+    assert!(index.evict(&mut |item| assert_eq!(item.key(), b"key")));
     assert_eq!((books.counts.get(Count::Evicted), books.counts.get(Count::Reclaimed)), (0, 1));
 }

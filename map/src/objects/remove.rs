@@ -100,7 +100,7 @@ impl<O: Held, S> ObjectInner<O, S> {
             _ => self.core.slots.call(take),
         })?;
         self.core.slots.count(Kind::Removed);
-        self.leaving(taken.old.value[0]).tell(reason);
+        self.leaving(hash, taken.old.value[0]).tell(reason);
         Ok(taken.at)
     }
 

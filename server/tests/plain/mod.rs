@@ -148,7 +148,7 @@ impl Index for Plain {
     }
 
     /// The item that was stored longest ago.
-    fn evict(&self, _: u64, see: &mut dyn FnMut(&Item)) -> bool {
+    fn evict(&self, see: &mut dyn FnMut(&Item)) -> bool {
         let (items, _) = &mut *self.items.lock().unwrap();
         let oldest = items.iter().min_by_key(|(_, entry)| entry.token).map(|(hash, _)| *hash);
         let Some(entry) = oldest.filter(|_| !self.refuses_removal()).and_then(|hash| items.remove(&hash)) else { return false };
