@@ -2,7 +2,7 @@
 use crate::ledger::{done, next};
 use cefrodil_map::{AbsentError, Block, Bytes, BytesMap, GetError, Head, IfError, Look, Reason};
 use std::alloc::{alloc, dealloc, Layout};
-use std::hash::{BuildHasher, BuildHasherDefault, Hasher, RandomState};
+use std::hash::{BuildHasherDefault, Hasher, RandomState};
 use std::mem::offset_of;
 use std::sync::atomic::{AtomicU64, AtomicUsize, Ordering::Relaxed, Ordering::SeqCst};
 use std::sync::Arc;
