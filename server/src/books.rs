@@ -11,7 +11,6 @@ use cefrodil_map::Reason;
 const PART_OF_BUFFERS: usize = 2;
 
 /// The budget, the counts, and what decides which items are live.
-#[derive(Debug)]
 pub struct Books {
     pub budget: Budget,
     pub counts: Counts,

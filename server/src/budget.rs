@@ -22,7 +22,7 @@ const PART_OF_LOOK: u64 = 256;
 /// The bytes of items and of clients' buffers.
 // All accesses are relaxed. Each change is one atomic step, so none is lost, and an item's bytes are added before it is put and so before they
 // are subtracted. No other memory is read by what the words say.
-#[derive(Debug, Default)]
+#[derive(Default)]
 pub struct Budget {
     /// The most bytes of items.
     limit: AtomicU64,
@@ -43,7 +43,6 @@ pub struct Budget {
 }
 
 /// The bytes of an item that is about to be put. If it isn't, they are given back when this is dropped.
-#[derive(Debug)]
 pub struct Claim<'a> {
     budget: &'a Budget,
     bytes: u64,

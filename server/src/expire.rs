@@ -10,7 +10,6 @@ pub const PAUSE: Duration = Duration::from_secs(1);
 pub const LOOKED_AT: usize = 4096;
 
 /// How far the workers have come in their walk over all items.
-#[derive(Debug)]
 pub(crate) struct Round {
     position: Position,
     /// When the oldest item was made that was live.

@@ -6,7 +6,7 @@ use std::sync::Arc;
 use std::time::{Duration, Instant};
 
 /// Who serves a client, and its token there.
-#[derive(Clone, Debug)]
+#[derive(Clone)]
 pub struct Home {
     pub waker: Arc<Waker>,
     pub token: Token,
@@ -20,14 +20,13 @@ pub struct Cut {
 }
 
 /// The clients by their numbers. A number is free that has none.
-#[derive(Debug, Default)]
+#[derive(Default)]
 pub struct Holders {
     all: Vec<Option<Holder>>,
     /// The bytes of all that are not cut off.
     bytes: u64,
 }
 
-#[derive(Debug)]
 struct Holder {
     home: Option<Home>,
     bytes: u64,

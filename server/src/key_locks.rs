@@ -5,7 +5,6 @@ use std::sync::{Mutex, MutexGuard, PoisonError};
 const LOCKS: usize = 64;
 
 /// The locks of all keys.
-#[derive(Debug)]
 pub struct KeyLocks([Mutex<()>; LOCKS]);
 
 impl Default for KeyLocks {

@@ -1,5 +1,5 @@
 #![doc = include_str!("../README.md")]
-#![deny(missing_debug_implementations, unsafe_op_in_unsafe_fn)]
+#![deny(unsafe_op_in_unsafe_fn)]
 
 pub mod accept;
 pub mod allocator;

@@ -2,6 +2,7 @@
 use crate::command::text;
 use crate::index::Token;
 use crate::item::Item;
+use crate::listen::tcp;
 use crate::output::Output;
 use crate::request::Request;
 use crate::seat::{Seen, State};
@@ -10,7 +11,7 @@ use crate::store::Store;
 use crate::walk::{self, Position};
 use std::io::Write;
 use std::mem::ManuallyDrop;
-use std::net::{SocketAddr, TcpStream};
+use std::net::SocketAddr;
 use std::os::fd::{FromRawFd, RawFd};
 use std::os::unix::net::UnixStream;
 
@@ -128,9 +129,8 @@ fn list_client(store: &Store, place: &mut usize, out: &mut Output) -> bool {
 /// Writes the address of an open file's own end, or of the other one. Its worker may close it meanwhile: then this is the address of another file, or
 /// none.
 fn write_address(out: &mut Output, file: RawFd, name: &str, is_own: bool) {
-    // SAFETY: the file is not closed here, and only asked for an address: one of TCP, or otherwise of a Unix socket.
-    let (tcp, unix) =
-        unsafe { (ManuallyDrop::new(TcpStream::from_raw_fd(file)), ManuallyDrop::new(UnixStream::from_raw_fd(file))) };
+    // SAFETY: the file is not closed here, and only asked for an address.
+    let (tcp, unix) = (tcp(file), unsafe { ManuallyDrop::new(UnixStream::from_raw_fd(file)) });
     let (address, path) = if is_own { (tcp.local_addr(), unix.local_addr()) } else { (tcp.peer_addr(), unix.peer_addr()) };
     match (address, path.as_ref().ok().and_then(|address| address.as_pathname())) {
         (Ok(address @ SocketAddr::V4(_)), _) => text!(out, "STAT {file}:{name} tcp:{address}\r\n"),

@@ -12,7 +12,6 @@ use std::time::Duration;
 pub const BYTES_OF_AN_ENTRY: usize = 56;
 
 /// The map, and its log if there is one.
-#[derive(Debug)]
 pub struct MapIndex {
     map: BytesMap<About>,
     audit: Option<Arc<Audit>>,

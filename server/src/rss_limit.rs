@@ -16,7 +16,6 @@ const PART_OF_LEAST: u64 = 8;
 const PAGE: u64 = 4096;
 
 /// The most that the process may take.
-#[derive(Debug)]
 pub struct RssLimit {
     /// The kernel's numbers of pages.
     pages: File,

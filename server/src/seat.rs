@@ -13,7 +13,6 @@ pub const FREE: usize = 1 << 13;
 /// The seats of all clients.
 // The counts are relaxed, since no other memory is read by what they say. Only the thread that takes seats adds to `taken`. If that thread does
 // not see yet that a seat is free, it refuses a client.
-#[derive(Debug)]
 pub struct Seats {
     taken: AtomicUsize,
     books: Arc<Books>,
@@ -26,7 +25,6 @@ pub struct Seats {
 }
 
 /// What others see of a client.
-#[derive(Debug)]
 struct Place {
     /// Its open file, or `NO_FILE`, or `NOBODY` if the place is free.
     file: AtomicI32,
@@ -56,7 +54,6 @@ pub struct Seen {
 }
 
 /// A client's seat, until it is dropped.
-#[derive(Debug)]
 pub struct Seat {
     seats: Arc<Seats>,
     index: usize,

@@ -19,14 +19,12 @@ use std::thread;
 const SIGNAL: Token = Token(usize::MAX);
 
 /// Accepts at some places.
-#[derive(Debug)]
 pub struct Server {
     listeners: Vec<Listener>,
     workers: Workers,
 }
 
 /// The workers, to whom clients are handed in turn.
-#[derive(Debug)]
 struct Workers {
     store: Arc<Store>,
     inboxes: Vec<Inbox>,
@@ -85,7 +83,7 @@ impl Workers {
             self.store.books.counts.add(Count::Rejected);
             SELDOM.log(format_args!("clients are turned away: {} are connected (-c)", self.store.options.connections));
             // If the client doesn't get this, it sees all the same that the connection ends.
-            let _ = stream.write(b"ERROR Too many open connections\r\n");
+            let _ = stream.0.write(b"ERROR Too many open connections\r\n");
             return;
         };
         self.store.books.counts.add(Count::Connections);

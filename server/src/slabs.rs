@@ -30,7 +30,6 @@ const MOST_EMPTY: usize = 16;
 static SLABS: OnceLock<Slabs> = OnceLock::new();
 
 /// Chunks in one range of addresses.
-#[derive(Debug)]
 pub struct Slabs {
     start: usize,
     end: usize,
@@ -42,7 +41,6 @@ pub struct Slabs {
 }
 
 /// Chunks without blocks.
-#[derive(Debug)]
 struct Unused {
     /// The address of the first one that was never used.
     next: usize,
@@ -52,7 +50,6 @@ struct Unused {
 }
 
 /// The first of those chunks that have a free block, or null.
-#[derive(Debug)]
 struct List(*mut Chunk);
 
 /// What is at the beginning of a chunk. The lock of its list guards all but `items`.

@@ -7,7 +7,6 @@ use crate::item::Item;
 use crate::key_locks::KeyLocks;
 use crate::options::Options;
 use crate::seat::Seats;
-use std::fmt::{self, Debug, Formatter};
 use std::sync::atomic::AtomicU64;
 use std::sync::{Arc, Mutex, MutexGuard};
 
@@ -64,12 +63,6 @@ pub(crate) enum Found<T> {
     Live(T, Token),
     Dead(Token),
     Absent,
-}
-
-impl Debug for Store {
-    fn fmt(&self, text: &mut Formatter) -> fmt::Result {
-        text.debug_struct("Store").field("options", &self.options).field("books", &self.books).finish_non_exhaustive()
-    }
 }
 
 impl Store {

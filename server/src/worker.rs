@@ -23,21 +23,19 @@ const EVENTS: usize = 1024;
 const GRACE: Duration = Duration::from_secs(2);
 
 /// What hands clients to a worker. When it is dropped, the worker ends.
-#[derive(Debug)]
 pub struct Inbox {
     mail: Arc<Mutex<Mail>>,
     waker: Arc<Waker>,
 }
 
 /// The clients that wait in an inbox, and whether it has been dropped.
-#[derive(Debug, Default)]
+#[derive(Default)]
 struct Mail {
     clients: Vec<Connection>,
     is_last: bool,
 }
 
 /// The state of a worker's thread.
-#[derive(Debug)]
 pub struct Worker {
     store: Arc<Store>,
     poll: Poll,

@@ -9,6 +9,7 @@ use plain::draw::Draw;
 use std::io::{self, ErrorKind, Read, Write};
 use std::mem::size_of;
 use std::os::fd::AsRawFd;
+use std::os::fd::OwnedFd;
 use std::os::unix::net::UnixStream;
 use std::sync::Arc;
 use std::thread::{spawn, yield_now};
@@ -112,7 +113,7 @@ fn narrow_pair() -> (UnixStream, UnixStream) {
 fn connected(store: &Store, inbox: &Inbox, number: usize) -> Slow {
     let (end, stream) = narrow_pair();
     let seat = store.seats.take().expect("a seat is free");
-    inbox.hand(Connection::new(Stream::Unix(mio::net::UnixStream::from_std(end)), seat)).expect("the worker takes it");
+    inbox.hand(Connection::new(Stream(OwnedFd::from(end).into()), seat)).expect("the worker takes it");
     Slow::new(number, stream)
 }
 
