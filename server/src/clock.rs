@@ -84,12 +84,6 @@ impl Clock {
     }
 }
 
-impl Default for Clock {
-    fn default() -> Clock {
-        Clock::new()
-    }
-}
-
 /// Seconds since 1970.
 pub fn unix_time() -> u64 {
     since_1970().as_secs()

@@ -4,6 +4,7 @@ use crate::budget::Claim;
 use crate::rss_limit::{PART_OF_CUT, TIMES_OF_CUT};
 use crate::slabs::{address_of, look_around};
 use crate::store::{Fault, Store};
+use cefrodil_map::Reason;
 use std::sync::atomic::Ordering::Relaxed;
 use std::thread::{sleep, yield_now};
 use std::time::Duration;
@@ -148,11 +149,10 @@ impl Store {
         let mut found = None;
         self.index.peek(hash, &mut |seen| {
             let item_there = seen.ok().flatten().filter(|(item, _)| address_of(item) == address);
-            found = item_there.map(|(item, token)| (token, self.books.leaving(item)));
+            found = item_there.map(|(_, token)| token);
         });
-        let Some((token, leaving)) = found else { return };
-        if self.index.remove(hash, token).is_ok() {
-            self.books.count_gone(leaving);
+        if let Some(token) = found {
+            let _ = self.index.remove(hash, token, Reason::Evicted);
         }
     }
 }

@@ -1,7 +1,7 @@
 //! Items that have expired, or that a flush has hit, go after a while though nobody asks for them.
-use crate::counts::Count;
 use crate::store::Store;
 use crate::walk::{self, Position};
+use cefrodil_map::Reason;
 use std::sync::PoisonError;
 use std::time::Duration;
 
@@ -55,16 +55,10 @@ impl Store {
         let _lock = self.key_locks.lock(hash);
         let mut dead = None;
         self.index.peek(hash, &mut |seen| {
-            dead = seen
-                .ok()
-                .flatten()
-                .map(|(item, token)| (token, self.books.leaving(item)))
-                .filter(|(_, leaving)| !leaving.is_live);
+            dead = seen.ok().flatten().filter(|(item, _)| !self.books.is_live(item)).map(|(_, token)| token);
         });
-        let Some((token, leaving)) = dead else { return };
-        if self.index.remove(hash, token).is_ok() {
-            self.books.counts.add(Count::Expired);
-            self.books.count_unfetched(leaving);
+        if let Some(token) = dead {
+            let _ = self.index.remove(hash, token, Reason::Expired);
         }
     }
 

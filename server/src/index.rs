@@ -1,6 +1,6 @@
 //! What the server asks of an index of items.
 use crate::item::{Item, NewItem};
-use cefrodil_map::{AbsentError, IfError, InsertError};
+use cefrodil_map::{AbsentError, IfError, InsertError, Reason};
 use std::time::Duration;
 
 /// Which put of a key stored its item: memcached's `cas unique`. Never compare those of two keys.
@@ -72,8 +72,8 @@ pub trait Index: Send + Sync {
     /// Puts the item if its key has this token.
     fn put_if(&self, token: Token, item: NewItem) -> Result<Token, Refused>;
 
-    /// Removes the item with this hash if it has this token.
-    fn remove(&self, hash: u64, token: Token) -> Result<Token, Refused>;
+    /// Removes the item with this hash, for this reason, if it has this token.
+    fn remove(&self, hash: u64, token: Token, reason: Reason) -> Result<Token, Refused>;
 
     /// Removes the item that is to give way next, in the shard with the most items, and calls `see` with it. Returns whether it has removed one.
     fn evict(&self, see: &mut dyn FnMut(&Item)) -> bool;

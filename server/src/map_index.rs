@@ -159,8 +159,8 @@ impl Index for MapIndex {
         Ok(put.at)
     }
 
-    fn remove(&self, hash: u64, token: Token) -> Result<Token, Refused> {
-        let at = self.map.remove_stamped(hash, token).map_err(|why| self.failed(hash, why))?;
+    fn remove(&self, hash: u64, token: Token, reason: Reason) -> Result<Token, Refused> {
+        let at = self.map.remove_stamped(hash, token, reason).map_err(|why| self.failed(hash, why))?;
         self.log_change("remove", at, || hash);
         Ok(at)
     }

@@ -52,9 +52,10 @@ pub struct Keys {
 }
 
 /// When a value is stored.
-#[derive(Clone, Copy, Debug, PartialEq, Eq)]
+#[derive(Clone, Copy, Debug, Default, PartialEq, Eq)]
 pub enum How {
     /// Always.
+    #[default]
     Set,
     /// If the key has no value.
     Add,
@@ -67,7 +68,7 @@ pub enum How {
 }
 
 /// What is to be stored.
-#[derive(Clone, Copy, Debug, PartialEq, Eq)]
+#[derive(Clone, Copy, Debug, Default, PartialEq, Eq)]
 pub struct Order<'a> {
     pub how: How,
     pub key: &'a [u8],

@@ -95,8 +95,8 @@ impl Seats {
     /// Cuts clients off if all hold too much.
     pub fn look(&self) {
         let budget = &self.books.budget;
-        if budget.buffers() > budget.most_buffers() {
-            self.holders().cut(budget.most_buffers());
+        if budget.buffers() > budget.most_buffers {
+            self.holders().cut(budget.most_buffers);
         }
     }
 
@@ -177,7 +177,7 @@ impl Seat {
         }
         let mut holders = self.seats.holders();
         self.number = holders.note(self.number, self.home.as_ref(), (bytes.saturating_sub(FREE)) as u64, item);
-        holders.cut(self.seats.books.budget.most_buffers());
+        holders.cut(self.seats.books.budget.most_buffers);
     }
 
     /// Whether it is to be cut off, and what it has held since when.

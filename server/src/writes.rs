@@ -6,6 +6,7 @@ use crate::item::{new_item, Item, NewItem};
 use crate::number;
 use crate::request::{Change, How, Order};
 use crate::store::{Answer, Changed, Fault, Found, Store};
+use cefrodil_map::Reason;
 
 /// How often a call tries again that others' changes of its key disturbed.
 const TRIES: u32 = 1000;
@@ -104,7 +105,7 @@ impl Store {
 
     /// Puts an item for which there is room. `None`: its key has no longer what it had.
     fn put(&self, claim: Claim<'_>, put: impl FnOnce() -> Result<Token, Refused>) -> Result<Option<Token>, Fault> {
-        let (put, bytes) = (put(), claim.bytes());
+        let (put, bytes) = (put(), claim.bytes);
         match put {
             Ok(_) => claim.keep(),
             Err(_) => drop(claim),
@@ -142,7 +143,7 @@ impl Store {
                 Found::Live((), token) if !is_meant(token) => return Ok(Found::Live(false, token)),
                 Found::Live((), token) | Found::Dead(token) => token,
             };
-            match self.index.remove(self.index.hash_of(key), token) {
+            match self.index.remove(self.index.hash_of(key), token, Reason::Removed) {
                 Ok(_) if matches!(found, Found::Dead(_)) => return Ok(Found::Dead(token)),
                 Ok(_) => return Ok(Found::Live(true, token)),
                 Err(Refused::Absent) => return Ok(Found::Absent),

@@ -1,7 +1,9 @@
 //! The bytes of items and of clients' buffers, what is counted of items that go, and the seats of clients.
-use cefrodild::books::{Books, Leaving};
-use cefrodild::budget::Budget;
+use cefrodil_map::Reason;
+use cefrodild::books::Books;
+use cefrodild::budget::{cost, Budget};
 use cefrodild::counts::Count;
+use cefrodild::item::new_item;
 use cefrodild::options::Options;
 use cefrodild::seat::{Seat, Seats, FREE};
 use std::sync::Arc;
@@ -22,7 +24,7 @@ fn bytes_are_added_and_subtracted() {
     budget.claim(40).keep();
     assert_eq!(state(), (100, false));
     let claim = budget.claim(1);
-    assert_eq!((state(), claim.bytes()), ((101, true), 1));
+    assert_eq!((state(), claim.bytes), ((101, true), 1));
     drop(claim);
     assert_eq!(state(), (100, false), "it was not put");
     budget.leave(60);
@@ -61,15 +63,26 @@ fn what_has_left_should_not_take_much() {
 #[test]
 fn what_gave_way_is_counted() {
     let books = Books::new(0, &Options::default());
+    let leave = |is_live, was_fetched, reason| {
+        let item = new_item(1, 0, if is_live { u64::MAX } else { 0 }, b"key", &[]).expect("there is memory");
+        if was_fetched {
+            item.note_fetched();
+        }
+        books.budget.claim(cost(3, 0)).keep();
+        books.left(&item, reason);
+    };
     for (is_live, was_fetched, times) in [(true, true, 1), (true, false, 2), (false, true, 4), (false, false, 8)] {
-        (0..times).for_each(|_| books.count_gone(Leaving { is_live, was_fetched }));
+        (0..times).for_each(|_| leave(is_live, was_fetched, Reason::Evicted));
     }
-    books.count_unfetched(Leaving { is_live: false, was_fetched: false });
-    books.count_unfetched(Leaving { is_live: false, was_fetched: true });
-    let counts = [Count::Evicted, Count::EvictedUnfetched, Count::Reclaimed, Count::ExpiredUnfetched];
-    assert_eq!(counts.map(|count| books.counts.get(count)), [3, 2, 12, 9]);
+    for was_fetched in [false, true] {
+        leave(false, was_fetched, Reason::Expired);
+        leave(true, was_fetched, Reason::Removed);
+        leave(true, was_fetched, Reason::Replaced);
+    }
+    let counts = [Count::Evicted, Count::EvictedUnfetched, Count::Reclaimed, Count::ExpiredUnfetched, Count::Expired];
+    assert_eq!(counts.map(|count| books.counts.get(count)), [3, 2, 12, 9, 2]);
     books.counts.reset();
-    assert_eq!(counts.map(|count| books.counts.get(count)), [0; 4]);
+    assert_eq!(counts.map(|count| books.counts.get(count)), [0; 5]);
 }
 
 #[test]

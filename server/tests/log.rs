@@ -1,4 +1,5 @@
 //! What the index writes into the log: each change and each answer, in order.
+use cefrodil_map::Reason;
 use cefrodild::audit::{digest, Audit};
 use cefrodild::books::Books;
 use cefrodild::counts::Count;
@@ -64,8 +65,8 @@ fn each_call_has_its_line() {
     look();
     let second = index.put_if(first, item(key, 2)).expect("it has this token");
     look();
-    let third = index.remove(hash, second).expect("it has this token");
-    assert_eq!(index.remove(hash, second), Err(Refused::Absent));
+    let third = index.remove(hash, second, Reason::Removed).expect("it has this token");
+    assert_eq!(index.remove(hash, second, Reason::Removed), Err(Refused::Absent));
     assert_eq!(index.put_if(second, item(key, 3)), Err(Refused::Absent));
     let fourth = index.put_new(item(key, 4)).expect("it was absent");
     let mut evicted = None;
@@ -110,7 +111,7 @@ fn what_changed_nothing_is_not_in_the_log() {
     let token = logged.put(b"key", 1);
     assert_eq!(logged.index.put_new(item(b"key", 2)), Err(Refused::Changed));
     assert_eq!(logged.index.put_if(token + 1, item(b"key", 2)), Err(Refused::Changed));
-    assert_eq!(logged.index.remove(logged.index.hash_of(b"key"), token + 1), Err(Refused::Changed));
+    assert_eq!(logged.index.remove(logged.index.hash_of(b"key"), token + 1, Reason::Removed), Err(Refused::Changed));
     let lines = logged.lines();
     assert_eq!(lines.iter().map(|(kind, ..)| kind.as_str()).collect::<Vec<_>>(), ["put"]);
 }

@@ -1,4 +1,5 @@
 //! The index of items over Cefrodil's.
+use cefrodil_map::Reason;
 use cefrodild::audit::Audit;
 use cefrodild::books::Books;
 use cefrodild::budget::cost;
@@ -40,11 +41,11 @@ fn a_token_names_one_put_of_a_key() {
         assert_eq!(flags_of(&index, key, old), Some(1));
         let new = put(&index, &books, key, 2);
         assert_eq!((flags_of(&index, key, old), flags_of(&index, key, new)), (None, Some(2)));
-        assert_eq!(index.remove(hash, old), Err(Refused::Changed));
+        assert_eq!(index.remove(hash, old, Reason::Removed), Err(Refused::Changed));
         assert_eq!(flags_of(&index, key, new), Some(2));
-        assert!(index.remove(hash, new).is_ok());
+        assert!(index.remove(hash, new, Reason::Removed).is_ok());
         index.look(&[key], &mut |_, seen| assert!(matches!(seen, Ok(None))));
-        assert_eq!((index.remove(hash, new), flags_of(&index, key, new)), (Err(Refused::Absent), None));
+        assert_eq!((index.remove(hash, new, Reason::Removed), flags_of(&index, key, new)), (Err(Refused::Absent), None));
         assert_eq!((index.len(), books.budget.used()), (0, 0), "its bytes are given back");
     }
 }
@@ -55,12 +56,12 @@ fn a_condition_that_is_not_met_changes_nothing() {
     let index = MapIndex::open(1000, 1, &books, None).expect("there is memory");
     let (key, item) = (b"key".as_slice(), |flags| new_item(1, flags, u64::MAX, b"key", &[&[0]]).expect("there is memory"));
     assert_eq!(index.put_if(1, item(1)), Err(Refused::Absent));
-    assert_eq!(index.remove(index.hash_of(key), 1), Err(Refused::Absent));
+    assert_eq!(index.remove(index.hash_of(key), 1, Reason::Removed), Err(Refused::Absent));
     let old = put(&index, &books, key, 2);
     let new = put(&index, &books, key, 3);
     assert_eq!(index.put_new(item(4)), Err(Refused::Changed));
     assert_eq!(index.put_if(old, item(5)), Err(Refused::Changed));
-    assert_eq!(index.remove(index.hash_of(key), old), Err(Refused::Changed));
+    assert_eq!(index.remove(index.hash_of(key), old, Reason::Removed), Err(Refused::Changed));
     assert_eq!(flags_of(&index, key, new), Some(3));
     assert_eq!((index.len(), books.budget.used()), (1, cost(key.len(), 1)));
 }
@@ -76,7 +77,7 @@ fn a_condition_that_is_met() {
     books.budget.claim(bytes).keep();
     let second = index.put_if(first, item(2)).expect("it has this token");
     assert_eq!(flags_of(&index, key, second), Some(2));
-    assert!(index.remove(index.hash_of(key), second).is_ok());
+    assert!(index.remove(index.hash_of(key), second, Reason::Removed).is_ok());
     index.look(&[key], &mut |_, seen| assert!(matches!(seen, Ok(None))));
     assert_eq!((index.len(), books.budget.used()), (0, 0));
 }
@@ -115,7 +116,7 @@ fn items_that_were_removed_or_replaced_did_not_give_way() {
     let index = MapIndex::open(1000, 1, &books, None).expect("there is memory");
     put(&index, &books, b"key", 1);
     let token = put(&index, &books, b"key", 2);
-    assert!(index.remove(index.hash_of(b"key"), token).is_ok());
+    assert!(index.remove(index.hash_of(b"key"), token, Reason::Removed).is_ok());
     assert_eq!((books.counts.get(Count::Evicted), index.len(), books.budget.used()), (0, 0, 0));
 }
 

@@ -133,13 +133,13 @@ impl<H: Head, S> BytesMap<H, S> {
         self.inner.evict(self.inner.core.tries, see)
     }
 
-    /// As [`ObjectMap::remove_stamped`](crate::ObjectMap::remove_stamped).
+    /// As [`ObjectMap::remove_stamped`](crate::ObjectMap::remove_stamped). The listener hears this reason.
     ///
     /// # Errors
     ///
     /// [`IfError`]: this call removed nothing.
-    pub fn remove_stamped(&self, hash: u64, since: u64) -> Result<u64, IfError> {
-        self.inner.remove_stamped(hash, since)
+    pub fn remove_stamped(&self, hash: u64, since: u64, reason: Reason) -> Result<u64, IfError> {
+        self.inner.remove_stamped(hash, since, reason)
     }
 }
 

@@ -138,8 +138,8 @@ fn each_call_does_what_it_says() {
     assert!(map.remove_if(b"1", second).is_ok());
     assert_eq!(found(1), None);
     let third = map.put_if_absent(make(1, 15)).unwrap().at;
-    assert!(matches!(map.remove_stamped(hash, second), Err(IfError::Changed { .. })));
-    assert!(map.remove_stamped(hash, third).is_ok());
+    assert!(matches!(map.remove_stamped(hash, second, Reason::Removed), Err(IfError::Changed { .. })));
+    assert!(map.remove_stamped(hash, third, Reason::Removed).is_ok());
     assert_eq!((found(1), map.is_empty(), map.capacity()), (None, true, 100));
 }
 
@@ -255,7 +255,7 @@ fn threads_find_whole_blocks_and_each_is_freed_once() {
                         (0, _) => done(map.put(new())),
                         (1, Some(since)) => done(map.remove_if(text.as_bytes(), since)),
                         (2, Some(since)) => done(map.replace_if(since, new())),
-                        (3, Some(since)) => done(map.remove_stamped(map.hash_of(text.as_bytes()), since)),
+                        (3, Some(since)) => done(map.remove_stamped(map.hash_of(text.as_bytes()), since, Reason::Removed)),
                         _ => done(map.put_if_absent(new())),
                     }
                 }

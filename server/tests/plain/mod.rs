@@ -129,7 +129,7 @@ impl Index for Plain {
         self.put_as(item, |found| found == Some(token))
     }
 
-    fn remove(&self, hash: u64, token: Token) -> Result<Token, Refused> {
+    fn remove(&self, hash: u64, token: Token, reason: Reason) -> Result<Token, Refused> {
         self.let_others_act();
         if self.refuses_removal() {
             return Err(Refused::Held);
@@ -139,7 +139,7 @@ impl Index for Plain {
             None => Err(Refused::Absent),
             Some(entry) if entry.token != token => Err(Refused::Changed),
             Some(entry) => {
-                self.left(entry, Reason::Removed);
+                self.left(entry, reason);
                 items.remove(&hash);
                 *last += 1;
                 Ok(*last)
