@@ -53,7 +53,6 @@ impl Connection {
     /// A client that has just connected.
     pub fn new(stream: Stream, seat: Seat) -> Connection {
         let file = stream.0.as_raw_fd();
-        seat.show(file);
         let (dialogue, input, output) = (Dialogue::of(file), Input::default(), Output::default());
         let (is_ending, is_dry, is_half_closed) = (false, false, false);
         Connection { seat, stream, dialogue, input, needs: 1, output, is_ending, is_dry, is_half_closed }

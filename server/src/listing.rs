@@ -8,7 +8,7 @@ use crate::request::Request;
 use crate::seat::{Seen, State};
 use crate::slabs::address_of;
 use crate::store::Store;
-use crate::walk::{self, Position};
+use crate::walk;
 use std::io::Write;
 use std::mem::ManuallyDrop;
 use std::net::SocketAddr;
@@ -33,7 +33,7 @@ pub enum Listing {
 #[derive(Clone, Copy, Debug)]
 pub struct Items {
     write: fn(&Store, &Item, Token, &mut Output),
-    next: Option<Position>,
+    next: Option<usize>,
     /// How many are to be listed.
     most: u64,
 }
@@ -41,8 +41,7 @@ pub struct Items {
 impl Listing {
     /// The list that answers a request.
     pub fn of(request: &Request) -> Option<Listing> {
-        let items =
-            |write, is_empty: bool, most| Some(Listing::Items(Items { write, next: (!is_empty).then_some(walk::START), most }));
+        let items = |write, is_empty: bool, most| Some(Listing::Items(Items { write, next: (!is_empty).then_some(0), most }));
         match *request {
             Request::Dump(class, most) => items(write_cached, class != CLASS, if most == 0 { u64::MAX } else { most }),
             Request::Crawl(has_class) => items(write_crawled, !has_class, u64::MAX),

@@ -78,7 +78,7 @@ impl Server {
 
 impl Workers {
     fn hand(&mut self, mut stream: Stream) {
-        let Some(seat) = self.store.seats.take() else {
+        let Some(seat) = self.store.seats.take(stream.0.as_raw_fd()) else {
             static SELDOM: Seldom = Seldom::new(1);
             self.store.books.counts.add(Count::Rejected);
             SELDOM.log(format_args!("clients are turned away: {} are connected (-c)", self.store.options.connections));

@@ -88,13 +88,13 @@ fn what_gave_way_is_counted() {
 #[test]
 fn so_many_seats() {
     let seats = seats(2, 100);
-    let (first, second) = (seats.take(), seats.take());
-    assert!(first.is_some() && second.is_some() && seats.take().is_none());
+    let (first, second) = (seats.take(0), seats.take(0));
+    assert!(first.is_some() && second.is_some() && seats.take(0).is_none());
     assert_eq!(seats.taken(), 2);
     drop(first);
     assert_eq!(seats.taken(), 1);
-    let third = seats.take();
-    assert!(third.is_some() && seats.take().is_none());
+    let third = seats.take(0);
+    assert!(third.is_some() && seats.take(0).is_none());
     drop((second, third));
     assert_eq!(seats.taken(), 0);
 }
@@ -103,7 +103,7 @@ fn so_many_seats() {
 fn what_clients_hold_is_counted() {
     let books = Arc::new(Books::new(0, &Options { memory: 200_000, ..Options::default() }));
     let seats = Seats::new(2, Arc::clone(&books));
-    let take = || seats.take().expect("a seat is free");
+    let take = || seats.take(0).expect("a seat is free");
     let (mut first, mut second) = (take(), take());
     first.hold(60, None);
     second.hold(40_000, None);
@@ -118,7 +118,7 @@ fn what_clients_hold_is_counted() {
 #[test]
 fn who_holds_most_for_longest_is_cut_off() {
     let seats = seats(3, 1_000);
-    let take = || seats.take().expect("a seat is free");
+    let take = || seats.take(0).expect("a seat is free");
     let (mut first, mut second, mut third) = (take(), take(), take());
     let are_cut = |seats: [&Seat; 3]| seats.map(|seat| seat.cut().is_some());
     first.hold(FREE + 600, None);
@@ -140,7 +140,7 @@ fn who_holds_most_for_longest_is_cut_off() {
 #[test]
 fn who_has_held_less_for_much_longer_is_cut_off() {
     let seats = seats(2, 1_000);
-    let (mut first, mut second) = (seats.take().expect("a seat is free"), seats.take().expect("a seat is free"));
+    let (mut first, mut second) = (seats.take(0).expect("a seat is free"), seats.take(0).expect("a seat is free"));
     first.hold(FREE + 400, None);
     sleep(Duration::from_millis(20));
     second.hold(FREE + 601, None);
@@ -151,7 +151,7 @@ fn who_has_held_less_for_much_longer_is_cut_off() {
 fn a_few_bytes_of_each_client_do_not_count() {
     let books = Arc::new(Books::new(0, &Options::default()));
     let seats = Seats::new(100, Arc::clone(&books));
-    let mut all: Vec<_> = (0..100).map_while(|_| seats.take()).collect();
+    let mut all: Vec<_> = (0..100).map_while(|_| seats.take(0)).collect();
     all.iter_mut().for_each(|seat| seat.hold(FREE, None));
     assert!(all.iter().all(|seat| seat.cut().is_none()));
     assert_eq!(books.budget.buffers(), 100 * FREE as u64);

@@ -34,7 +34,7 @@ impl Both {
         }
         let arrived = accepted.try_clone().expect("there is a descriptor");
         let client = Client::new(4 * MEGABYTE);
-        let seat = client.store.seats.take().expect("a seat is free");
+        let seat = client.store.seats.take(0).expect("a seat is free");
         Both { client, connection: Connection::new(Stream(OwnedFd::from(accepted).into()), seat), arrived, stream }
     }
 
@@ -190,7 +190,7 @@ fn a_client_is_not_idle_while_answers_wait() {
 fn pair(store: &Store) -> (Connection, UnixStream) {
     let (accepted, stream) = UnixStream::pair().expect("there are descriptors");
     accepted.set_nonblocking(true).and(stream.set_nonblocking(true)).expect("they are sockets");
-    let seat = store.seats.take().expect("a seat is free");
+    let seat = store.seats.take(0).expect("a seat is free");
     (Connection::new(Stream(OwnedFd::from(accepted).into()), seat), stream)
 }
 

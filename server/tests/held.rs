@@ -25,7 +25,7 @@ impl Both {
     fn of(client: &Client) -> Both {
         let (accepted, stream) = UnixStream::pair().expect("there are descriptors");
         accepted.set_nonblocking(true).and(stream.set_nonblocking(true)).expect("they are sockets");
-        let seat = client.store.seats.take().expect("a seat is free");
+        let seat = client.store.seats.take(0).expect("a seat is free");
         Both { connection: Connection::new(Stream(OwnedFd::from(accepted).into()), seat), stream }
     }
 

@@ -86,7 +86,7 @@ impl Client {
     fn of(store: &Store) -> Client {
         let (accepted, stream) = UnixStream::pair().expect("there are descriptors");
         accepted.set_nonblocking(true).and(stream.set_nonblocking(true)).expect("they are sockets");
-        let seat = store.seats.take().expect("a seat is free");
+        let seat = store.seats.take(0).expect("a seat is free");
         Client { connection: Connection::new(Stream(OwnedFd::from(accepted).into()), seat), stream }
     }
 

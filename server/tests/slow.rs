@@ -112,7 +112,7 @@ fn narrow_pair() -> (UnixStream, UnixStream) {
 /// A client of the worker whose inbox this is.
 fn connected(store: &Store, inbox: &Inbox, number: usize) -> Slow {
     let (end, stream) = narrow_pair();
-    let seat = store.seats.take().expect("a seat is free");
+    let seat = store.seats.take(0).expect("a seat is free");
     inbox.hand(Connection::new(Stream(OwnedFd::from(end).into()), seat)).expect("the worker takes it");
     Slow::new(number, stream)
 }

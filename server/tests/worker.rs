@@ -45,7 +45,7 @@ impl Working {
         stream.set_read_timeout(Some(LIMIT)).expect("it is a socket");
         let (accepted, _) = self.listener.accept().expect("one has connected");
         accepted.set_nonblocking(true).expect("it is a socket");
-        let seat = self.store.seats.take().expect("a seat is free");
+        let seat = self.store.seats.take(0).expect("a seat is free");
         self.inbox.hand(Connection::new(Stream(OwnedFd::from(accepted).into()), seat)).expect("the worker takes it");
         stream
     }
