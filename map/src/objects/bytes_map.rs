@@ -123,7 +123,7 @@ impl<H: Head, S> BytesMap<H, S> {
         look(pinned.state_or_look(hash, &Any, reply, 1).map(|state| state.object()).ok_or(GetError::Busy))
     }
 
-    /// Evicts the block that would give way to a new key next, in the shard with the most blocks. Calls `see` with the block, which stays until `see`
+    /// Evicts the block that would give way to a new key next, in a shard with many blocks. Calls `see` with the block, which stays until `see`
     /// returns, and with the moment of the eviction. Then the listener hears of the block. `None`: the map is empty.
     ///
     /// # Errors

@@ -8,7 +8,7 @@ use crate::stats::Kind;
 use cefrodil::{Evict, EvictError, Reply, TurnError};
 
 impl<O: Held, S> ObjectInner<O, S> {
-    /// Evicts the object that would give way next in the shard with the most objects, so that each keeps its share. If other threads are only about to
+    /// Evicts the object that would give way next in a shard with many objects, so that each keeps its share. If other threads are only about to
     /// put these, another shard evicts. Calls `see` with the object before it is retired, and with the moment. `None`: there is none.
     pub fn evict<R>(&self, tries: u32, see: impl FnOnce(&O, u64) -> R) -> Result<Option<R>, RemoveError> {
         for hash in self.weights.iter().flat_map(Weights::fullest_first) {

@@ -12,12 +12,15 @@ pub(crate) struct Weights<O> {
     sum: AtomicU64,
     // How many of them each shard has. Relaxed: they only say where to evict.
     numbers: Box<[AtomicU64]>,
-    // The shard that comes next if several have as many.
+    // The shard that the next eviction looks at first, so that none is favoured.
     next: AtomicUsize,
 }
 
 /// The weight of an object that is about to be put under this hash. If it isn't put, this is dropped.
 pub(crate) struct Claim<'a, O>(Option<(&'a Weights<O>, u64, u64)>);
+
+/// So many shards are compared at an eviction. That keeps all nearly alike, and takes no longer where there are many.
+const COMPARED: usize = 8;
 
 /// The index takes a key's shard from the bits from this one on.
 const SHARD: u32 = 48;
@@ -49,11 +52,11 @@ impl<O> Weights<O> {
         self.sum() > self.most.load(SeqCst)
     }
 
-    /// All shards, each by a key of it: first the one with the most objects.
+    /// All shards, each by a key of it: first the one of the next few with the most objects.
     pub fn fullest_first(&self) -> impl Iterator<Item = u64> + '_ {
         let (first, count) = (self.next.fetch_add(1, Relaxed), self.numbers.len());
         let round = (first..first + count).map(move |shard| shard % count);
-        let fullest = round.clone().max_by_key(|shard| self.numbers[*shard].load(Relaxed));
+        let fullest = round.clone().take(COMPARED).max_by_key(|shard| self.numbers[*shard].load(Relaxed));
         fullest.into_iter().chain(round).map(|shard| (shard as u64) << SHARD)
     }
 

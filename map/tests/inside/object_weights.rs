@@ -86,7 +86,7 @@ fn keep_shares<S: BuildHasher>(builder: ObjectBuilder<u64, u64, S>) {
     }
     let mut shards = [0; 16];
     map.for_each(|key, _| shards[(map.hash_of(key) >> 48) as usize % 16] += 1).unwrap();
-    assert!(shards.iter().all(|number| (number * 16_u64).abs_diff(map.len() as u64) <= 32), "{shards:?}");
+    assert!(shards.iter().all(|number| (number * 16_u64).abs_diff(map.len() as u64) <= 80), "{shards:?}");
 }
 
 #[test]
