@@ -1,7 +1,7 @@
 //! The index of items: a map of objects over Cefrodil's index.
 use crate::audit::{digest, Audit};
 use crate::books::Books;
-use crate::index::{Index, Refused, Seen, Token};
+use crate::index::{Index, Over, Refused, Seen, Token};
 use crate::item::{About, Item, NewItem};
 use cefrodil_map::{BytesMap, GetError, IfError, Inserted, Look, OpenError, Put, Reason};
 use std::cell::Cell;
@@ -103,11 +103,6 @@ impl MapIndex {
         }
     }
 
-    /// What the log says of an item that is about to be put, if there is a log: the hash of its key, and its digest.
-    fn logged(&self, item: &Item) -> Option<(u64, u64)> {
-        self.audit.is_some().then(|| (self.hash_of(item.key()), digest(item)))
-    }
-
     fn failed(&self, hash: u64, why: IfError) -> Refused {
         if let IfError::NotThere { at } = why {
             self.log_change("absent", at, || hash);
@@ -138,23 +133,16 @@ impl Index for MapIndex {
         self.map.peek_hash(hash, |found| see(seen(found)));
     }
 
-    fn put(&self, item: NewItem) -> Result<Token, Refused> {
-        let logged = self.logged(&item);
-        let put = self.map.put(item)?;
-        self.log_put(logged, put);
-        Ok(put.at)
-    }
-
-    fn put_new(&self, item: NewItem) -> Result<Token, Refused> {
-        let logged = self.logged(&item);
-        let put = self.map.put_if_absent(item)?;
-        self.log_put(logged, put);
-        Ok(put.at)
-    }
-
-    fn put_if(&self, token: Token, item: NewItem) -> Result<Token, Refused> {
-        let logged = self.logged(&item);
-        let put = self.map.replace_if(token, item).map_err(|why| self.failed(logged.map_or(0, |(hash, _)| hash), why))?;
+    fn put(&self, item: NewItem, over: Over) -> Result<Token, Refused> {
+        // The hash of the key, and the item's digest.
+        let logged = self.audit.is_some().then(|| (self.hash_of(item.key()), digest(&item)));
+        let put = match over {
+            Over::Any => self.map.put(item)?,
+            Over::Nothing => self.map.put_if_absent(item)?,
+            Over::Token(token) => {
+                self.map.replace_if(token, item).map_err(|why| self.failed(logged.map_or(0, |(hash, _)| hash), why))?
+            }
+        };
         self.log_put(logged, put);
         Ok(put.at)
     }
