@@ -173,7 +173,7 @@ impl Connection {
 
     /// Keeps what waits, or refuses the value that it is part of. `None`: there is no memory for it.
     fn keep(&mut self, store: &Store, next: Next) -> io::Result<Option<Next>> {
-        if self.input.keep() || store.has_with_more_memory(self.input.len(), || self.input.keep()) {
+        if self.input.keep() || store.with_more_memory(self.input.len(), || self.input.keep().then_some(())).is_some() {
             return Ok(Some(next));
         }
         self.refuse_block();
@@ -220,7 +220,8 @@ impl Connection {
             return Ok(false);
         }
         let needs = self.needs;
-        let has_room = self.input.make_room(needs) || store.has_with_more_memory(needs, || self.input.make_room(needs));
+        let has_room =
+            self.input.make_room(needs) || store.with_more_memory(needs, || self.input.make_room(needs).then_some(())).is_some();
         if !has_room {
             self.refuse_block();
             return Ok(true);
