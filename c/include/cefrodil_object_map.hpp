@@ -17,9 +17,9 @@
 //     const cefrodil::Status opened = pages.open({1000}, rules);
 // The map then holds 1,000 pages or more, as long as they weigh no more than the bound together. While calls put, the sum may be above the bound by
 // what they put. What has left and waits to be freed weighs a sixteenth of the bound and one object more at most, while no function of `look` runs. If
-// a thread is stopped within a write, the sum may stay above the bound until a later put. A put that fails may have made others leave. Each shard
-// has an equal share of the bound. What leaves was in a shard that had more, and that shard chooses. So what weighs more than a share soon leaves, though
-// it is used: then open the map with fewer shards. Ask for about as many entries as weigh so much together: in a much larger map fewer lookups hit.
+// a thread is stopped within a write, the sum may stay above the bound until a later put. A put that fails may have made others leave. Of a few
+// shards the one with the most objects chooses what leaves, so all keep nearly as many. Ask for about as many entries as weigh so much together: in a
+// much larger map fewer lookups hit.
 //
 // Which objects leave: those that no call has found since their put. So keys that are used once evict few that are used often. If nearly all were found,
 // one that was not found lately leaves: perhaps the one that an update has made heavier. An object whose key left shortly before its put counts as found.

@@ -3,8 +3,10 @@
 #include "cefrodil_object_map.hpp"
 #include "must.h"
 #include <algorithm>
+#include <array>
 #include <cstdlib>
 #include <map>
+#include <vector>
 
 using cefrodil::Left;
 using cefrodil::object_map;
@@ -126,33 +128,29 @@ struct Plain {
     cefrodil::HashPair operator()(const uint64_t &key, const cefrodil::HashSecret &) const noexcept { return {key, key}; }
 };
 
-// A shard keeps its share, whatever is put into another one. What it leaves free, the other one has.
+// The shard with the most objects evicts, whatever is put into which one.
 static void shares() {
     object_map<uint64_t, uint64_t, Plain> numbers;
     MUST(numbers.open({1000, 2}, bounded(1000)) == Status::ok);
-    // The next key of this shard.
-    const auto next = [](uint64_t &last, uint64_t shard) {
-        do {
-            last++;
-        } while ((cefrodil::inside::mixed(last) >> 48 & 1) != shard);
-        return last;
-    };
-    std::map<uint64_t, uint64_t> firsts; // of shard 0
+    std::array<std::vector<uint64_t>, 2> keys;
     uint64_t last = 0;
     const auto fill = [&](uint64_t shard, uint64_t weight, uint64_t count) {
-        for (uint64_t n = 0; n < count; n++) {
-            const uint64_t key = next(last, shard);
-            MUST(numbers.insert(key, uint64_t(weight)).status == Status::ok && numbers.peek(key).value == weight);
-            shard == 0 ? void(firsts[key] = weight) : void();
+        while (count > 0) {
+            if ((cefrodil::inside::mixed(++last) >> 48 & 1) == shard) {
+                MUST(numbers.insert(last, uint64_t(weight)).status == Status::ok && numbers.peek(last).value == weight);
+                keys[shard].push_back(last);
+                count--;
+            }
         }
     };
-    const auto stay = [&] { return std::count_if(firsts.begin(), firsts.end(), [&](auto &each) { return numbers.peek(each.first).value == each.second; }); };
-    fill(0, 50, 4);
-    fill(1, 7, 1000);
-    MUST(stay() == 4 && numbers.weight() > 993 && numbers.weight() <= 1000);
-    fill(0, 30, 10);
-    fill(1, 30, 1000);
-    MUST(stay() == 14 && numbers.weight() > 970 && numbers.weight() <= 1000);
+    const auto stay = [&](uint64_t shard) {
+        return std::count_if(keys[shard].begin(), keys[shard].end(), [&](uint64_t key) { return numbers.peek(key).value.has_value(); });
+    };
+    fill(0, 50, 10);
+    fill(1, 10, 1000);
+    MUST(stay(0) == 10 && stay(1) == 50 && numbers.weight() == 1000);
+    fill(0, 10, 1000);
+    MUST(stay(1) == 30 && numbers.weight() > 950 && numbers.weight() <= 1000);
 }
 
 // Without a weigher a map has room for as many entries as were asked for. With one shard it holds just these.

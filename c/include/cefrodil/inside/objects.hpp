@@ -289,17 +289,12 @@ template <class K, class V> class Objects : public Entries<1> {
         std::array<uint64_t, 1> word;
         return get(own_slot(), index, looks(), word).status == Status::ok;
     }
-    // Evicts objects until the others are within the bound, if they are not: each from a shard that has more than its share. It goes round. What calls
-    // are about to put counts, so there may be no object in such a shard: then it goes round all shards. It gives up if it finds none there, or if other
-    // threads keep it from so many tries: then a later put goes on.
+    // Evicts objects until the others are within the bound, if they are not: each from the shard that has the most of a few. What calls are about to put
+    // counts, so there may be no object in that shard: then it goes round all shards. It gives up if it finds none there, or if other threads keep it from
+    // so many tries: then a later put goes on.
     void shrink(Change &change) noexcept {
-        for (uint32_t looked = 0, held = 0; weights_.is_over() && looked < 2 * shards() && held <= tries();) {
-            const uint64_t near = weights_.next();
-            if (looked < shards() && !weights_.has_more(near)) {
-                looked++;
-                continue;
-            }
-            switch (evict(near, change)) {
+        for (uint32_t looked = 0, held = 0; weights_.is_over() && looked <= shards() && held <= tries();) {
+            switch (evict(looked == 0 ? weights_.fullest() : weights_.next(), change)) {
             case Status::ok: looked = 0; break;
             case Status::absent: looked++; break;
             default: wait_before(held++);

@@ -9,44 +9,51 @@
 
 namespace cefrodil::inside {
 
-// The sum of all, and that of each shard. A key is one of the shard.
+// The sum of all, and how many objects each shard has. A key is one of the shard.
 //
 // Relaxed steps suffice. Of all objects that are there take the one whose weight was added last. Its call compares the sum after that, and sees them
-// all. It goes on until the sum is within the bound.
+// all. It goes on until the sum is within the bound. The numbers only say where to evict.
 class Weights {
   public:
     explicit Weights(uint64_t bound) noexcept : bound_(bound) {}
     // Takes memory for so many shards, a power of two.
-    void divide(uint32_t shards) {
-        sums_ = std::vector<Sum>(shards);
-        share_ = bound_ / shards;
-    }
+    void divide(uint32_t shards) { numbers_ = std::vector<Number>(shards); }
 
-    void add(uint64_t key, uint64_t weight) noexcept {
-        sum_.fetch_add(weight, std::memory_order_relaxed);
-        of(key).fetch_add(weight, std::memory_order_relaxed);
-    }
-    void subtract(uint64_t key, uint64_t weight) noexcept { add(key, 0 - weight); }
+    void add(uint64_t key, uint64_t weight) noexcept { change(key, weight, 1); }
+    void subtract(uint64_t key, uint64_t weight) noexcept { change(key, 0 - weight, uint64_t(0) - 1); }
     uint64_t sum() const noexcept { return sum_.load(std::memory_order_relaxed); }
     bool is_over() const noexcept { return sum() > bound_; }
     uint64_t bound() const noexcept { return bound_; }
-    // Whether the shard has more than its share of the bound. If all have more than the bound together, one has.
-    bool has_more(uint64_t key) noexcept { return of(key).load(std::memory_order_relaxed) > share_; }
     // A key of the next shard. Threads go round together.
     uint64_t next() noexcept { return next_.fetch_add(1, std::memory_order_relaxed) << bits_before; }
+    // A key of that one of the next shards which has the most objects.
+    uint64_t fullest() noexcept {
+        const uint64_t first = next();
+        uint64_t found = first;
+        for (uint64_t more = 1; more < compared; more++) {
+            const uint64_t key = first + (more << bits_before);
+            found = of(key).load(std::memory_order_relaxed) > of(found).load(std::memory_order_relaxed) ? key : found;
+        }
+        return found;
+    }
 
   private:
-    struct alignas(64) Sum {
-        std::atomic<uint64_t> weight{0};
+    struct alignas(64) Number {
+        std::atomic<uint64_t> objects{0};
     };
+    // So many shards are compared at an eviction. That keeps all nearly alike, and takes no longer where there are many.
+    static constexpr uint64_t compared = 8;
     // The index takes a key's shard from the bits behind these: the map has it mix none.
     static constexpr int bits_before = 48;
-    std::atomic<uint64_t> &of(uint64_t key) noexcept { return sums_[key >> bits_before & (sums_.size() - 1)].weight; }
+    std::atomic<uint64_t> &of(uint64_t key) noexcept { return numbers_[key >> bits_before & (numbers_.size() - 1)].objects; }
+    void change(uint64_t key, uint64_t weight, uint64_t objects) noexcept {
+        sum_.fetch_add(weight, std::memory_order_relaxed);
+        of(key).fetch_add(objects, std::memory_order_relaxed);
+    }
 
     const uint64_t bound_;
-    uint64_t share_ = 0;
     std::atomic<uint64_t> sum_{0}, next_{0};
-    std::vector<Sum> sums_{};
+    std::vector<Number> numbers_{};
 };
 
 } // namespace cefrodil::inside
