@@ -15,7 +15,7 @@ import os
 import subprocess
 import sys
 import tempfile
-from collections import OrderedDict, deque
+from collections import OrderedDict
 
 from servers import TOP
 from traces import cases, of_model, of_program
@@ -88,34 +88,56 @@ class Clock:
 
 
 class S3Fifo:
-    """A tenth of the items for new keys, and as many ghosts as items."""
+    """A tenth of the items for new keys, and as many ghosts as items. If keys weigh, the items are a bound on their weight."""
 
-    def __init__(self, items):
-        self.items, self.uses = items, {}
-        self.small, self.main, self.ghosts = deque(), deque(), OrderedDict()
+    def __init__(self, items, weigh=lambda key: 1):
+        self.items, self.weigh, self.uses = items, weigh, {}
+        self.small, self.main, self.ghosts = Queue(weigh), Queue(weigh), Queue(weigh)
 
     def look_up(self, key):
         if key in self.uses:
             self.uses[key] = min(3, self.uses[key] + 1)
             return True
-        while len(self.uses) >= self.items:
+        while self.small.weight + self.main.weight + self.weigh(key) > self.items:
             self.evict()
-        (self.main if self.ghosts.pop(key, False) else self.small).append(key)
+        (self.main if self.ghosts.take(key) else self.small).append(key)
         self.uses[key] = 0
         return False
 
     def evict(self):
-        from_small = len(self.small) >= max(1, self.items // 10) or not self.main
-        key = (self.small if from_small else self.main).popleft()
+        from_small = self.small.weight >= max(1, self.items // 10) or not self.main.weight
+        key = (self.small if from_small else self.main).pop_first()
         if self.uses[key] > 0:
             self.uses[key] = 0 if from_small else self.uses[key] - 1
             self.main.append(key)
             return
         del self.uses[key]
         if from_small:
-            self.ghosts[key] = True
-            if len(self.ghosts) > self.items:
-                self.ghosts.popitem(last=False)
+            self.ghosts.append(key)
+            while self.ghosts.weight > self.items:
+                self.ghosts.pop_first()
+
+
+class Queue:
+    """Keys in their order, and what they weigh."""
+
+    def __init__(self, weigh):
+        self.weigh, self.keys, self.weight = weigh, OrderedDict(), 0
+
+    def append(self, key):
+        self.keys[key] = True
+        self.weight += self.weigh(key)
+
+    def take(self, key):
+        """Whether it was there."""
+        was_there = self.keys.pop(key, False)
+        self.weight -= self.weigh(key) * was_there
+        return was_there
+
+    def pop_first(self):
+        key = next(iter(self.keys))
+        self.take(key)
+        return key
 
 
 class WTinyLfu:

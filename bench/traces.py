@@ -73,7 +73,11 @@ def of_model(model, keys):
     return ratio(keys, [model.look_up(key) for key in keys])
 
 
-def of_program(words, keys):
+def hits_of_program(words, keys):
     """Of a program that reads the keys as words of 64 bits, and prints a line of 0 and 1."""
     told = subprocess.run(words, input=array.array('q', keys).tobytes(), capture_output=True, check=True)
-    return ratio(keys, [letter == ord('1') for letter in told.stdout.strip()])
+    return [letter == ord('1') for letter in told.stdout.strip()]
+
+
+def of_program(words, keys):
+    return ratio(keys, hits_of_program(words, keys))

@@ -1,4 +1,4 @@
-// The generations of c/include/cefrodil/inside/generations.hpp, beside flights: the headers' own code, with atomics, locks and fences of Relacy.
+// The generations of c/include/cefrodil/inside/entries.hpp, beside flights: the headers' own code, with atomics, locks and fences of Relacy.
 //
 // A thread changes the store, looks the key up, invalidates all, and puts the key. Another thread puts the key, too, and a third one computes it from
 // the store. Once all is invalidated nothing is found that was computed from the older store. At the end one of the two puts is found: not the second
@@ -7,7 +7,6 @@
 #ifndef CXX_GENERATIONS_HPP
 #define CXX_GENERATIONS_HPP
 
-#include "cefrodil/inside/generations.hpp"
 #include "explored.hpp"
 
 struct CxxGenerations : rl::test_suite<CxxGenerations, 3> {

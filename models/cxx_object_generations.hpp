@@ -6,7 +6,6 @@
 #ifndef CXX_OBJECT_GENERATIONS_HPP
 #define CXX_OBJECT_GENERATIONS_HPP
 
-#include "cefrodil/inside/generations.hpp"
 #include "explored.hpp"
 
 struct CxxObjectGenerations : rl::test_suite<CxxObjectGenerations, 3> {
@@ -44,7 +43,7 @@ struct CxxObjectGenerations : rl::test_suite<CxxObjectGenerations, 3> {
         heads[object].store(generation.now(), std::memory_order_release);
         entry.exchange(object, std::memory_order_acq_rel);
     }
-    // As in cefrodil/inside/keyed_objects.hpp.
+    // As in cefrodil_object_map.hpp.
     void insert(uint64_t object) {
         for (uint64_t begun = generation.now();;) {
             const uint64_t there = entry.load(std::memory_order_acquire);

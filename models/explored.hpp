@@ -3,9 +3,8 @@
 #ifndef EXPLORED_HPP
 #define EXPLORED_HPP
 
+#include "cefrodil/inside/entries.hpp"
 #include "cefrodil/inside/epochs.hpp"
-#include "cefrodil/inside/flights.hpp"
-#include "cefrodil/inside/passes.hpp"
 #include <array>
 #include <limits>
 #include <optional>

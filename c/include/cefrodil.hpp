@@ -10,6 +10,7 @@
 #include "cefrodil/inside/calls.hpp"
 #include "cefrodil/inside/handle.hpp"
 #include "cefrodil/inside/values.hpp"
+#include <algorithm>
 #include <array>
 #include <cstddef>
 #include <cstdint>
@@ -221,17 +222,19 @@ template <size_t Words>
 template <size_t Words>
 [[nodiscard]] Status open_with(const cefrodil_shape &shape, uint32_t shards, size_t count, const std::vector<uint64_t> &entries,
                                std::vector<Handle<Words>> &handles, std::vector<Status> &statuses) noexcept {
-    inside::EntryStatuses told(entries.size() / (1 + Words));
-    const auto open = [&](cefrodil_handle *raw, size_t many) {
-        return cefrodil_open_with_or_none(&shape, shards, Words, entries.data(), entries.size(), told.raw(), told.count(), raw, many);
-    };
+    std::vector<cefrodil_status> raw;
+    std::vector<Status> told;
     const auto grow = [&] {
-        told.allocate();
+        raw.resize(entries.size() / (1 + Words));
+        told.resize(raw.size());
         return inside::new_lines();
     };
-    const Status status = inside::open_all(handles, inside::allowed(count), grow, open);
+    const Status status = inside::open_all(handles, inside::allowed(count), grow, [&](cefrodil_handle *opened, size_t many) {
+        return cefrodil_open_with_or_none(&shape, shards, Words, entries.data(), entries.size(), raw.data(), raw.size(), opened, many);
+    });
     if (status == Status::ok) {
-        told.move_to(statuses);
+        std::transform(raw.begin(), raw.end(), told.begin(), [](cefrodil_status each) { return static_cast<Status>(each); });
+        statuses = std::move(told);
     }
     return status;
 }

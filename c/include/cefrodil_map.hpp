@@ -51,7 +51,6 @@
 #define CEFRODIL_MAP_HPP
 
 #include "cefrodil.hpp"
-#include "cefrodil/inside/flights.hpp"
 #include "cefrodil/inside/forks.hpp"
 #include "cefrodil/inside/hash.hpp"
 #include "cefrodil/inside/table.hpp"
@@ -83,6 +82,59 @@ template <class V> struct Computed {
     bool computed; // by this call
 };
 
+namespace inside {
+
+// What maps of both kinds have. `Inner`: what an open one owns.
+template <class Inner> class AnyMap {
+  public:
+    bool is_open() const noexcept { return bool(inner_); }
+    // Closes the map and frees its memory. An object_map destroys its objects.
+    Status close() noexcept { return inner_.reset() ? Status::ok : Status::closed; }
+
+    // Removes each key that was put before. Unless ok, some keys may still be there; no_memory: all of them. It takes memory for a list of all
+    // entries, and a turn at each shard.
+    [[nodiscard]] Status clear() noexcept { return inner_ ? inner_->entries.clear() : Status::closed; }
+    // Once it has returned, no key is found that was put before it began, nor a value that find_or_compute was computing then. A key is found whose put
+    // began afterwards. A put that runs meanwhile comes before or after it. It is one step, however many keys there are: their entries take room until
+    // others overwrite or evict them, or until erase_expired, and `size` and `weight` count them. ok or closed.
+    Status invalidate_all() noexcept { return inner_ ? inner_->entries.invalidate_all() : Status::closed; }
+    // Of a timed_map or an object_map: removes what has expired, and what was put before invalidate_all. It is listed as by `clear`. Unless ok, some of it
+    // may still be there.
+    [[nodiscard]] Status erase_expired() noexcept { return inner_ ? inner_->entries.erase_expired() : Status::closed; }
+
+    // How many keys there are. Calls that run meanwhile count or not.
+    uint64_t size() const noexcept { return inner_ ? inner_->entries.keys() : 0; }
+    // How many keys all shards hold together. Each evicts for itself, so the first eviction comes before the map is full.
+    uint64_t capacity() const noexcept { return inner_ ? inner_->entries.capacity() : 0; }
+    // How many calls of the index threads without a pass of their own made. They wait for each other. If there are many, open the map with more passes.
+    uint64_t shared_calls() const noexcept { return inner_ ? inner_->entries.shared_calls() : 0; }
+    // What the lookups of this map came to, each counted once: the calls of find, get, look, contains and find_or_compute, and the keys of find_many. So
+    // `meter().counts().hit_rate()` is exact while no call runs. What has expired is a miss, and so is another key's entry. A call of find_or_compute
+    // that waits for another one's value is a miss, too. The other counts are of calls of the index: of those, a call of the map may make several.
+    Meter meter() const noexcept { return inner_ ? inner_->entries.meter() : Meter(nullptr); }
+
+  protected:
+    // Makes what the map owns, draws its secret, and opens its index. Unless ok, nothing was done.
+    template <class Make> Status open_as(const MapOptions &options, Make make) noexcept {
+        if (inner_) {
+            return Status::in_use;
+        }
+        std::unique_ptr<Inner> opened;
+        if (!has_memory([&] { opened = make(); })) {
+            return Status::no_memory;
+        }
+        if (!opened->identities.draw()) {
+            return Status::no_random;
+        }
+        const Status status = opened->entries.open(options.entries, options.shards, options.passes, options.tries);
+        return status == Status::ok && !inner_.own(std::move(opened)) ? Status::no_memory : status;
+    }
+
+    OwnedPointer<Inner> inner_{};
+};
+
+} // namespace inside
+
 // A map of K to V. A hash of yours is `HashPair operator()(const K &key, const HashSecret &secret) const`. Several threads call it at once. It must
 // take in all by which keys differ: two keys with the same two words are one key to the map. A hash that std::unordered_map can do with may take in
 // less, such as a number that the key keeps of its name. The two words must be independent, as SipHash's are, for any type. To hash two members, hash
@@ -91,7 +143,10 @@ template <class V> struct Computed {
 // Or it has 64 bits: `uint64_t operator()(const K &key, uint64_t seed) const`. Then it is called twice, with two seeds, which must give independent
 // hashes.
 // `Times`: a timed_map has another.
-template <class K, class V, class Hash = SipHash<K>, class Times = inside::Timeless> class map {
+template <class K, class V, class Hash = SipHash<K>, class Times = inside::Timeless>
+class map : public inside::AnyMap<inside::Opened<K, Hash, inside::Table<V, Times>>> {
+    using Inner = inside::Opened<K, Hash, inside::Table<V, Times>>;
+    using inside::AnyMap<Inner>::inner_;
     static constexpr bool never_throws = inside::Identities<inside::Taken<K, Hash>, Hash>::never_throws;
 
   public:
@@ -109,9 +164,6 @@ template <class K, class V, class Hash = SipHash<K>, class Times = inside::Timel
     [[nodiscard]] Status open(const MapOptions &options, const Lives &lives, Hash hash = Hash()) noexcept {
         return open_with(options, std::move(hash), lives);
     }
-    bool is_open() const noexcept { return bool(inner_); }
-    // Closes the map and frees its memory.
-    Status close() noexcept { return inner_.reset() ? Status::ok : Status::closed; }
 
     // The key's value. None if the key is absent, the lookup was busy each time, or the map is not open.
     [[nodiscard]] std::optional<V> find(Key key) const noexcept(never_throws) {
@@ -185,11 +237,6 @@ template <class K, class V, class Hash = SipHash<K>, class Times = inside::Timel
     template <class Function> [[nodiscard]] Found<V> update_for(Key key, std::chrono::nanoseconds life, Function function) {
         return update(key, nullptr, function, Life(life));
     }
-    // Removes what has expired, and what was put before invalidate_all. It is listed as by `clear`. Unless ok, some of it may still be there.
-    [[nodiscard]] Status erase_expired() noexcept {
-        static_assert(Times::moments != 0, "a timed_map has this call");
-        return inner_ ? inner_->entries.erase_expired() : Status::closed;
-    }
 
     // The key's value, or what the function computes, `V function()`, which is then put. Of several callers that miss the key one computes, and
     // the others wait for it; if its value is refused or its function throws, the next one computes. The function may call the map, but must not
@@ -202,11 +249,11 @@ template <class K, class V, class Hash = SipHash<K>, class Times = inside::Timel
         std::optional<V> found;
         // The lookup that counts.
         for (Status status = inner_->entries.find(known, found); status != Status::ok; status = inner_->entries.seek(known, found)) {
-            inside::Flight flight(inner_->flights.of(known), known);
+            inside::Flight flight(inner_->entries.flights.of(known), known);
             if (!flight.has_begun()) {
                 continue;
             }
-            const uint64_t generation = inner_->entries.generation().now();
+            const uint64_t generation = inner_->entries.generations.now();
             // Another flight may have ended between the lookup and the begin of this one.
             if (inner_->entries.seek(known, found) == Status::ok) {
                 break;
@@ -217,44 +264,12 @@ template <class K, class V, class Hash = SipHash<K>, class Times = inside::Timel
         return {Status::ok, *found, false};
     }
 
-    // Removes each key that was put before. Unless ok, some keys may still be there; no_memory: all of them. It takes memory for a list of all
-    // entries, and a turn at each shard.
-    [[nodiscard]] Status clear() noexcept {
-        if (!inner_) {
-            return Status::closed;
-        }
-        inner_->flights.outdate_all();
-        return inner_->entries.clear();
-    }
-    // Once it has returned, no key is found that was put before it began, nor a value that find_or_compute was computing then. A key is found whose put
-    // began afterwards. A put that runs meanwhile comes before or after it. It is one step, however many keys there are: their entries take room until
-    // others overwrite or evict them, and `size` counts them. ok or closed.
-    Status invalidate_all() noexcept {
-        if (!inner_) {
-            return Status::closed;
-        }
-        inner_->entries.generation().begin_next();
-        inner_->flights.outdate_all();
-        return Status::ok;
-    }
-
-    // How many keys there are. Calls that run meanwhile count or not.
-    uint64_t size() const noexcept { return inner_ ? inner_->entries.turns().keys() : 0; }
-    // How many keys all shards hold together. Each evicts for itself, so the first eviction comes before the map is full.
-    uint64_t capacity() const noexcept { return inner_ ? inner_->entries.turns().capacity() : 0; }
-    // How many calls of the index threads without a pass of their own made. They wait for each other. If there are many, open the map with more passes.
-    uint64_t shared_calls() const noexcept { return inner_ ? inner_->entries.turns().shared_calls() : 0; }
-    // What the lookups of this map came to, each counted once: the calls of find, get, contains and find_or_compute, and the keys of find_many. So
-    // `meter().counts().hit_rate()` is exact while no call runs. What has expired is a miss, and so is another key's entry. A call of find_or_compute
-    // that waits for another one's value is a miss, too. The other counts are of calls of the index: of those, a call of the map may make several.
-    Meter meter() const noexcept { return inner_ ? inner_->entries.turns().meter() : Meter(nullptr); }
-
   private:
     // A time to live that a call says, in a timed_map.
     using Life = typename Times::Life;
 
     template <class... Lived> Status open_with(const MapOptions &options, Hash hash, const Lived &...lives) noexcept {
-        return inside::open_map(inner_, options, inside::mix_for<K, Hash>, [&] { return std::make_unique<Inner>(std::move(hash), Times(lives...)); });
+        return this->open_as(options, [&] { return std::make_unique<Inner>(std::move(hash), Times(lives...)); });
     }
     Stored put_if_absent(Key key, const V &value, const Life &life) noexcept(never_throws) {
         return change(key, Stored{Status::closed, false, false}, [&](const auto &known) { return inner_->entries.put_if_absent(known, value, life); });
@@ -268,20 +283,12 @@ template <class K, class V, class Hash = SipHash<K>, class Times = inside::Timel
         return change(key, Found<V>{Status::closed, std::nullopt}, [&](const auto &known) {
             const auto outdating = [&](const V &old) {
                 const V value = function(old);
-                inner_->flights.outdate(known);
+                inner_->entries.flights.outdate(known);
                 return value;
             };
             return inner_->entries.update(known, first, outdating, life);
         });
     }
-
-    struct Inner {
-        Inner(Hash &&hash, const Times &times) : identities(std::move(hash)), entries(times) {}
-
-        inside::Identities<Key, Hash> identities;
-        inside::Table<V, Times> entries;
-        inside::AllFlights flights{};
-    };
 
     Status set(std::optional<V> &value, Key key) const noexcept(never_throws) {
         return inner_ ? inner_->entries.find(inner_->identities.of(key), value) : Status::closed;
@@ -292,11 +299,9 @@ template <class K, class V, class Hash = SipHash<K>, class Times = inside::Timel
             return closed;
         }
         const inside::Identity known = inner_->identities.of(key);
-        inner_->flights.outdate(known);
+        inner_->entries.flights.outdate(known);
         return make(known);
     }
-
-    inside::OwnedPointer<Inner> inner_{};
 
     // Each fault has one message. A type that is too large or not trivial gets no second one. Clang skips the members after a failed assertion, so
     // these come last.

@@ -18,8 +18,8 @@
 // The map then holds 1,000 pages or more, as long as they weigh no more than the bound together. While calls put, the sum may be above the bound by
 // what they put. What has left and waits to be freed weighs a sixteenth of the bound and one object more at most, while no function of `look` runs. If
 // a thread is stopped within a write, the sum may stay above the bound until a later put. A put that fails may have made others leave. Each shard
-// chooses by itself which of its objects leaves, and each eviction looks at another shard. Ask for about as many entries as weigh so much together: in a
-// much larger map fewer lookups hit.
+// has an equal share of the bound. What leaves was in a shard that had more, and that shard chooses. So what weighs more than a share soon leaves, though
+// it is used: then open the map with fewer shards. Ask for about as many entries as weigh so much together: in a much larger map fewer lookups hit.
 //
 // Which objects leave: those that no call has found since their put. So keys that are used once evict few that are used often. If nearly all were found,
 // one that was not found lately leaves: perhaps the one that an update has made heavier. An object whose key left shortly before its put counts as found.
@@ -55,7 +55,7 @@
 #ifndef CEFRODIL_OBJECT_MAP_HPP
 #define CEFRODIL_OBJECT_MAP_HPP
 
-#include "cefrodil/inside/keyed_objects.hpp"
+#include "cefrodil/inside/objects.hpp"
 #include "cefrodil_map.hpp"
 #include <algorithm>
 #include <array>
@@ -69,14 +69,17 @@
 namespace cefrodil {
 
 // A map of K to V. A hash of yours is as that of cefrodil::map; `Equal` compares a K with what a call takes as a key.
-template <class K, class V, class Hash = SipHash<K>, class Equal = std::equal_to<>> class object_map {
-    using Inner = inside::KeyedObjects<K, V, Hash, Equal>;
+template <class K, class V, class Hash = SipHash<K>, class Equal = std::equal_to<>>
+class object_map : public inside::AnyMap<inside::Opened<K, Hash, inside::Objects<K, V>>> {
+    using Inner = inside::Opened<K, Hash, inside::Objects<K, V>>;
+    using inside::AnyMap<Inner>::inner_;
     using Objects = inside::Objects<K, V>;
-    using Pinned = typename Inner::Pinned;
-    using Seen = typename Inner::Seen;
-    using Change = typename Inner::Change;
-    using Own = typename Inner::Own;
-    using Life = typename Inner::Life;
+    using Pinned = typename Objects::Pinned;
+    using Seen = typename Objects::Seen;
+    using Change = typename Objects::Change;
+    using Own = typename Objects::Own;
+    // A time to live that a call says, or that of the map.
+    using Life = std::optional<std::chrono::nanoseconds>;
 
   public:
     // How a call takes a key. A string is taken as a view.
@@ -94,12 +97,8 @@ template <class K, class V, class Hash = SipHash<K>, class Equal = std::equal_to
         return open(options, std::move(rules), std::move(hash));
     }
     [[nodiscard]] Status open(const MapOptions &options, Rules rules, Hash hash = Hash()) noexcept {
-        return inside::open_map(inner_, options, inside::mix_for<K, Hash>,
-                                [&] { return std::make_unique<Inner>(options.passes, std::move(rules), std::move(hash)); });
+        return this->open_as(options, [&] { return std::make_unique<Inner>(std::move(hash), options.passes, std::move(rules)); });
     }
-    bool is_open() const noexcept { return bool(inner_); }
-    // Closes the map, and destroys its objects.
-    Status close() noexcept { return inner_.reset() ? Status::ok : Status::closed; }
 
     // Calls `see(const V &)` with the key's value. ok, or absent, busy or closed: then it was not called. The value stays for so long, though another
     // thread may remove it meanwhile.
@@ -109,7 +108,7 @@ template <class K, class V, class Hash = SipHash<K>, class Equal = std::equal_to
         }
         Pinned pinned(inner_->entries);
         const inside::Identity known = inner_->identities.of(key);
-        const Seen seen = inner_->look(pinned, known, key, inner_->entries.turns().looks(), inner_->generation());
+        const Seen seen = look_up(pinned, known, key, inner_->entries.looks(), generation());
         pinned.count(seen.status);
         if (seen.status == Status::ok) {
             see(static_cast<const V &>(seen.object->value));
@@ -123,7 +122,7 @@ template <class K, class V, class Hash = SipHash<K>, class Equal = std::equal_to
             return Status::closed;
         }
         Pinned pinned(inner_->entries);
-        const Seen seen = Inner::own(pinned.peek(inner_->identities.of(key).index, inner_->generation()), key);
+        const Seen seen = own(pinned.peek(inner_->identities.of(key).index, generation()), key);
         if (seen.status == Status::ok) {
             see(static_cast<const V &>(seen.object->value));
         }
@@ -154,7 +153,7 @@ template <class K, class V, class Hash = SipHash<K>, class Equal = std::equal_to
     // Puts a key that is absent. Statuses are those of cefrodil::map, and no_memory, and too_heavy: it weighs more than the bound. Unless ok, a V that
     // was moved here is moved back.
     template <class Value = V> [[nodiscard]] Stored insert(Key key, Value &&value) {
-        return put<Value>(key, value, std::nullopt, [&](const auto &known, Own &object, Change &change) { return inner_->insert(known, key, object, change); });
+        return put<Value>(key, value, std::nullopt, [&](const auto &known, Own &object, Change &change) { return put_new(known, key, object, change); });
     }
     // Puts a key, whether it is there or not. Unless ok, an earlier value is still there.
     template <class Value = V> [[nodiscard]] Stored insert_or_assign(Key key, Value &&value) {
@@ -162,7 +161,7 @@ template <class K, class V, class Hash = SipHash<K>, class Equal = std::equal_to
     }
     // The same, with a time to live of its own, in any map. A time of 0 or less is over at once, and `forever` never.
     template <class Value = V> [[nodiscard]] Stored insert_for(Key key, Value &&value, std::chrono::nanoseconds life) {
-        return put<Value>(key, value, life, [&](const auto &known, Own &object, Change &change) { return inner_->insert(known, key, object, change); });
+        return put<Value>(key, value, life, [&](const auto &known, Own &object, Change &change) { return put_new(known, key, object, change); });
     }
     template <class Value = V> [[nodiscard]] Stored insert_or_assign_for(Key key, Value &&value, std::chrono::nanoseconds life) {
         return put<Value>(key, value, life, [&](const auto &known, Own &object, Change &change) { return inner_->entries.put(known.index, object, change); });
@@ -186,9 +185,9 @@ template <class K, class V, class Hash = SipHash<K>, class Equal = std::equal_to
             return Status::closed;
         }
         const inside::Identity known = inner_->identities.of(key);
-        inner_->flights.outdate(known);
+        inner_->entries.flights.outdate(known);
         for (uint32_t repeat = 0;; repeat++) {
-            const Seen seen = inner_->look_to_take(known, key);
+            const Seen seen = look_to_take(known, key);
             if (seen.object == nullptr) {
                 return seen.status;
             }
@@ -197,7 +196,7 @@ template <class K, class V, class Hash = SipHash<K>, class Equal = std::equal_to
             if (status == Status::ok && seen.status == Status::ok) {
                 see(static_cast<const V &>(change.old->value));
             }
-            if (status != Status::changed || repeat >= inner_->entries.turns().tries()) {
+            if (status != Status::changed || repeat >= inner_->entries.tries()) {
                 return status == Status::ok ? seen.status : status;
             }
         }
@@ -220,63 +219,105 @@ template <class K, class V, class Hash = SipHash<K>, class Equal = std::equal_to
         }
     }
 
-    // Removes each key that was put before. Unless ok, some keys may still be there.
-    [[nodiscard]] Status clear() {
-        if (!inner_) {
-            return Status::closed;
-        }
-        inner_->flights.outdate_all();
-        return inner_->entries.clear();
-    }
-    // Once it has returned, no key is found that was put before it began, nor a value that find_or_compute was computing then. As by cefrodil::map. The
-    // objects stay until others overwrite or evict them, or until erase_expired. Until then `size` and `weight` count them. ok or closed.
-    Status invalidate_all() noexcept {
-        if (!inner_) {
-            return Status::closed;
-        }
-        inner_->entries.generation().begin_next();
-        inner_->flights.outdate_all();
-        return Status::ok;
-    }
-    // Removes what has expired, and what was put before invalidate_all. As by `clear`. Until then it stays until it is overwritten or evicted, and `size` and
-    // `weight` count it.
-    [[nodiscard]] Status erase_expired() { return inner_ ? inner_->entries.erase_expired() : Status::closed; }
     // Frees what has left the map and no call can use any more. Other calls do so now and then. Returns how many objects.
     size_t free_unused() noexcept { return inner_ ? inner_->entries.free_now() : 0; }
 
-    uint64_t size() const noexcept { return inner_ ? inner_->entries.turns().keys() : 0; }
-    uint64_t capacity() const noexcept { return inner_ ? inner_->entries.turns().capacity() : 0; }
     // The sum of the weights, exact while no call writes. What other calls are about to put counts, and what has left does not, though it may wait to
     // be freed. Without a weigher 0.
     uint64_t weight() const noexcept { return inner_ ? inner_->entries.weight() : 0; }
     // How many objects have left the map and wait to be freed, and what they weigh. `meter` has the same.
     uint64_t waiting() const noexcept { return inner_ ? inner_->entries.waiting() : 0; }
     uint64_t waiting_weight() const noexcept { return inner_ ? inner_->entries.waiting_weight() : 0; }
-    // What the lookups of this map came to, each counted once: the calls of look, find, get, contains and find_or_compute. As by cefrodil::map.
-    Meter meter() const noexcept { return inner_ ? inner_->entries.turns().meter() : Meter(nullptr); }
 
   private:
+    uint64_t generation() const noexcept { return inner_->entries.generations.now(); }
+    // An object of another key with the same number is none of this key's.
+    static Seen own(Seen seen, Key key) {
+        const bool is_other = seen.status == Status::ok && !Equal()(seen.object->key, key);
+        return is_other ? Seen{Status::absent, nullptr, seen.since} : seen;
+    }
+    // The key's object. Compiled into its callers: a call costs a tenth of a lookup.
+    [[gnu::always_inline]] static Seen look_up(const Pinned &pinned, const inside::Identity &known, Key key, const uint32_t &most, uint64_t begun) {
+        return own(pinned.look(known.index, most, begun), key);
+    }
+    // The key's object, for its removal, which is no use of it. If it has ended it is absent, but is removed all the same: an update that found it before
+    // must not renew it.
+    Seen look_to_take(const inside::Identity &known, Key key) {
+        const uint64_t now = generation();
+        Pinned pinned(inner_->entries);
+        const Seen seen = pinned.look_at_all(known.index, inner_->entries.tries());
+        // This acquires what the object was made with, before its key is compared.
+        const bool has_ended = seen.object != nullptr && inner_->entries.has_ended(*seen.object, now);
+        Seen taken = own(seen, key);
+        if (taken.object != nullptr && has_ended) {
+            taken.status = Status::absent;
+        }
+        return taken;
+    }
+    // Puts a key that is absent, or says `present`. What is there gives way if it has ended, or is another key's.
+    Status put_new(const inside::Identity &known, Key key, Own &object, Change &change, bool is_computed = false) {
+        Objects &objects = inner_->entries;
+        for (uint32_t repeat = 0;; repeat++) {
+            const Seen seen = look_up(Pinned(objects), known, key, objects.tries(), object->generation());
+            if (seen.status != Status::absent) {
+                return seen.status == Status::ok ? Status::present : seen.status;
+            }
+            const Status status = objects.put_new(known.index, seen.since, object, is_computed, change);
+            if (!inside::is_lost(status)) {
+                if (change.renewed) {
+                    objects.gave_way(change);
+                }
+                return status;
+            }
+            if (repeat >= objects.tries()) {
+                return Status::changed;
+            }
+        }
+    }
+    // Makes an object of what the function makes of the key's value. `seen`: what it looked up.
+    template <class Function>
+    [[gnu::always_inline]] Own made_of(const inside::Identity &known, Key key, const Life &life, Function &function, uint64_t begun, Seen &seen) {
+        Objects &objects = inner_->entries;
+        Pinned pinned(objects);
+        seen = look_up(pinned, known, key, objects.tries(), begun);
+        if (seen.status != Status::ok) {
+            return Own();
+        }
+        const auto made = [&] { return function(static_cast<const V &>(seen.object->value)); };
+        // It has the generation of what it replaces.
+        const auto make = [&](const auto &give) {
+            const uint64_t deadline = life ? objects.deadline(life) : Objects::deadline_of(*seen.object);
+            return objects.make(key, give, seen.object->generation(), deadline);
+        };
+        if constexpr (std::is_same_v<decltype(made()), std::optional<V>>) {
+            std::optional<V> next = made();
+            seen.status = next ? Status::ok : Status::declined;
+            return next ? make([&] { return std::move(*next); }) : Own();
+        } else {
+            return make(made);
+        }
+    }
     // A copy of the key's value, if it is there. It isn't counted.
     std::optional<V> seek(Key key) const {
-        Pinned pinned(inner_->entries);
-        const Seen seen = inner_->look(pinned, inner_->identities.of(key), key, inner_->entries.turns().looks(), inner_->generation());
+        const Pinned pinned(inner_->entries);
+        const Seen seen = look_up(pinned, inner_->identities.of(key), key, inner_->entries.looks(), generation());
         return seen.status == Status::ok ? std::optional<V>(seen.object->value) : std::nullopt;
     }
     // Computes the key's value, if no other call does so now, and puts it. None: another call did.
     template <class Function> std::optional<Computed<V>> compute(Key key, Function &function, Change &change) {
         const inside::Identity known = inner_->identities.of(key);
-        inside::Flight flight(inner_->flights.of(known), known);
+        inside::Flight flight(inner_->entries.flights.of(known), known);
         if (!flight.has_begun()) {
             return std::nullopt;
         }
-        const uint64_t generation = inner_->generation();
+        const uint64_t begun = generation();
         // Another flight may have ended between the lookup and the begin of this one.
         if (std::optional<V> found = seek(key)) {
             return Computed<V>{Status::ok, std::move(*found), false};
         }
         V value = function();
-        Own object = inner_->entries.make(key, [&]() -> const V & { return value; }, generation);
-        const Status status = flight.land([&] { return object ? inner_->insert(known, key, object, change, true) : Status::no_memory; });
+        Own object = inner_->entries.make(key, [&]() -> const V & { return value; }, begun, inner_->entries.deadline({}));
+        const Status status = flight.land([&] { return object ? put_new(known, key, object, change, true) : Status::no_memory; });
         return Computed<V>{status, std::move(value), true};
     }
     // Replaces the value, until no other thread is first.
@@ -285,16 +326,22 @@ template <class K, class V, class Hash = SipHash<K>, class Equal = std::equal_to
             return Status::closed;
         }
         const inside::Identity known = inner_->identities.of(key);
-        inner_->flights.outdate(known);
-        const uint64_t generation = inner_->generation();
+        inner_->entries.flights.outdate(known);
+        const uint64_t begun = generation();
         for (uint32_t repeat = 0;; repeat++) {
             Seen seen{};
             Change change(inner_->entries);
-            const Status status = inner_->renew(known, key, life, function, generation, seen, change);
-            if (seen.status != Status::ok || !Inner::is_lost(status)) {
+            Own object = made_of(known, key, life, function, begun, seen);
+            if (seen.status != Status::ok) {
+                return seen.status;
+            }
+            // A flight may have begun while the function ran.
+            inner_->entries.flights.outdate(known);
+            const Status status = object ? inner_->entries.replace(known.index, seen.since, object, change) : Status::no_memory;
+            if (!inside::is_lost(status)) {
                 return status;
             }
-            if (repeat >= inner_->entries.turns().tries()) {
+            if (repeat >= inner_->entries.tries()) {
                 return Status::changed;
             }
         }
@@ -307,12 +354,11 @@ template <class K, class V, class Hash = SipHash<K>, class Equal = std::equal_to
         const inside::Identity known = inner_->identities.of(key);
         const auto give = [&]() -> Value && { return std::forward<Value>(value); };
         Objects &objects = inner_->entries;
-        const uint64_t generation = inner_->generation();
-        Own object = life ? objects.make_until(key, give, generation, objects.deadline_after(*life)) : objects.make(key, give, generation);
+        Own object = objects.make(key, give, generation(), objects.deadline(life));
         if (!object) {
             return {Status::no_memory, false, false};
         }
-        inner_->flights.outdate(known);
+        inner_->entries.flights.outdate(known);
         Change change(objects);
         const Status status = make(known, object, change);
         if constexpr (std::is_same_v<Value, V> && std::is_move_assignable_v<V>) {
@@ -325,7 +371,6 @@ template <class K, class V, class Hash = SipHash<K>, class Equal = std::equal_to
         }
         return {status, change.renewed, change.evicted};
     }
-    inside::OwnedPointer<Inner> inner_{};
 
     static_assert(std::is_object_v<K> && std::is_object_v<V> && !std::is_const_v<V>, "keys and values are objects");
     static_assert(std::is_nothrow_destructible_v<K> && std::is_nothrow_destructible_v<V>, "destructors of keys and values throw nothing");

@@ -118,7 +118,8 @@ template <class Hash> static void secrets(int calls) {
     MUST(one.of(1).index != 0 && one.of(1).check != 0);
     kernel = known_numbers;
     asked = 0;
-    MUST(one.draw() && one.of(1).index == numbered.first && one.of(1).check == numbered.second && asked == 2 * calls);
+    // The finalizer of MurmurHash3 of the first number.
+    MUST(one.draw() && one.of(1).index == 0xf6267fb0e11aec07 && one.of(1).check == numbered.second && asked == 2 * calls);
     kernel = refused;
     MUST(!one.draw());
     kernel = random_numbers;

@@ -55,7 +55,7 @@ static void meet(Table &table, uint32_t calls) {
     before = calls;
     act = [&table] {
         std::thread([&table] {
-            table.generation().begin_next();
+            table.generations.begin_next();
             other = table.put(key, 20).status;
         }).join();
     };
@@ -63,7 +63,7 @@ static void meet(Table &table, uint32_t calls) {
 
 static void a_put(Table &table) {
     MUST(table.put(key, 10).status == Status::ok && found(table) == 10);
-    table.generation().begin_next();
+    table.generations.begin_next();
     MUST(found(table) == 0 && table.put(key, 11).status == Status::ok && found(table) == 11);
     meet(table, 0);
     MUST(table.put(key, 12).status == Status::ok && other == Status::held && found(table) == 0);
@@ -75,7 +75,7 @@ static void a_put_of_an_absent_key(Table &table) {
     MUST(table.put_if_absent(key, 13).status == Status::ok && made == 3);
     const uint64_t inserted[] = {14, 20, 0};
     for (uint32_t others = 0; others < 3; others++) {
-        table.generation().begin_next();
+        table.generations.begin_next();
         meet(table, others);
         const Status own = table.put_if_absent(key, 14).status;
         MUST(own == (others == 1 ? Status::present : Status::ok) && other == (others == 1 ? Status::ok : Status::held));
@@ -87,7 +87,7 @@ static void a_put_of_an_absent_key(Table &table) {
 static void an_update(Table &table) {
     const uint64_t updated[] = {21, 15, 21, 0}, first = 15;
     for (uint32_t others = 0; others < 4; others++) {
-        table.generation().begin_next();
+        table.generations.begin_next();
         meet(table, others);
         const auto own = table.update(key, &first, [](uint64_t old) { return old + 1; });
         MUST(own.status == Status::ok && own.value == (others % 2 == 0 ? 21u : 15u) && found(table) == updated[others]);
@@ -96,7 +96,7 @@ static void an_update(Table &table) {
 
 int main() {
     Table table;
-    MUST(table.open(40, 1, 64, 5, CEFRODIL_MIX_FULL) == Status::ok);
+    MUST(table.open(40, 1, 64, 5) == Status::ok);
     a_put(table);
     a_put_of_an_absent_key(table);
     an_update(table);

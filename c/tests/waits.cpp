@@ -273,7 +273,7 @@ static void overtaken_clear() {
 // A thread may note that it removed a key before the one that put it has noted that. There are never fewer keys than none.
 static void removed_before_it_counts() {
     cefrodil::inside::Turns<1> turns;
-    MUST(turns.open(100, 1, 8, 0, CEFRODIL_MIX_FULL) == Status::ok);
+    MUST(turns.open(100, 1, 8, 0) == Status::ok);
     const auto add = [&](int64_t more) { turns.call([&](cefrodil::inside::Slot<1> &slot) { slot.add(more); }); };
     add(-1);
     MUST(turns.keys() == 0);

@@ -121,6 +121,40 @@ static void a_new_object_stays() {
     }
 }
 
+// A key is its own number in the index, once that is mixed.
+struct Plain {
+    cefrodil::HashPair operator()(const uint64_t &key, const cefrodil::HashSecret &) const noexcept { return {key, key}; }
+};
+
+// A shard keeps its share, whatever is put into another one. What it leaves free, the other one has.
+static void shares() {
+    object_map<uint64_t, uint64_t, Plain> numbers;
+    MUST(numbers.open({1000, 2}, bounded(1000)) == Status::ok);
+    // The next key of this shard.
+    const auto next = [](uint64_t &last, uint64_t shard) {
+        do {
+            last++;
+        } while ((cefrodil::inside::mixed(last) >> 48 & 1) != shard);
+        return last;
+    };
+    std::map<uint64_t, uint64_t> firsts; // of shard 0
+    uint64_t last = 0;
+    const auto fill = [&](uint64_t shard, uint64_t weight, uint64_t count) {
+        for (uint64_t n = 0; n < count; n++) {
+            const uint64_t key = next(last, shard);
+            MUST(numbers.insert(key, uint64_t(weight)).status == Status::ok && numbers.peek(key).value == weight);
+            shard == 0 ? void(firsts[key] = weight) : void();
+        }
+    };
+    const auto stay = [&] { return std::count_if(firsts.begin(), firsts.end(), [&](auto &each) { return numbers.peek(each.first).value == each.second; }); };
+    fill(0, 50, 4);
+    fill(1, 7, 1000);
+    MUST(stay() == 4 && numbers.weight() > 993 && numbers.weight() <= 1000);
+    fill(0, 30, 10);
+    fill(1, 30, 1000);
+    MUST(stay() == 14 && numbers.weight() > 970 && numbers.weight() <= 1000);
+}
+
 // Without a weigher a map has room for as many entries as were asked for. With one shard it holds just these.
 static void entries_alone() {
     for (const uint32_t shards : {1, 4, 0}) {
@@ -261,6 +295,7 @@ int main(int argc, char **argv) {
     order();
     used_keys_stay();
     a_new_object_stays();
+    shares();
     entries_alone();
     waiting();
     agrees_with_a_model<cefrodil::SipHash<uint64_t>>({1000}, 1000, 30000 / less);

@@ -1,6 +1,7 @@
-// How many lookups find their key in a map of C++, for `bench/map_hits.py`: the same work as in src/main.rs.
+// How many lookups find their key in a map of C++, for `bench/map_hits.py` and `bench/mixed_sizes.py`: the same work as in src/main.rs.
 //
-// usage: ratio CAPACITY CACHE     CACHE: map; objects by their number; or weights by their weight. It prints a line of 0 and 1: which lookups hit.
+// usage: ratio CAPACITY CACHE [SHARDS BOUND]     CACHE: map; objects by their number; weights by their weight; or sizes. It prints a line of 0 and 1:
+// which lookups hit.
 #include "cefrodil_object_map.hpp"
 #include <cstdio>
 #include <cstdlib>
@@ -43,16 +44,10 @@ static int of_map(uint32_t capacity) {
     look_all_up(map);
     return 0;
 }
-// If it is bounded by weight alone, its index has room for more.
-static int of_objects(uint32_t capacity, bool is_weighed) {
-    using Map = cefrodil::object_map<uint64_t, uint64_t>;
-    Map::Rules rules;
-    if (is_weighed) {
-        rules.weigher = [](const uint64_t &, const uint64_t &) { return uint64_t(1); };
-        rules.most_weight = capacity;
-    }
-    Map map;
-    if (map.open({is_weighed ? 2 * capacity : capacity, 1, 2}, std::move(rules)) != Status::ok) {
+using Objects = cefrodil::object_map<uint64_t, uint64_t>;
+static int of_objects(uint32_t capacity, uint32_t shards, const Objects::Rules &rules) {
+    Objects map;
+    if (map.open({capacity, shards, 2}, rules) != Status::ok) {
         return 1;
     }
     look_all_up(map);
@@ -60,10 +55,19 @@ static int of_objects(uint32_t capacity, bool is_weighed) {
 }
 
 int main(int argc, char **argv) {
-    if (argc != 3) {
+    if (argc != 3 && argc != 5) {
         return 2;
     }
-    const auto capacity = static_cast<uint32_t>(std::strtoul(argv[1], nullptr, 10));
+    const auto number = [&](int at) { return std::strtoull(argv[at], nullptr, 10); };
+    const auto capacity = static_cast<uint32_t>(number(1));
     const std::string cache = argv[2];
-    return cache == "map" ? of_map(capacity) : of_objects(capacity, cache == "weights");
+    if (cache == "sizes") {
+        // The last bits of a key are its size.
+        return of_objects(capacity, static_cast<uint32_t>(number(3)), {nullptr, [](uint64_t key, uint64_t) { return key % (1 << 17); }, number(4)});
+    }
+    if (cache == "weights") {
+        // Its index has room for more.
+        return of_objects(2 * capacity, 1, {nullptr, [](uint64_t, uint64_t) { return uint64_t(1); }, capacity});
+    }
+    return cache == "map" ? of_map(capacity) : of_objects(capacity, 1, {});
 }

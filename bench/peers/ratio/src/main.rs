@@ -1,8 +1,8 @@
-//! How many lookups find their key in a cache, for `bench/map_hits.py`. Standard input has the keys, as words of 64 bits. Each that is missed is
-//! put.
+//! How many lookups find their key in a cache, for `bench/map_hits.py` and `bench/mixed_sizes.py`. Standard input has the keys, as words of 64 bits.
+//! Each that is missed is put.
 //!
-//! usage: ratio CAPACITY CACHE     CACHE: map; number, objects by their number; objects, by their weight; or server. It prints a line of 0 and 1:
-//! which lookups hit.
+//! usage: ratio CAPACITY CACHE [SHARDS BOUND]     CACHE: map; number, objects by their number; objects, by their weight; sizes; or server. It prints a
+//! line of 0 and 1: which lookups hit.
 mod server;
 
 use cefrodil_map::{Map, ObjectMap};
@@ -56,14 +56,21 @@ fn objects(capacity: usize) -> Result<Box<dyn Cache>, Failure> {
     Ok(Box::new(builder.max_weight(capacity as u64, |_, _| 1).open()?))
 }
 
+/// Bounded by their sizes, which are the last bits of the keys.
+fn sizes(capacity: usize, shards: u32, bound: u64) -> Result<Box<dyn Cache>, Failure> {
+    let builder = ObjectMap::<u64, u64>::builder(capacity).shards(shards).threads(1);
+    Ok(Box::new(builder.max_weight(bound, |key, _| key % (1 << 17)).open()?))
+}
+
 fn main() -> Result<(), Failure> {
     let words: Vec<_> = args().skip(1).collect();
-    let [capacity, name] = &words[..] else { return Err("usage: ratio CAPACITY CACHE".into()) };
+    let [capacity, name, more @ ..] = &words[..] else { return Err("usage: ratio CAPACITY CACHE [SHARDS BOUND]".into()) };
     let capacity = capacity.parse()?;
     let mut cache = match name.as_str() {
         "map" => map(capacity)?,
         "number" => number(capacity)?,
         "objects" => objects(capacity)?,
+        "sizes" => sizes(capacity, more[0].parse()?, more[1].parse()?)?,
         "server" => server::open(capacity)?,
         _ => return Err(format!("there is no cache {name}").into()),
     };

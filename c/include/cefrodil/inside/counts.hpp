@@ -10,7 +10,9 @@
 #include <chrono>
 #include <cstddef>
 #include <cstdint>
+#include <forward_list>
 #include <memory>
+#include <mutex>
 #include <string>
 #include <utility>
 #include <vector>
@@ -86,42 +88,15 @@ class Stalls {
     std::atomic<uint64_t> number_{0};
 };
 
-// The lines of handles that were opened together.
-struct LineGroup {
-    explicit LineGroup(size_t handles) : lines(handles) {}
-
-    std::vector<Line> lines;
-    LineGroup *before = nullptr; // the group that was added before this one
-
-    void add_to(std::array<uint64_t, all_counted> &all) const noexcept {
-        for (const Line &line : lines) {
-            for (size_t which = 0; which < all_counted; which++) {
-                all[which] += line.numbers[which].load(std::memory_order_relaxed);
-            }
-        }
-    }
-};
+// The lines of handles that are opened together: one vector.
+using LineGroup = std::forward_list<std::vector<Line>>;
 
 // The lines of a cache's handles, a group for each opening. The line of a handle that is closed keeps its numbers.
 class Lines {
   public:
-    Lines() noexcept = default;
-    Lines(const Lines &) = delete;
-    Lines &operator=(const Lines &) = delete;
-    ~Lines() {
-        LineGroup *group = last_.load(std::memory_order_relaxed);
-        while (group != nullptr) {
-            const std::unique_ptr<LineGroup> gone(group);
-            group = gone->before;
-        }
-    }
-
-    // Release: who sees the group sees its lines, and the groups before it.
-    void add(std::unique_ptr<LineGroup> group) noexcept {
-        LineGroup *const added = group.release();
-        added->before = last_.load(std::memory_order_relaxed);
-        while (!last_.compare_exchange_weak(added->before, added, std::memory_order_release, std::memory_order_relaxed)) {
-        }
+    void add(LineGroup &&group) noexcept {
+        const std::lock_guard<std::mutex> guard(lock_);
+        groups_.splice_after(groups_.cbefore_begin(), group);
     }
     // In a forked child nothing is known of the parent's handles.
     Counts sum() const noexcept {
@@ -129,8 +104,13 @@ class Lines {
             return {};
         }
         std::array<uint64_t, all_counted> all{};
-        for (const LineGroup *group = last_.load(std::memory_order_acquire); group != nullptr; group = group->before) {
-            group->add_to(all);
+        const std::lock_guard<std::mutex> guard(lock_);
+        for (const std::vector<Line> &group : groups_) {
+            for (const Line &line : group) {
+                for (size_t which = 0; which < all_counted; which++) {
+                    all[which] += line.numbers[which].load(std::memory_order_relaxed);
+                }
+            }
         }
         // A thread frees what another one has retired, and the latter's line may have been read before that.
         const auto number = static_cast<uint64_t>(std::max<int64_t>(0, static_cast<int64_t>(all[waiting])));
@@ -143,7 +123,8 @@ class Lines {
     std::atomic<uint64_t> &waiting_weight() noexcept { return waiting_weight_; }
 
   private:
-    std::atomic<LineGroup *> last_{nullptr};
+    mutable std::mutex lock_{};
+    LineGroup groups_{};
     const Maker maker_{};
     Stalls stalls_{};
     std::atomic<uint64_t> waiting_weight_{0};
@@ -154,31 +135,16 @@ class Counter {
   public:
     Counter() noexcept = default;
     Counter(std::shared_ptr<Lines> lines, Line *line) noexcept : lines_(std::move(lines)), line_(line) {}
-    Counter(Counter &&other) noexcept : lines_(std::move(other.lines_)), line_(std::exchange(other.line_, nullptr)) {}
-    Counter &operator=(Counter &&other) noexcept {
-        lines_ = std::move(other.lines_);
-        line_ = std::exchange(other.line_, nullptr);
-        return *this;
-    }
-    Counter(const Counter &) = delete;
-    Counter &operator=(const Counter &) = delete;
-
     const std::shared_ptr<Lines> &lines() const noexcept { return lines_; }
 
     void looked(cefrodil_status status) noexcept {
-        if (line_ != nullptr && status <= CEFRODIL_BUSY) {
+        if (lines_ && status <= CEFRODIL_BUSY) {
             line_->add(status, 1);
         }
     }
     void looked(const cefrodil_answer *answers, size_t count) noexcept {
-        if (line_ != nullptr) {
-            std::array<uint64_t, busy + 1> found{};
-            for (size_t i = 0; i < count; i++) {
-                found[answers[i].status]++;
-            }
-            for (size_t which = 0; which < found.size(); which++) {
-                line_->add(which, found[which]);
-            }
+        for (size_t i = 0; lines_ && i < count; i++) {
+            line_->add(answers[i].status, 1);
         }
     }
     // For a map, which counts by itself: in the one thread that has the handle, or in one of those that share it. Its handles have lines, unless nothing
@@ -194,25 +160,22 @@ class Counter {
         }
     }
     void tried(cefrodil_status status) noexcept {
-        if (line_ != nullptr && status == CEFRODIL_HELD) {
+        if (lines_ && status == CEFRODIL_HELD) {
             line_->add(held, 1);
         }
     }
     void wrote(cefrodil_status status, const cefrodil_reply &reply) noexcept {
         tried(status);
-        if (line_ == nullptr) {
-            return;
-        }
-        if (reply.put == CEFRODIL_PUT_EVICTED) {
+        if (lines_ && reply.put == CEFRODIL_PUT_EVICTED) {
             line_->add(evictions, 1);
         }
-        if (status == CEFRODIL_NO_PATH || status == CEFRODIL_ALL_RECENT || status == CEFRODIL_SPENT) {
+        if (lines_ && (status == CEFRODIL_NO_PATH || status == CEFRODIL_ALL_RECENT || status == CEFRODIL_SPENT)) {
             line_->add(refusals, 1);
         }
     }
 
   private:
-    std::shared_ptr<Lines> lines_{};
+    std::shared_ptr<Lines> lines_{}; // none: nothing is counted
     Line *line_ = nullptr;
 };
 

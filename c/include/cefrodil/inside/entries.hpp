@@ -1,38 +1,57 @@
-// What the entries of both kinds of maps have in common, for table.hpp and objects.hpp: the calls of the index, the generation, and how a map is opened.
+// What the entries of both kinds of maps have in common, for table.hpp and objects.hpp: the calls of the index, the generation, and the flights.
 #ifndef CEFRODIL_INSIDE_ENTRIES_HPP
 #define CEFRODIL_INSIDE_ENTRIES_HPP
 
-#include "forks.hpp"
-#include "generations.hpp"
+#include "flights.hpp"
 #include "hash.hpp"
+#include "threads.hpp"
 #include "turns.hpp"
 #include <algorithm>
 #include <array>
 #include <cstddef>
 #include <cstdint>
-#include <memory>
-#include <type_traits>
 #include <utility>
 #include <vector>
 
-namespace cefrodil {
+namespace cefrodil::inside {
 
-namespace inside {
-
-template <size_t Words> class Entries {
+// The generation of a map's entries. `invalidate_all` begins the next one. Each entry has the generation in which the call began that put it. An entry
+// of an older generation is absent. map/SAFETY.md says why that suffices.
+template <class Parts> class GenerationOf {
   public:
-    [[nodiscard]] Status open(uint32_t entries, uint32_t shards, uint32_t passes, uint32_t tries, uint32_t mix) noexcept {
-        return turns_.open(entries, shards, passes, tries, mix);
+    // Acquire: a call that sees a generation sees what its `invalidate_all` came after.
+    uint64_t now() const noexcept { return number_.load(std::memory_order_acquire); }
+    void begin_next() noexcept { number_.fetch_add(1, std::memory_order_seq_cst); }
+
+  private:
+    typename Parts::template Atomic<uint64_t> number_{0};
+};
+
+using Generation = GenerationOf<Threads>;
+
+// Whether the entry is another one than was looked up.
+inline bool is_lost(Status status) noexcept {
+    return status == Status::changed || status == Status::absent || status == Status::present;
+}
+
+template <size_t Words> class Entries : public Turns<Words> {
+  public:
+    Generation generations{};
+    AllFlights flights{};
+
+    // Ends all entries, and outdates what is being computed.
+    Status invalidate_all() noexcept {
+        generations.begin_next();
+        flights.outdate_all();
+        return Status::ok;
     }
-    Generation &generation() noexcept { return generation_; }
-    Turns<Words> &turns() noexcept { return turns_; }
-    const Turns<Words> &turns() const noexcept { return turns_; }
 
   protected:
-    // Calls with the number and the words of each entry of a list of all, until a call fails. absent or changed: others were first.
+    // Calls with the number and the words of each entry of a list of all, until a call fails. Each shard is listed at a moment of its own. Of some
+    // entries others may be first.
     template <class Call> Status each_listed(Call call) noexcept {
         std::vector<uint64_t> list;
-        Status status = turns_.repeated([&](Slot<Words> &slot) { return slot.handle.try_entries(list); });
+        Status status = this->repeated([&](Slot<Words> &slot) { return slot.handle.try_entries(list); });
         for (size_t at = 0; at < list.size() && status == Status::ok; at += 1 + Words) {
             std::array<uint64_t, Words> listed;
             std::copy_n(&list[at + 1], Words, listed.begin());
@@ -41,35 +60,16 @@ template <size_t Words> class Entries {
         }
         return status;
     }
-    // Whether the entry is another one than was looked up.
-    static bool is_lost(Status status) noexcept { return status == Status::changed || status == Status::absent; }
-
-    Turns<Words> turns_{};
-    Generation generation_{};
 };
 
-// Opens a map: makes what it owns, draws its secret, and opens its index. Unless ok, nothing was done.
-template <class Inner, class Options, class Make>
-[[nodiscard]] Status open_map(OwnedPointer<Inner> &inner, const Options &options, uint32_t mix, Make make) noexcept {
-    if (inner) {
-        return Status::in_use;
-    }
-    std::unique_ptr<Inner> opened;
-    if (!has_memory([&] { opened = make(); })) {
-        return Status::no_memory;
-    }
-    if (!opened->identities.draw()) {
-        return Status::no_random;
-    }
-    const Status status = opened->entries.open(options.entries, options.shards, options.passes, options.tries, mix);
-    return status == Status::ok && !inner.own(std::move(opened)) ? Status::no_memory : status;
-}
+// What an open map owns.
+template <class K, class Hash, class All> struct Opened {
+    template <class... Made> explicit Opened(Hash &&hash, Made &&...made) : identities(std::move(hash)), entries(std::forward<Made>(made)...) {}
 
-// The index hashes what a hash of the user's may have spread badly.
-template <class K, class Hash> inline constexpr uint32_t mix_for = std::is_same_v<Hash, SipHash<K>> ? CEFRODIL_MIX_NONE : CEFRODIL_MIX_FULL;
+    Identities<Taken<K, Hash>, Hash> identities;
+    All entries;
+};
 
-} // namespace inside
-
-} // namespace cefrodil
+} // namespace cefrodil::inside
 
 #endif

@@ -17,9 +17,7 @@
 #include <numeric>
 #include <vector>
 
-namespace cefrodil {
-
-namespace inside {
+namespace cefrodil::inside {
 
 // What an object has that is retired.
 struct Retired {
@@ -197,8 +195,6 @@ template <class Parts> class EpochsOf {
 
 using Epochs = EpochsOf<Threads>;
 
-} // namespace inside
-
-} // namespace cefrodil
+} // namespace cefrodil::inside
 
 #endif

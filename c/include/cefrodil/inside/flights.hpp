@@ -11,9 +11,7 @@
 #include <cstddef>
 #include <mutex>
 
-namespace cefrodil {
-
-namespace inside {
+namespace cefrodil::inside {
 
 template <class Parts> class FlightOf;
 
@@ -131,8 +129,6 @@ class AllFlights {
     std::array<Flights, 64> stripes_{};
 };
 
-} // namespace inside
-
-} // namespace cefrodil
+} // namespace cefrodil::inside
 
 #endif

@@ -12,9 +12,7 @@
 #include <unistd.h>
 #include <utility>
 
-namespace cefrodil {
-
-namespace inside {
+namespace cefrodil::inside {
 
 class Owned;
 
@@ -152,8 +150,6 @@ class Maker {
     pid_t process_ = getpid();
 };
 
-} // namespace inside
-
-} // namespace cefrodil
+} // namespace cefrodil::inside
 
 #endif

@@ -99,22 +99,15 @@ template <class Grow> [[nodiscard]] bool has_memory(Grow grow) noexcept {
 } // namespace inside
 
 inline const char *text(Status status) noexcept {
-    if (status == Status::other_version) {
-        return inside::versions();
+    switch (status) {
+    case Status::other_version: return inside::versions();
+    case Status::stale: return "the store may have changed since the value was read";
+    case Status::no_random: return "the kernel gave no random numbers";
+    case Status::too_heavy: return "the entry weighs more than the map may hold";
+    case Status::declined: return "the function made no new value";
+    case Status::too_deep: return "too many listeners within each other";
+    default: return cefrodil_text(static_cast<uint32_t>(status));
     }
-    if (status == Status::no_random) {
-        return "the kernel gave no random numbers";
-    }
-    if (status == Status::declined) {
-        return "the function made no new value";
-    }
-    if (status == Status::too_heavy) {
-        return "the entry weighs more than the map may hold";
-    }
-    if (status == Status::too_deep) {
-        return "too many listeners within each other";
-    }
-    return status == Status::stale ? "the store may have changed since the value was read" : cefrodil_text(static_cast<uint32_t>(status));
 }
 
 // The answer of a lookup. `value` is there if the key was found.
@@ -218,12 +211,12 @@ template <class Each, class Grow, class Open>
     std::vector<cefrodil_handle> raw;
     std::vector<Each> opened;
     std::shared_ptr<Lines> lines;
-    std::unique_ptr<LineGroup> group;
+    LineGroup group;
     const auto take_all = [&] {
         raw.resize(count != 0 ? count : 1);
         opened.resize(count);
         lines = grow();
-        group = lines ? std::make_unique<LineGroup>(count) : nullptr;
+        group.emplace_front(lines ? count : 0);
     };
     if (!has_memory(take_all)) {
         return Status::no_memory;
@@ -231,38 +224,15 @@ template <class Each, class Grow, class Open>
     const auto status = static_cast<Status>(open(raw.data(), count));
     if (status == Status::ok) {
         for (size_t i = 0; i < count; i++) {
-            Counting::open(opened[i], raw[i], Counter(lines, group ? &group->lines[i] : nullptr));
+            Counting::open(opened[i], raw[i], Counter(lines, lines ? &group.front()[i] : nullptr));
         }
-        if (group) {
+        if (lines) {
             lines->add(std::move(group));
         }
         handles = std::move(opened);
     }
     return status;
 }
-
-// The statuses of entries: as the library writes them, and as Status.
-class EntryStatuses {
-  public:
-    explicit EntryStatuses(size_t count) noexcept : count_(count) {}
-    void allocate() {
-        raw_.resize(count_);
-        told_.resize(count_);
-    }
-    cefrodil_status *raw() noexcept { return raw_.data(); }
-    size_t count() const noexcept { return count_; }
-    void move_to(std::vector<Status> &statuses) noexcept {
-        for (size_t i = 0; i < count_; i++) {
-            told_[i] = static_cast<Status>(raw_[i]);
-        }
-        statuses = std::move(told_);
-    }
-
-  private:
-    size_t count_;
-    std::vector<cefrodil_status> raw_{};
-    std::vector<Status> told_{};
-};
 
 } // namespace inside
 

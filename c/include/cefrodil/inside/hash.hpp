@@ -139,7 +139,8 @@ template <> struct SipHash<std::string_view> : SipHash<std::string> {};
 
 namespace inside {
 
-// A key in the index: the number by which it is looked up, and a word in its entry by which a lookup knows another key with that number.
+// A key in the index: the number by which it is looked up, whose bits are spread, and a word in its entry by which a lookup knows another key with that
+// number.
 struct Identity {
     uint64_t index;
     uint64_t check;
@@ -151,6 +152,17 @@ inline bool is_same(const Identity &one, const Identity &other) noexcept { retur
 template <class Hash, class Key> inline constexpr bool gives_pair = std::is_invocable_r_v<HashPair, const Hash &, Key, const HashSecret &>;
 template <class Hash, class Key> inline constexpr bool takes_seed = std::is_invocable_r_v<uint64_t, const Hash &, Key, uint64_t>;
 template <class Hash, class Key> inline constexpr bool hashes = gives_pair<Hash, Key> || takes_seed<Hash, Key>;
+
+// Whether a hash is spread over all its bits, as SipHash is. One of the user's may be spread badly, so its first word is mixed.
+template <class Hash> inline constexpr bool is_spread = false;
+template <class Key> inline constexpr bool is_spread<SipHash<Key>> = true;
+
+// The finalizer of MurmurHash3, by Austin Appleby: different words stay different.
+inline uint64_t mixed(uint64_t word) noexcept {
+    word = (word ^ word >> 33) * 0xff51afd7ed558ccd;
+    word = (word ^ word >> 33) * 0xc4ceb9fe1a85ec53;
+    return word ^ word >> 33;
+}
 
 // Whether a map takes a key for its own check word: if its bytes are all of it, fill a word at most, and no hash of the user's comes between.
 template <class Key, class Hash>
@@ -173,18 +185,24 @@ template <class Key, class Hash> class Identities {
 
     Identity of(Key key) const noexcept(never_throws) {
         if constexpr (is_own_word<Key, Hash>) {
-            Identity known{sip_hash<1, 3>(std::addressof(key), sizeof key, secret_), 0};
-            std::memcpy(&known.check, std::addressof(key), sizeof key);
-            return known;
-        } else if constexpr (gives_pair<Hash, Key>) {
-            const HashPair pair = hash_(key, secret_);
-            return {pair.first, pair.second};
+            uint64_t own = 0;
+            std::memcpy(&own, std::addressof(key), sizeof key);
+            return {sip_hash<1, 3>(std::addressof(key), sizeof key, secret_), own};
+        } else {
+            const HashPair pair = pair_of(key);
+            return {is_spread<Hash> ? pair.first : mixed(pair.first), pair.second};
+        }
+    }
+
+  private:
+    HashPair pair_of(Key key) const noexcept(never_throws) {
+        if constexpr (gives_pair<Hash, Key>) {
+            return hash_(key, secret_);
         } else {
             return {hash_(key, secret_.first), hash_(key, secret_.second)};
         }
     }
 
-  private:
     Hash hash_;
     HashSecret secret_{};
 };

@@ -3,11 +3,13 @@
 #define CEFRODIL_INSIDE_LIVES_HPP
 
 #include <algorithm>
-#include <atomic>
+#include <array>
 #include <chrono>
+#include <cstddef>
 #include <cstdint>
 #include <functional>
 #include <limits>
+#include <optional>
 
 namespace cefrodil {
 
@@ -37,12 +39,15 @@ class Clock {
     bool has_idle() const noexcept { return lives_.time_to_idle != forever; }
     // Without a time to idle it says nothing.
     uint64_t idle_time() const noexcept { return span(lives_.time_to_idle); }
-    uint64_t deadline() const noexcept { return deadline_after(lives_.time_to_live); }
+    // That of what is put now, with a time to live of its own or that of the map.
+    uint64_t deadline(const std::optional<std::chrono::nanoseconds> &life) const noexcept { return deadline_after(life.value_or(lives_.time_to_live)); }
     uint64_t idle_deadline() const noexcept { return deadline_after(lives_.time_to_idle); }
     // The deadline of what lives for so long from now on.
     uint64_t deadline_after(std::chrono::nanoseconds life) const noexcept {
         return life == forever ? never : now() + span(life);
     }
+    // Whether the time to idle that ends then is to begin anew: if a sixteenth of it has passed. So calls that find an entry seldom write.
+    bool is_due(uint64_t idle) const noexcept { return has_idle() && idle < idle_deadline() - idle_time() / 16; }
     // Each time is less than 2^63, so a later deadline is never reached.
     bool has_passed(uint64_t deadline) const noexcept { return deadline < uint64_t(1) << 63 && now() >= deadline; }
 
@@ -55,21 +60,61 @@ class Clock {
     const Lives lives_;
 };
 
-// When an object ends. Relaxed: a deadline says nothing of other memory.
-struct Mortal {
-    bool has_ended(const Clock &clock) const noexcept {
-        return clock.has_passed(deadline) || clock.has_passed(idle_deadline.load(std::memory_order_relaxed));
+// When the entries of a map end: never.
+struct Timeless {
+    // How many words an entry has for this.
+    static constexpr size_t moments = 0;
+    struct Life {};
+    using Ends = std::array<uint64_t, 0>;
+
+    static Ends ends(Life) noexcept { return {}; }
+    static Ends in_generation(const Ends &, uint64_t) noexcept { return {}; }
+    static Ends renewed(const Ends &, Life) noexcept { return {}; }
+    static bool have_passed(const Ends &) noexcept { return false; }
+    static bool are_of(const Ends &, uint64_t) noexcept { return true; }
+    static bool is_due(const Ends &) noexcept { return false; }
+};
+
+// When those of a timed_map end.
+class Timed {
+  public:
+    static constexpr size_t moments = 2;
+    // A time to live that a call says, or none.
+    using Life = std::optional<std::chrono::nanoseconds>;
+    // When an entry ends, and when it does if no call finds it. The latter is a little sooner than it is to be, so that its last bits are those of the
+    // entry's generation.
+    using Ends = std::array<uint64_t, moments>;
+
+    Timed() : Timed(Lives()) {}
+    explicit Timed(const Lives &lives) : clock_(lives), last_bits_(last_bits_for(clock_)) {}
+
+    Ends ends(const Life &life) const noexcept { return {clock_.deadline(life), clock_.idle_deadline()}; }
+    // The same with the last bits of the generation: the last moment up to that deadline that has them.
+    Ends in_generation(const Ends &ends, uint64_t generation) const noexcept { return {ends[0], ends[1] - ((ends[1] - generation) & last_bits_)}; }
+    // Those of what replaces an entry with such ends, in its generation.
+    Ends renewed(const Ends &old, const Life &life) const noexcept {
+        return in_generation({life ? clock_.deadline(life) : old[0], clock_.idle_deadline()}, old[1]);
     }
-    // Begins the time to idle anew, if a sixteenth of it has passed: so threads that find the object seldom store in it.
-    void begin_idle(const Clock &clock) noexcept {
-        const uint64_t next = clock.idle_deadline();
-        if (idle_deadline.load(std::memory_order_relaxed) < next - clock.idle_time() / 16) {
-            idle_deadline.store(next, std::memory_order_relaxed);
+    bool have_passed(const Ends &ends) const noexcept { return clock_.has_passed(std::min(ends[0], ends[1])); }
+    // Whether they are those of an entry of this generation. Generations are told apart by their last bits: 2^32 in a row or, with a time to idle, at
+    // least one for each 512 ns of it.
+    bool are_of(const Ends &ends, uint64_t generation) const noexcept { return ((ends[1] ^ generation) & last_bits_) == 0; }
+    // Whether the time to idle is to begin anew in the entry.
+    bool is_due(const Ends &ends) const noexcept { return clock_.is_due(ends[1]); }
+
+  private:
+    // They take less than 1/256 of the time to idle, or, without one, 32 bits of a deadline that is never reached.
+    static uint64_t last_bits_for(const Clock &clock) noexcept {
+        const uint64_t most = clock.has_idle() ? clock.idle_time() / 256 : uint64_t(1) << 32;
+        uint64_t count = 1;
+        while (count <= most / 2) {
+            count *= 2;
         }
+        return count - 1;
     }
 
-    uint64_t deadline = never; // written before the object is put
-    std::atomic<uint64_t> idle_deadline{never};
+    Clock clock_;
+    uint64_t last_bits_;
 };
 
 } // namespace inside

@@ -77,9 +77,11 @@ template <class K, class V> struct WeighedObject : Object<K, V> {
     static WeighedObject &of(Object<K, V> &object) noexcept { return static_cast<WeighedObject &>(object); }
 };
 
-// The same with a deadline. In a map that bounds no sum its weight says nothing.
-template <class K, class V> struct MortalObject final : WeighedObject<K, V>, Mortal {
+// The same with deadlines. In a map that bounds no sum its weight says nothing.
+template <class K, class V> struct MortalObject final : WeighedObject<K, V> {
     using WeighedObject<K, V>::WeighedObject;
+    uint64_t deadline = never; // written before it is put
+    std::atomic<uint64_t> idle_deadline{never}; // relaxed: it says nothing of other memory
     static MortalObject &of(Object<K, V> &object) noexcept { return static_cast<MortalObject &>(object); }
 };
 

@@ -15,9 +15,7 @@
 #include <utility>
 #include <vector>
 
-namespace cefrodil {
-
-namespace inside {
+namespace cefrodil::inside {
 
 // The entries of a map of objects, and what has left them.
 template <class K, class V> class Objects : public Entries<1> {
@@ -36,7 +34,7 @@ template <class K, class V> class Objects : public Entries<1> {
     ~Objects() {
         std::vector<uint64_t> list;
         if (is_open_) {
-            static_cast<void>(turns_.repeated([&](Slot<1> &slot) { return slot.handle.try_entries(list); }));
+            static_cast<void>(repeated([&](Slot<1> &slot) { return slot.handle.try_entries(list); }));
         }
         for (size_t at = 1; at < list.size(); at += 2) {
             static_cast<void>(Own(Each::at(list[at])));
@@ -44,10 +42,13 @@ template <class K, class V> class Objects : public Entries<1> {
         static_cast<void>(free_now());
     }
 
-    [[nodiscard]] Status open(uint32_t entries, uint32_t shards, uint32_t passes, uint32_t tries, uint32_t mix) noexcept {
-        const Status status = Entries::open(entries, shards, passes, tries, mix);
+    [[nodiscard]] Status open(uint32_t entries, uint32_t shards, uint32_t passes, uint32_t tries) noexcept {
+        const Status status = Entries::open(entries, shards, passes, tries);
         is_open_ = status == Status::ok;
-        waiting_weight_ = is_open_ && turns_.lines() ? &turns_.lines()->waiting_weight() : &uncounted_;
+        if (is_open_ && !has_memory([&] { weights_.divide(this->shards()); })) {
+            return Status::no_memory;
+        }
+        waiting_weight_ = is_open_ && lines() ? &lines()->waiting_weight() : &uncounted_;
         return status;
     }
 
@@ -61,10 +62,10 @@ template <class K, class V> class Objects : public Entries<1> {
     // The only way to an object: none that is found while this lives is freed before it ends.
     class Pinned {
       public:
-        explicit Pinned(Objects &those) noexcept : objects_(those), slot_(those.turns_.own_slot()), own_(those.epochs_, those.turns_.place_of(slot_)) {}
-        [[gnu::always_inline]] Seen look(uint64_t index, uint32_t most, uint64_t generation) noexcept {
+        explicit Pinned(Objects &those) noexcept : objects_(those), slot_(those.own_slot()), own_(those.epochs_, those.place_of(slot_)) {}
+        [[gnu::always_inline]] Seen look(uint64_t index, const uint32_t &most, uint64_t generation) const noexcept {
             std::array<uint64_t, 1> word;
-            const inside::Seen seen = objects_.turns_.get(slot_, index, most, word);
+            const inside::Seen seen = objects_.get(slot_, index, most, word);
             if (seen.status != Status::ok) {
                 return {seen.status, nullptr, seen.since};
             }
@@ -72,26 +73,21 @@ template <class K, class V> class Objects : public Entries<1> {
             return objects_.is_used(*object, generation) ? Seen{Status::ok, object, seen.since} : Seen{Status::absent, nullptr, seen.since};
         }
         // The same, also what has ended. It is no use of the object.
-        Seen look_at_all(uint64_t index, uint32_t most) noexcept {
+        Seen look_at_all(uint64_t index, uint32_t most) const noexcept {
             std::array<uint64_t, 1> word;
-            const inside::Seen seen = objects_.turns_.get(slot_, index, most, word);
+            const inside::Seen seen = objects_.get(slot_, index, most, word);
             return {seen.status, seen.status == Status::ok ? Each::found_at(word[0]) : nullptr, seen.since};
         }
         // Counts a lookup of the map.
-        [[gnu::always_inline]] void count(Status status) noexcept { objects_.turns_.count(slot_, status); }
+        [[gnu::always_inline]] void count(Status status) const noexcept { objects_.count(slot_, static_cast<Counted>(status)); }
         // The same as `look`, which is no use of the object. It takes the turn at the key's shard, so the status may be held, and never busy.
-        Seen peek(uint64_t index, uint64_t generation) noexcept {
-            const Answer<1> answer = objects_.turns_.repeated([&](Slot<1> &slot) { return slot.handle.try_peek(index); });
+        Seen peek(uint64_t index, uint64_t generation) const noexcept {
+            const Answer<1> answer = objects_.repeated([&](Slot<1> &slot) { return slot.handle.try_peek(index); });
             if (!answer.value) {
                 return {answer.status, nullptr, answer.since};
             }
             Each *const object = Each::at((*answer.value)[0]);
             return objects_.has_ended(*object, generation) ? Seen{Status::absent, nullptr, answer.since} : Seen{Status::ok, object, answer.since};
-        }
-        // The moment of the put of what is under a number, if that has expired or is of an older generation, or else 0. It is no use of the object.
-        uint64_t expired(uint64_t index, uint64_t generation) noexcept {
-            const Answer<1> answer = objects_.turns_.repeated([&](Slot<1> &slot) { return slot.handle.try_peek(index); });
-            return answer.value && objects_.has_ended(*Each::at((*answer.value)[0]), generation) ? answer.since : 0;
         }
 
       private:
@@ -115,26 +111,23 @@ template <class K, class V> class Objects : public Entries<1> {
         Retired *first = nullptr, **last = &first; // all that has left, each with the next one
     };
     // Makes an object of this generation. None without memory: then the function is not called.
-    template <class Key, class Give> [[gnu::always_inline]] Own make(const Key &key, const Give &give, uint64_t generation) const {
-        if (clock_.has_lives()) {
-            return make_mortal(key, give, generation, clock_.deadline());
+    template <class Key, class Give>
+    [[gnu::always_inline]] Own make(const Key &key, const Give &give, uint64_t generation, uint64_t deadline) const {
+        if (clock_.has_lives() || deadline != never) {
+            return make_mortal(key, give, generation, deadline);
         }
         return rules_.weigher ? made<Heavy>(Each::weighed, key, give, generation) : made<Each>(Each::plain, key, give, generation);
     }
-    // The same, with a deadline of its own.
-    template <class Key, class Give> Own make_until(const Key &key, const Give &give, uint64_t generation, uint64_t deadline) const {
-        const bool is_mortal = clock_.has_lives() || deadline != never;
-        return is_mortal ? make_mortal(key, give, generation, deadline) : make(key, give, generation);
-    }
     // For a call of this generation.
     bool has_ended(Each &object, uint64_t generation) const noexcept { return object.generation() < generation || has_expired(object); }
-    uint64_t deadline_after(std::chrono::nanoseconds life) const noexcept { return clock_.deadline_after(life); }
+    // Of what is put now, with a time to live of its own or that of the map.
+    uint64_t deadline(const std::optional<std::chrono::nanoseconds> &life) const noexcept { return clock_.deadline(life); }
     static uint64_t deadline_of(Each &object) noexcept { return is_mortal(object) ? Dated::of(object).deadline : never; }
     // Puts whatever is there. The object gets the generation with the key's lock, so what gives way is of no newer one.
     [[gnu::always_inline]] Status put(uint64_t index, Own &object, Change &change) noexcept {
         const auto is_new = [&] { return !has(index); };
         return offered(index, object, change, is_new, [&](Slot<1> &slot) {
-            object->end_making(object->kind(), generation_.now());
+            object->end_making(object->kind(), generations.now());
             return counted(slot, slot.handle.try_swap(index, object->word()));
         });
     }
@@ -161,27 +154,28 @@ template <class K, class V> class Objects : public Entries<1> {
     // What gave way is no older value of the key: it is another key's, or had ended.
     void gave_way(Change &change) noexcept {
         change.why = Left::evicted, change.renewed = false, change.evicted = true;
-        if (!has_ended(*change.old, generation_.now())) {
-            turns_.call([](Slot<1> &slot) { slot.count(evictions, 1); });
+        if (!has_ended(*change.old, generations.now())) {
+            count(own_slot(), evictions);
         }
     }
     // Removes what was put at that moment.
     Status take(uint64_t index, uint64_t since, Change &change) noexcept {
         return removed(index, change, [&](Slot<1> &slot) { return slot.handle.try_take_if(index, since); });
     }
-    // Each shard is listed at a moment of its own, and each key that is listed is removed.
+    // Removes each key that is listed.
     Status clear() noexcept {
+        flights.outdate_all();
         return each_listed([this](uint64_t index, const auto &) {
             Change change(*this);
             return removed(index, change, [&](Slot<1> &slot) { return slot.handle.try_take(index); });
         });
     }
-    // Removes what has expired or is of an older generation, by such a list.
+    // Removes what has expired or is of an older generation.
     Status erase_expired() noexcept {
         return each_listed([this](uint64_t index, const auto &) {
-            const uint64_t since = Pinned(*this).expired(index, generation_.now());
+            const Seen seen = Pinned(*this).peek(index, generations.now());
             Change change(*this);
-            return since != 0 ? take(index, since, change) : Status::ok;
+            return seen.status == Status::absent && seen.since != 0 ? take(index, seen.since, change) : Status::ok;
         });
     }
     size_t free_now() noexcept { return free(epochs_.free_now()); }
@@ -199,7 +193,7 @@ template <class K, class V> class Objects : public Entries<1> {
     }
     // With the key's lock. The object gets the generation of now, or, if it was computed, must have that.
     bool begins(Each &object, bool is_computed) noexcept {
-        const uint64_t now = generation_.now(), own = object.generation();
+        const uint64_t now = generations.now(), own = object.generation();
         object.end_making(object.kind(), is_computed ? own : now);
         return !is_computed || own == now;
     }
@@ -207,28 +201,31 @@ template <class K, class V> class Objects : public Entries<1> {
         if (is_too_deep()) {
             return Status::too_deep;
         }
-        const Swapped<1> taken = turns_.locked(index, [&](Slot<1> &slot) {
+        const Swapped<1> taken = locked(index, [&](Slot<1> &slot) {
             const Swapped<1> tried = take(slot);
             slot.add(tried.status == Status::ok ? -1 : 0);
             return tried;
         });
         if (taken.old) {
-            change.old = out(*taken.old, change);
+            change.old = out(index, *taken.old, change);
         }
         return taken.status;
     }
-    // The index has it no more. Returns it, by its word.
-    Each *out(const std::array<uint64_t, 1> &word, Change &change) noexcept {
+    // The index has it no more. Returns it, by its word and any key of its shard.
+    Each *out(uint64_t key, const std::array<uint64_t, 1> &word, Change &change) noexcept {
         Each *const object = Each::at(word[0]);
         if (rules_.weigher) {
-            weights_.subtract(Heavy::of(*object).weight);
+            weights_.subtract(key, Heavy::of(*object).weight);
         }
         object->next = nullptr;
         *std::exchange(change.last, &object->next) = object;
         return object;
     }
     static bool is_mortal(const Each &object) noexcept { return object.kind() == Each::mortal; }
-    bool has_expired(Each &object) const noexcept { return is_mortal(object) && Dated::of(object).has_ended(clock_); }
+    bool has_expired(Each &object) const noexcept {
+        return is_mortal(object) &&
+               (clock_.has_passed(Dated::of(object).deadline) || clock_.has_passed(Dated::of(object).idle_deadline.load(std::memory_order_relaxed)));
+    }
     // A call of this generation has found it. Whether it has not ended: then its time to idle begins anew.
     [[gnu::always_inline]] bool is_used(Each &object, uint64_t generation) noexcept {
         const uint64_t head = object.head.load(std::memory_order_acquire);
@@ -236,8 +233,8 @@ template <class K, class V> class Objects : public Entries<1> {
     }
     [[gnu::noinline]] bool is_used_in_time(Dated &object) noexcept {
         const bool is_live = !has_expired(object);
-        if (is_live && clock_.has_idle()) {
-            object.begin_idle(clock_);
+        if (is_live && clock_.is_due(object.idle_deadline.load(std::memory_order_relaxed))) {
+            object.idle_deadline.store(clock_.idle_deadline(), std::memory_order_relaxed);
         }
         return is_live;
     }
@@ -267,7 +264,7 @@ template <class K, class V> class Objects : public Entries<1> {
         if (is_too_deep()) {
             return Status::too_deep;
         }
-        return rules_.weigher ? offered_weighed(index, object, change, is_new, make) : ended(object, change, turns_.locked(index, make));
+        return rules_.weigher ? offered_weighed(index, object, change, is_new, make) : ended(index, object, change, locked(index, make));
     }
     // Others leave for a new key before it is put, so that it is not itself what gives way.
     template <class IsNew, class Make>
@@ -276,45 +273,53 @@ template <class K, class V> class Objects : public Entries<1> {
         if (weight > weights_.bound()) {
             return Status::too_heavy;
         }
-        weights_.add(weight);
+        weights_.add(index, weight);
         if (weights_.is_over() && is_new()) {
-            shrink(index, change);
+            shrink(change);
         }
-        const Status status = ended(object, change, turns_.locked(index, make));
+        const Status status = ended(index, object, change, locked(index, make));
         if (status != Status::ok) {
-            weights_.subtract(weight);
+            weights_.subtract(index, weight);
         }
-        shrink(index, change);
+        shrink(change);
         return status;
     }
     // Whether the index has an object for the key.
     bool has(uint64_t index) noexcept {
         std::array<uint64_t, 1> word;
-        return turns_.get(turns_.own_slot(), index, turns_.looks(), word).status == Status::ok;
+        return get(own_slot(), index, looks(), word).status == Status::ok;
     }
-    // Evicts objects until the others are within the bound, if they are not: each from a shard that is drawn from the key's number. Its own shard would
-    // not do: then some shards would keep much less than their share. It gives up if no shard seems to have any object, or if other threads keep it from
-    // so many tries: then a later put goes on.
-    void shrink(uint64_t near, Change &change) noexcept {
-        const uint32_t most_empty = looks_of_a_shard * turns_.shards();
-        for (uint32_t empty = 0, held = 0; weights_.is_over() && empty < most_empty && held <= turns_.tries();) {
-            // The numbers of this row are in any shard.
-            near = near * 6364136223846793005 + 1442695040888963407;
-            const Swapped<1> taken = turns_.call([&](Slot<1> &slot) { return evicted(slot, near); });
-            if (taken.status == Status::ok) {
-                static_cast<void>(out(*taken.old, change));
-                change.evicted = true;
+    // Evicts objects until the others are within the bound, if they are not: each from a shard that has more than its share. It goes round. What calls
+    // are about to put counts, so there may be no object in such a shard: then it goes round all shards. It gives up if it finds none there, or if other
+    // threads keep it from so many tries: then a later put goes on.
+    void shrink(Change &change) noexcept {
+        for (uint32_t looked = 0, held = 0; weights_.is_over() && looked < 2 * shards() && held <= tries();) {
+            const uint64_t near = weights_.next();
+            if (looked < shards() && !weights_.has_more(near)) {
+                looked++;
                 continue;
             }
-            taken.status == Status::absent ? void(empty++) : wait_before(held++);
+            switch (evict(near, change)) {
+            case Status::ok: looked = 0; break;
+            case Status::absent: looked++; break;
+            default: wait_before(held++);
+            }
         }
     }
-    static Swapped<1> evicted(Slot<1> &slot, uint64_t near) noexcept {
-        const Swapped<1> tried = slot.handle.try_evict(near);
-        const bool is_done = tried.status == Status::ok;
-        slot.add(is_done ? -1 : 0);
-        slot.count(evictions, is_done ? 1 : 0);
-        return tried;
+    // Evicts an object of the shard that has this key.
+    Status evict(uint64_t near, Change &change) noexcept {
+        const Swapped<1> taken = call([&](Slot<1> &slot) {
+            const Swapped<1> tried = slot.handle.try_evict(near);
+            const bool is_done = tried.status == Status::ok;
+            slot.add(is_done ? -1 : 0);
+            slot.count(evictions, is_done ? 1 : 0);
+            return tried;
+        });
+        if (taken.old) {
+            static_cast<void>(out(near, *taken.old, change));
+            change.evicted = true;
+        }
+        return taken.status;
     }
     void end(Change &change) noexcept {
         for (Retired *next = change.first; next != nullptr;) {
@@ -326,16 +331,16 @@ template <class K, class V> class Objects : public Entries<1> {
     void retire(Each &object, Left why) noexcept {
         if (rules_.listener) {
             listeners()++;
-            rules_.listener(object.key, object.value, has_ended(object, generation_.now()) ? Left::expired : why);
+            rules_.listener(object.key, object.value, has_ended(object, generations.now()) ? Left::expired : why);
             listeners()--;
         }
-        Slot<1> *const slot = turns_.own_slot();
+        Slot<1> *const slot = own_slot();
         count_waiting(slot, object, 1);
-        static_cast<void>(free(epochs_.retire(object, turns_.place_of(slot))));
+        static_cast<void>(free(epochs_.retire(object, place_of(slot))));
     }
     // Counts one object more or less.
     void count_waiting(Slot<1> *slot, Each &object, int64_t more) noexcept {
-        turns_.count(slot, inside::waiting, static_cast<uint64_t>(more));
+        count(slot, inside::waiting, static_cast<uint64_t>(more));
         if (rules_.weigher) {
             waiting_weight_->fetch_add(static_cast<uint64_t>(more) * Heavy::of(object).weight, std::memory_order_relaxed);
         }
@@ -347,13 +352,13 @@ template <class K, class V> class Objects : public Entries<1> {
         }
     }
     // The index has the object now, unless the put failed.
-    Status ended(Own &object, Change &change, const Swapped<1> &swapped) noexcept {
+    Status ended(uint64_t index, Own &object, Change &change, const Swapped<1> &swapped) noexcept {
         if (swapped.status != Status::ok) {
             return swapped.status;
         }
         static_cast<void>(object.release());
         if (swapped.old) {
-            change.old = out(*swapped.old, change);
+            change.old = out(index, *swapped.old, change);
             change.renewed = !swapped.evicted, change.evicted = change.evicted || swapped.evicted;
             change.why = change.renewed ? Left::replaced : Left::evicted;
         }
@@ -364,7 +369,7 @@ template <class K, class V> class Objects : public Entries<1> {
         for (Retired *next = nullptr; first != nullptr; first = next, count++) {
             next = first->next;
             const Own object(static_cast<Each *>(first));
-            count_waiting(turns_.own_slot(), *object, -1);
+            count_waiting(own_slot(), *object, -1);
         }
         return count;
     }
@@ -378,14 +383,8 @@ template <class K, class V> class Objects : public Entries<1> {
     Weights weights_;
     // That of what has left and waits to be freed. All puts of a map with a weigher share a sum, so they may share this.
     std::atomic<uint64_t> uncounted_{0}, *waiting_weight_ = &uncounted_;
-
-    // So often an empty shard is looked at, on average, before all of them are taken to be empty. Numbers are drawn, so one that isn't is missed with a
-    // chance of 2^-92.
-    static constexpr uint32_t looks_of_a_shard = 64;
 };
 
-} // namespace inside
-
-} // namespace cefrodil
+} // namespace cefrodil::inside
 
 #endif

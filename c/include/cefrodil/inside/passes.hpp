@@ -17,9 +17,7 @@
 #include <utility>
 #include <vector>
 
-namespace cefrodil {
-
-namespace inside {
+namespace cefrodil::inside {
 
 // Which passes no thread has. Pass 0 is the shared one, which no thread takes. A thread that has a pass keeps this, but not the passes: they may
 // end before the thread does.
@@ -199,25 +197,27 @@ template <size_t Words> class Passes {
     // The same with this slot, which `own_slot` returned.
     template <class Call> auto call_by(Slot<Words> *slot, Call made) noexcept { return slot != nullptr ? made(*slot) : call_shared(made); }
     // Counts by such a slot.
-    void count(Slot<Words> *slot, Counted what, uint64_t number) noexcept {
+    [[gnu::always_inline]] void count(Slot<Words> *slot, Counted what, uint64_t number = 1) noexcept {
         slot != nullptr ? slot->count(what, number) : Counting::counter(slots_[0].handle).add_shared(what, number);
     }
 
     // How many keys all calls added, less those that they removed. Calls that run meanwhile count or not.
-    int64_t keys() const noexcept {
+    uint64_t keys() const noexcept {
         int64_t sum = 0;
         for (size_t i = 0; i < count_; i++) {
             sum += slots_[i].keys.load(std::memory_order_relaxed);
         }
-        return sum;
+        return static_cast<uint64_t>(std::max<int64_t>(0, sum));
     }
     size_t free_count() const noexcept { return free_->count(); }
-    // The number of this thread's slot, or 0 if it uses the shared one.
-    size_t place() noexcept { return place_of(own_slot()); }
+    // The number of such a slot, or 0 if it is the shared one.
     size_t place_of(const Slot<Words> *slot) const noexcept { return slot != nullptr ? static_cast<size_t>(slot - slots_.get()) : 0; }
     // How many calls the shared pass made.
     uint64_t shared_calls() const noexcept { return shared_calls_.load(std::memory_order_relaxed); }
     const Handle<Words> &shared() const noexcept { return slots_[0].handle; }
+    Meter meter() const noexcept { return shared().meter(); }
+    // What the meter reads. Null: nothing is counted.
+    const std::shared_ptr<Lines> &lines() const noexcept { return Counting::lines(shared()); }
 
   private:
     template <class Call> [[gnu::cold]] [[gnu::noinline]] auto call_shared(Call &made) noexcept {
@@ -253,8 +253,6 @@ template <size_t Words> class Passes {
     std::atomic<uint64_t> shared_calls_{0};
 };
 
-} // namespace inside
-
-} // namespace cefrodil
+} // namespace cefrodil::inside
 
 #endif

@@ -3,12 +3,16 @@
 #define CEFRODIL_INSIDE_TABLE_HPP
 
 #include "entries.hpp"
-#include "packing.hpp"
-#include "times.hpp"
+#include "hash.hpp"
+#include "lives.hpp"
+#include "values.hpp"
 #include <algorithm>
 #include <array>
+#include <cstddef>
+#include <cstdint>
+#include <cstring>
+#include <memory>
 #include <optional>
-#include <vector>
 
 namespace cefrodil {
 
@@ -29,6 +33,37 @@ struct Stored {
 
 namespace inside {
 
+// How an entry lies in the words of the index: the check word of its key, the moments at which it ends, if it has any, and then its value.
+template <class V, size_t Moments> struct Packing {
+    // A larger value has no map, and gets no second message from the index.
+    static constexpr size_t words = std::min<size_t>(8, 1 + Moments + words_of<V>);
+    using Words = std::array<uint64_t, words>;
+    using Ends = std::array<uint64_t, Moments>;
+
+    static Words pack(const Identity &key, const Ends &ends, const V &value) noexcept {
+        Words packed{key.check};
+        const auto own = words_from(value);
+        std::copy(own.begin(), own.end(), packed.begin() + 1 + Moments);
+        set_ends(packed, ends);
+        return packed;
+    }
+    static void set_ends(Words &packed, const Ends &ends) noexcept { std::copy(ends.begin(), ends.end(), packed.begin() + 1); }
+    static Ends ends_of(const Words &packed) noexcept {
+        Ends ends{};
+        std::copy_n(packed.begin() + 1, Moments, ends.begin());
+        return ends;
+    }
+    // Sets the value where it stays: a copy of it would cost.
+    static void set_value(const Words &packed, std::optional<V> &value) noexcept {
+        std::memcpy(static_cast<void *>(std::addressof(value.emplace())), packed.data() + 1 + Moments, sizeof(V));
+    }
+};
+
+// A key as its entries of this generation have it: with another check word in each. The multiplier is odd, so no two generations have the same words.
+inline Identity in_generation(const Identity &key, uint64_t generation) noexcept {
+    return {key.index, key.check ^ generation * 0x9e3779b97f4a7c15};
+}
+
 // The entries of a map. `Times`: when they end, Timeless or Timed.
 template <class V, class Times = Timeless>
 class Table : public Entries<Packing<V, Times::moments>::words>, private Packing<V, Times::moments>, private Times {
@@ -36,9 +71,10 @@ class Table : public Entries<Packing<V, Times::moments>::words>, private Packing
     using Own::words, Own::pack, Own::set_value, Own::ends_of, Own::set_ends;
     using typename Own::Words, typename Own::Ends;
     using All = Entries<words>;
-    using All::turns_, All::generation_, All::each_listed, All::is_lost;
+    using All::each_listed;
 
   public:
+    using All::generations;
     using Life = typename Times::Life;
 
     // What is under a key's number. ok: the key's value, and the moment of its put. absent: if `since` is not 0, another key's entry is there, or one of
@@ -56,16 +92,18 @@ class Table : public Entries<Packing<V, Times::moments>::words>, private Packing
 
     // A lookup for its value, which is set if the status is ok. If it stays busy, that is a miss. It is counted.
     Status find(const Identity &key, std::optional<V> &value) noexcept {
-        Slot<words> *const slot = turns_.own_slot();
+        Slot<words> *const slot = this->own_slot();
         if (slot == nullptr) {
-            return find_shared(key, value);
+            Found<V> found = find_shared(key);
+            value = found.value;
+            return found.status;
         }
         const Status status = seek_by(slot, key, value);
         slot->count(static_cast<Counted>(status), 1);
         return status;
     }
     // The same, but it isn't counted.
-    Status seek(const Identity &key, std::optional<V> &value) noexcept { return seek_by(turns_.own_slot(), key, value); }
+    Status seek(const Identity &key, std::optional<V> &value) noexcept { return seek_by(this->own_slot(), key, value); }
     // Looks a few keys up, by one call of the index. Each is counted. Sets the values that are there. A key that is busy is looked up again by itself.
     static constexpr size_t few = 32;
     void find_few(const Identity *keys, size_t count, std::optional<V> *values) noexcept {
@@ -73,7 +111,7 @@ class Table : public Entries<Packing<V, Times::moments>::words>, private Packing
         std::array<Words, few> found;
         std::array<cefrodil_answer, few> answers;
         std::transform(keys, keys + count, indices.begin(), [](const Identity &key) { return key.index; });
-        const uint64_t generation = generation_.now();
+        const uint64_t generation = generations.now();
         get_many(indices.data(), count, found.data(), answers.data());
         uint64_t hits = 0, misses = 0;
         for (size_t i = 0; i < count; i++) {
@@ -87,14 +125,14 @@ class Table : public Entries<Packing<V, Times::moments>::words>, private Packing
                 misses++;
             }
         }
-        Slot<words> *const slot = turns_.own_slot();
-        turns_.count(slot, Status::ok, hits);
-        turns_.count(slot, Status::absent, misses);
+        Slot<words> *const slot = this->own_slot();
+        this->count(slot, inside::hits, hits);
+        this->count(slot, inside::misses, misses);
     }
     // A lookup that is no use of the key. It is repeated as often as a put.
     Found<V> peek(const Identity &key) noexcept {
         const Identity known = now(key);
-        const Answer<words> answer = turns_.repeated([&](Slot<words> &slot) { return slot.handle.try_peek(key.index); });
+        const Answer<words> answer = this->repeated([&](Slot<words> &slot) { return slot.handle.try_peek(key.index); });
         Found<V> found{answer.status, std::nullopt};
         if (answer.value && is_there(known, *answer.value)) {
             set_value(*answer.value, found.value);
@@ -107,7 +145,7 @@ class Table : public Entries<Packing<V, Times::moments>::words>, private Packing
     [[gnu::noinline]] Entry look(const Identity &known) noexcept {
         Entry entry{};
         Words packed;
-        const Seen seen = looked(turns_.own_slot(), known, turns_.tries(), packed, entry.value);
+        const Seen seen = looked(this->own_slot(), known, this->tries(), packed, entry.value);
         entry.status = seen.status, entry.since = seen.since;
         if (seen.status == Status::ok) {
             entry.ends = ends_of(packed);
@@ -120,13 +158,13 @@ class Table : public Entries<Packing<V, Times::moments>::words>, private Packing
     // Puts whatever is there. The generation is read with the key's lock, so what gives way is of no newer one.
     Stored put(const Identity &key, const V &value, const Life &life = {}) noexcept {
         const Ends ends = Times::ends(life);
-        return stored(turns_.write(key.index, [&](Handle<words> &handle) { return handle.try_put(key.index, pack_in(generation_.now(), key, ends, value)); }));
+        return stored(this->write(key.index, [&](Handle<words> &handle) { return handle.try_put(key.index, pack_in(generations.now(), key, ends, value)); }));
     }
     // Puts if the key is absent. An entry of an older generation gives way, and so does another key's entry under the same number.
     Stored put_if_absent(const Identity &key, const V &value, const Life &life = {}) noexcept {
         const Ends ends = Times::ends(life);
         for (;;) {
-            const Stored put = put_new(key, value, ends, [this] { return generation_.now(); });
+            const Stored put = put_new(key, value, ends, [this] { return generations.now(); });
             if (put.status != Status::stale) {
                 return put;
             }
@@ -151,9 +189,8 @@ class Table : public Entries<Packing<V, Times::moments>::words>, private Packing
             if (tried.status == Status::ok) {
                 return tried;
             }
-            const bool is_late = is_lost(tried.status) || tried.status == Status::present;
-            if (!is_late || repeat >= turns_.tries()) {
-                return {is_late ? Status::changed : tried.status, std::nullopt};
+            if (!is_lost(tried.status) || repeat >= this->tries()) {
+                return {is_lost(tried.status) ? Status::changed : tried.status, std::nullopt};
             }
         }
     }
@@ -166,47 +203,50 @@ class Table : public Entries<Packing<V, Times::moments>::words>, private Packing
                 return entry.status;
             }
             const Status status = take_if(key.index, entry.since);
-            if (status != Status::changed || repeat >= turns_.tries()) {
+            if (status != Status::changed || repeat >= this->tries()) {
                 return status == Status::ok ? entry.status : status;
             }
         }
     }
 
-    // Each shard is listed at a moment of its own, and each key that is listed is removed.
+    // Removes each key that is listed.
     Status clear() noexcept {
+        this->flights.outdate_all();
         return each_listed([this](uint64_t index, const Words &) {
-            return turns_.removal(index, [&](Handle<words> &handle) { return handle.try_remove(index).status; });
+            return this->removal(index, [&](Handle<words> &handle) { return handle.try_remove(index).status; });
         });
     }
-    // Removes what has expired or is of an older generation. It is listed as by `clear`. What stays doesn't count as used.
+    // Removes what has expired or is of an older generation. What stays doesn't count as used.
     Status erase_expired() noexcept {
+        static_assert(Times::moments != 0, "a timed_map has this call");
         return each_listed([this](uint64_t index, const Words &listed) { return has_ended(listed) ? take_ended(index) : Status::ok; });
     }
 
   private:
     // The key as its entries of the present generation have it.
-    Identity now(const Identity &key) const noexcept { return in_generation(key, generation_.now()); }
+    Identity now(const Identity &key) const noexcept { return in_generation(key, generations.now()); }
     bool is_there(const Identity &known, const Words &packed) const noexcept {
         return packed[0] == known.check && !Times::have_passed(ends_of(packed));
     }
     // Not compiled into the callers, which are quicker then with a slot.
-    [[gnu::cold]] [[gnu::noinline]] Status find_shared(const Identity &key, std::optional<V> &value) noexcept {
-        const Status status = seek_by(nullptr, key, value);
-        turns_.count(nullptr, status);
-        return status;
+    [[gnu::cold]] [[gnu::noinline]] Found<V> find_shared(Identity key) noexcept {
+        Found<V> found{};
+        found.status = seek_by(nullptr, key, found.value);
+        this->count(nullptr, static_cast<Counted>(found.status));
+        return found;
     }
     [[gnu::always_inline]] Status seek_by(Slot<words> *slot, const Identity &key, std::optional<V> &value) noexcept {
         const Identity known = now(key);
         Words packed;
-        const Seen seen = looked(slot, known, turns_.looks(), packed, value);
+        const Seen seen = looked(slot, known, this->looks(), packed, value);
         if (seen.status == Status::ok && Times::is_due(ends_of(packed))) {
             use(known, seen.since, packed);
         }
         return seen.status;
     }
     // Compiled into `find`.
-    [[gnu::always_inline]] Seen looked(Slot<words> *slot, const Identity &known, uint32_t most, Words &packed, std::optional<V> &value) noexcept {
-        const Seen seen = turns_.get(slot, known.index, most, packed);
+    [[gnu::always_inline]] Seen looked(Slot<words> *slot, const Identity &known, const uint32_t &most, Words &packed, std::optional<V> &value) noexcept {
+        const Seen seen = this->get(slot, known.index, most, packed);
         if (seen.status != Status::ok || !is_there(known, packed)) {
             return {seen.status == Status::ok ? Status::absent : seen.status, seen.since};
         }
@@ -214,7 +254,7 @@ class Table : public Entries<Packing<V, Times::moments>::words>, private Packing
         return seen;
     }
     void get_many(const uint64_t *indices, size_t count, Words *found, cefrodil_answer *answers) noexcept {
-        turns_.call([&](Slot<words> &slot) {
+        this->call([&](Slot<words> &slot) {
             // It is ok: an open handle has an answer for each key.
             [[maybe_unused]] const cefrodil_status status =
                 cefrodil_get_many_or_none(slot.handle.raw(), indices, count, found->data(), words * count, answers, count);
@@ -222,12 +262,12 @@ class Table : public Entries<Packing<V, Times::moments>::words>, private Packing
     }
     // Begins the time to idle of an entry anew. If the entry was changed, looks it up again.
     [[gnu::cold]] [[gnu::noinline]] void use(const Identity &known, uint64_t since, Words packed) noexcept {
-        for (uint32_t repeat = 0; repeat < turns_.looks() && Times::is_due(ends_of(packed)); repeat++) {
+        for (uint32_t repeat = 0; repeat < this->looks() && Times::is_due(ends_of(packed)); repeat++) {
             set_ends(packed, Times::renewed(ends_of(packed), {}));
             if (!is_lost(put_over(known, since, packed))) {
                 return;
             }
-            const Seen seen = turns_.get(turns_.own_slot(), known.index, turns_.looks(), packed);
+            const Seen seen = this->get(this->own_slot(), known.index, this->looks(), packed);
             since = seen.since;
             if (seen.status != Status::ok || !is_there(known, packed)) {
                 return;
@@ -236,11 +276,11 @@ class Table : public Entries<Packing<V, Times::moments>::words>, private Packing
     }
     // Whether the entry has expired or is of an older generation. That is read after the entry, so it is not older than that.
     bool has_ended(const Words &packed) const noexcept {
-        return Times::have_passed(ends_of(packed)) || !Times::are_of(ends_of(packed), generation_.now());
+        return Times::have_passed(ends_of(packed)) || !Times::are_of(ends_of(packed), generations.now());
     }
     Status take_ended(uint64_t index) noexcept {
         Words packed;
-        const Seen seen = turns_.get(turns_.own_slot(), index, turns_.tries(), packed);
+        const Seen seen = this->get(this->own_slot(), index, this->tries(), packed);
         return seen.status == Status::ok && has_ended(packed) ? take_if(index, seen.since) : Status::ok;
     }
     Words pack_in(uint64_t generation, const Identity &key, const Ends &ends, const V &value) const noexcept {
@@ -250,11 +290,11 @@ class Table : public Entries<Packing<V, Times::moments>::words>, private Packing
     template <class Begun> Stored put_new(const Identity &key, const V &value, const Ends &ends, const Begun &begun) noexcept {
         const auto make = [&](Handle<words> &handle) {
             const uint64_t generation = begun();
-            const bool goes_on = generation == generation_.now();
+            const bool goes_on = generation == generations.now();
             return goes_on ? handle.try_put_if_absent(key.index, pack_in(generation, key, ends, value)) : refusal<Written>(Status::stale);
         };
         for (uint32_t repeat = 0;; repeat++) {
-            const Stored put = stored(turns_.write(key.index, make));
+            const Stored put = stored(this->write(key.index, make));
             if (put.status != Status::present) {
                 return put;
             }
@@ -267,21 +307,21 @@ class Table : public Entries<Packing<V, Times::moments>::words>, private Packing
             if (entry.status != Status::absent) {
                 return {entry.status == Status::ok ? Status::present : entry.status, false, false};
             }
-            if (generation_.now() != generation) {
+            if (generations.now() != generation) {
                 return {Status::stale, false, false};
             }
             const Status status = entry.since != 0 ? put_over(known, entry.since, pack_in(generation, key, ends, value)) : Status::changed;
-            if (!is_lost(status) || repeat >= turns_.tries()) {
+            if (!is_lost(status) || repeat >= this->tries()) {
                 return {is_lost(status) ? Status::changed : status, false, status == Status::ok};
             }
         }
     }
     static Stored stored(const Written &written) noexcept { return {written.status, written.renewed, written.evicted.has_value()}; }
     Status put_over(const Identity &key, uint64_t since, const Words &packed) noexcept {
-        return turns_.write(key.index, [&](Handle<words> &handle) { return handle.try_put_if(key.index, since, packed); }).status;
+        return this->write(key.index, [&](Handle<words> &handle) { return handle.try_put_if(key.index, since, packed); }).status;
     }
     Status take_if(uint64_t index, uint64_t since) noexcept {
-        return turns_.removal(index, [&](Handle<words> &handle) { return handle.try_take_if(index, since).status; });
+        return this->removal(index, [&](Handle<words> &handle) { return handle.try_take_if(index, since).status; });
     }
     // Puts what the function makes of an entry's value, if the entry is still the same.
     template <class Function> Found<V> renew(const Identity &known, const Entry &entry, const Function &function, const Life &life) {

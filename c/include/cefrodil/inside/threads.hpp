@@ -7,9 +7,7 @@
 #include <condition_variable>
 #include <mutex>
 
-namespace cefrodil {
-
-namespace inside {
+namespace cefrodil::inside {
 
 struct Threads {
     template <class T> using Atomic = std::atomic<T>;
@@ -28,8 +26,6 @@ struct Threads {
 #endif
 };
 
-} // namespace inside
-
-} // namespace cefrodil
+} // namespace cefrodil::inside
 
 #endif

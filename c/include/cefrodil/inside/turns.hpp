@@ -2,18 +2,16 @@
 #ifndef CEFRODIL_INSIDE_TURNS_HPP
 #define CEFRODIL_INSIDE_TURNS_HPP
 
-#include "key_locks.hpp"
 #include "passes.hpp"
 #include <algorithm>
 #include <array>
+#include <atomic>
 #include <chrono>
-#include <memory>
+#include <mutex>
 #include <thread>
 #include <type_traits>
 
-namespace cefrodil {
-
-namespace inside {
+namespace cefrodil::inside {
 
 // map/SETTINGS has these numbers, and those of Rust's maps.
 // So many repetitions spin at first, and from a later one on a call sleeps before it is repeated.
@@ -64,11 +62,22 @@ inline uint32_t shards_for(uint32_t entries) noexcept {
     return shards;
 }
 
+// The lock of some keys of a map. It is tried, and never waited for. No code of the user runs under one.
+struct alignas(64) KeyLock {
+    bool try_lock() noexcept { return !is_taken.exchange(true, std::memory_order_acquire); }
+    void unlock() noexcept { is_taken.store(false, std::memory_order_release); }
+    std::atomic<bool> is_taken{false};
+};
+
 // Calls by the passes of an index. A call that other threads keep from its turn is repeated.
-template <size_t Words> class Turns {
+template <size_t Words> class Turns : public Passes<Words> {
+    using Base = Passes<Words>;
+
   public:
+    using Base::lines;
+
     // 0 shards: as many as these entries ask for.
-    [[nodiscard]] Status open(uint32_t entries, uint32_t asked_shards, uint32_t passes, uint32_t tries, uint32_t mix) noexcept {
+    [[nodiscard]] Status open(uint32_t entries, uint32_t asked_shards, uint32_t passes, uint32_t tries) noexcept {
         if (!same_version()) {
             return Status::other_version;
         }
@@ -78,50 +87,41 @@ template <size_t Words> class Turns {
         if (status != Status::ok) {
             return status;
         }
-        shape.mix = mix;
+        shape.mix = CEFRODIL_MIX_NONE;
         shape.stripes = std::min(shape.stripes, std::max(stripes_of_a_shard, all_stripes / shards));
         tries_ = tries;
         looks_ = std::min(tries, most_looks);
         shards_ = shards;
         capacity_ = uint64_t(shape.items) * shards;
-        return passes_.open(shape, shards, passes);
+        return Base::open(shape, shards, passes);
     }
 
     // Looks a key up by a slot that `own_slot` returned: ok, absent, or busy if it was that once and then so often. A value that is found is written. By
-    // `get_or_turn`, whose export is shorter. It isn't counted.
-    Seen get(Slot<Words> *own, uint64_t key, uint32_t most, std::array<uint64_t, Words> &value) noexcept {
+    // `get_or_turn`, whose export is shorter. It isn't counted. How often is only read when it was busy.
+    Seen get(Slot<Words> *own, uint64_t key, const uint32_t &most, std::array<uint64_t, Words> &value) noexcept {
         cefrodil_reply reply;
-        const Status status = passes_.call_by(own, [&](Slot<Words> &slot) { return slot.look(key, value, reply); });
+        const Status status = this->call_by(own, [&](Slot<Words> &slot) { return slot.look(key, value, reply); });
         return status == Status::busy ? get_again(key, most, value) : Seen{status, reply.since};
     }
 
-    // This thread's slot. Null: it uses the shared one.
-    Slot<Words> *own_slot() noexcept { return passes_.own_slot(); }
-    // Counts lookups of the map, by such a slot.
-    [[gnu::always_inline]] void count(Slot<Words> *own, Status status, uint64_t number = 1) noexcept {
-        count(own, static_cast<Counted>(status), number);
-    }
-    [[gnu::always_inline]] void count(Slot<Words> *own, Counted what, uint64_t number) noexcept { passes_.count(own, what, number); }
-    // Makes a call by this thread's slot, or by the shared one.
-    template <class Call> auto call(Call made) noexcept { return passes_.call(made); }
-    // The same, until it is neither busy nor held.
-    template <class Call> auto repeated(Call call) noexcept {
-        auto answer = passes_.call(call);
+    // Makes a call by this thread's slot, or by the shared one, until it is neither busy nor held.
+    template <class Call> auto repeated(Call made) noexcept {
+        auto answer = this->call(made);
         for (uint32_t repeat = 0; is_disturbed(status_of(answer)); repeat++) {
             if (repeat >= tries_) {
                 give_up(tries_);
                 break;
             }
             wait_before(repeat);
-            answer = passes_.call(call);
+            answer = this->call(made);
         }
         return answer;
     }
     // The same with the key's lock.
-    template <class Call> auto locked(uint64_t key, Call call) noexcept {
+    template <class Call> auto locked(uint64_t key, Call made) noexcept {
         return repeated([&](Slot<Words> &slot) {
-            const KeyLock::Guard guard = locks_.of(key).lock();
-            return guard ? call(slot) : refusal<decltype(call(slot))>(Status::held);
+            const std::unique_lock<KeyLock> guard(locks_[key % locks_.size()], std::try_to_lock);
+            return guard ? made(slot) : refusal<decltype(made(slot))>(Status::held);
         });
     }
     // Makes a put with the key's lock, and counts a new key.
@@ -141,18 +141,11 @@ template <size_t Words> class Turns {
         });
     }
 
-    size_t place() noexcept { return passes_.place(); }
-    size_t place_of(const Slot<Words> *slot) const noexcept { return passes_.place_of(slot); }
-    uint32_t tries() const noexcept { return tries_; }
+    const uint32_t &tries() const noexcept { return tries_; }
     // How often a lookup is repeated that is a miss if it stays busy.
-    uint32_t looks() const noexcept { return looks_; }
-    uint64_t keys() const noexcept { return static_cast<uint64_t>(std::max<int64_t>(0, passes_.keys())); }
+    const uint32_t &looks() const noexcept { return looks_; }
     uint32_t shards() const noexcept { return shards_; }
     uint64_t capacity() const noexcept { return capacity_; }
-    Meter meter() const noexcept { return passes_.shared().meter(); }
-    // What the meter reads. Null: nothing is counted.
-    const std::shared_ptr<Lines> &lines() const noexcept { return Counting::lines(passes_.shared()); }
-    uint64_t shared_calls() const noexcept { return passes_.shared_calls(); }
 
   private:
     // Counts a call that ends without an answer, if it slept.
@@ -166,7 +159,7 @@ template <size_t Words> class Turns {
         Status status = Status::busy;
         for (uint32_t repeat = 0; repeat < most && status == Status::busy; repeat++) {
             wait_before(repeat);
-            status = passes_.call([&](Slot<Words> &slot) { return slot.look(key, value, reply); });
+            status = this->call([&](Slot<Words> &slot) { return slot.look(key, value, reply); });
         }
         if (status == Status::busy) {
             give_up(most);
@@ -178,14 +171,12 @@ template <size_t Words> class Turns {
     // would leave less room for entries in the processor's caches.
     static constexpr uint32_t all_stripes = 4096, stripes_of_a_shard = 64;
 
-    Passes<Words> passes_{};
-    KeyLocks locks_{};
+    // There are so many that two threads seldom meet at one.
+    std::array<KeyLock, 64> locks_{};
     uint32_t tries_ = 0, looks_ = 0, shards_ = 0;
     uint64_t capacity_ = 0;
 };
 
-} // namespace inside
-
-} // namespace cefrodil
+} // namespace cefrodil::inside
 
 #endif
