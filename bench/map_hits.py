@@ -1,9 +1,10 @@
 #!/usr/bin/env python3
 """How many lookups find their key in maps and in the server, beside models of policies.
 
-`Map` and `ObjectMap` of the crate `cefrodil-map`, `map` and `object_map` of C++ and the server make the same lookups, in one shard. An `ObjectMap` and
-an `object_map` are bounded by the number of their entries, or by weights. The server gets its commands without a connection. The lookups are those of
-bench/traces.py, and the models of bench/policies.py. A key that is absent is put. It prints a table.
+`Map` and `ObjectMap` of the crate `cefrodil-map`, `map` and `object_map` of C++ and the server make the same lookups, in one shard. An `ObjectMap`
+and an `object_map` are bounded by the number of their entries, or by weights: an `ObjectMap` also in 16 shards, as many as the server's index has.
+The server gets its commands without a connection. The lookups are those of bench/traces.py, and the models of bench/policies.py. A key that is
+absent is put. It prints a table.
 
 usage: bench/map_hits.py [LOOKUPS]     LOOKUPS: 600,000 unless it says otherwise
 
@@ -21,7 +22,7 @@ from traces import cases, of_model, of_program
 
 # What each program calls its caches, and the table's heads.
 CACHES = {
-    'Rust': {'map': '`Map`', 'number': '`ObjectMap`', 'objects': 'by weights', 'server': 'server'},
+    'Rust': {'map': '`Map`', 'number': '`ObjectMap`', 'objects': 'by weights', 'shards': '16 shards', 'server': 'server'},
     'C++': {'map': '`cefrodil::map`', 'objects': '`object_map`', 'weights': 'by weights'},
 }
 

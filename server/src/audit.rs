@@ -11,10 +11,8 @@ use std::io::{self, BufWriter, Write};
 use std::sync::{Mutex, PoisonError};
 
 /// The log, which all workers write.
-#[derive(Debug)]
 pub struct Audit(Mutex<State>);
 
-#[derive(Debug)]
 struct State {
     out: BufWriter<File>,
     /// The first error. After it nothing is written.

@@ -11,19 +11,11 @@ use cefrodil_map::Reason;
 const PART_OF_BUFFERS: usize = 2;
 
 /// The budget, the counts, and what decides which items are live.
-#[derive(Debug)]
 pub struct Books {
     pub budget: Budget,
     pub counts: Counts,
     pub clock: Clock,
     pub flushes: Flushes,
-}
-
-/// What is counted of an item that goes though no client removes it.
-#[derive(Clone, Copy, Debug)]
-pub struct Leaving {
-    pub is_live: bool,
-    pub was_fetched: bool,
 }
 
 impl Books {
@@ -38,35 +30,22 @@ impl Books {
         item.is_live(self.clock.now(), &self.flushes)
     }
 
-    /// An item has left the index.
+    /// An item has left the index. One that no client removed is counted.
     pub fn left(&self, item: &Item, reason: Reason) {
         self.budget.leave(cost_of(item));
-        if reason == Reason::Evicted {
-            self.count_gone(self.leaving(item));
+        match reason {
+            Reason::Evicted => self.counts.add_if(self.is_live(item), Count::Evicted, Count::Reclaimed),
+            Reason::Expired => self.counts.add(Count::Expired),
+            _ => return,
+        }
+        if !item.was_fetched() {
+            self.counts.add_if(self.is_live(item), Count::EvictedUnfetched, Count::ExpiredUnfetched);
         }
     }
 
     /// An item that had left is freed.
     pub fn freed(&self, item: &Item) {
         self.budget.free(cost_of(item));
-    }
-
-    /// What is counted of an item if it goes now.
-    pub fn leaving(&self, item: &Item) -> Leaving {
-        Leaving { is_live: self.is_live(item), was_fetched: item.was_fetched() }
-    }
-
-    /// Counts an item that gave way.
-    pub fn count_gone(&self, leaving: Leaving) {
-        self.counts.add_if(leaving.is_live, Count::Evicted, Count::Reclaimed);
-        self.count_unfetched(leaving);
-    }
-
-    /// Counts an item that went, if it was never read.
-    pub fn count_unfetched(&self, leaving: Leaving) {
-        if !leaving.was_fetched {
-            self.counts.add_if(leaving.is_live, Count::EvictedUnfetched, Count::ExpiredUnfetched);
-        }
     }
 }
 

@@ -22,7 +22,7 @@ const PART_OF_LOOK: u64 = 256;
 /// The bytes of items and of clients' buffers.
 // All accesses are relaxed. Each change is one atomic step, so none is lost, and an item's bytes are added before it is put and so before they
 // are subtracted. No other memory is read by what the words say.
-#[derive(Debug, Default)]
+#[derive(Default)]
 pub struct Budget {
     /// The most bytes of items.
     limit: AtomicU64,
@@ -35,7 +35,7 @@ pub struct Budget {
     /// Those of items that are about to be put, and of which that look must know.
     expected: AtomicU64,
     /// The most bytes of clients' buffers, and those that they take.
-    most_buffers: u64,
+    pub most_buffers: u64,
     buffers: AtomicU64,
     rss: OnceLock<RssLimit>,
     /// One thread at a time looks at the memory of the process.
@@ -43,10 +43,9 @@ pub struct Budget {
 }
 
 /// The bytes of an item that is about to be put. If it isn't, they are given back when this is dropped.
-#[derive(Debug)]
 pub struct Claim<'a> {
     budget: &'a Budget,
-    bytes: u64,
+    pub bytes: u64,
     expected: u64,
     is_kept: bool,
 }
@@ -65,7 +64,7 @@ impl Budget {
     /// Bounds the memory of the process from now on, but for clients' buffers. All that it does not take yet is for items. Returns how much that is.
     pub fn bound_process(&self, bytes: u64) -> io::Result<u64> {
         let limit = RssLimit::new(bytes)?;
-        let most = limit.most();
+        let most = limit.most;
         self.set_limit(most);
         self.rss.get_or_init(|| limit);
         Ok(most)
@@ -128,11 +127,6 @@ impl Budget {
         self.limit() / PART_OF_RESERVE
     }
 
-    /// The most bytes of clients' buffers.
-    pub fn most_buffers(&self) -> u64 {
-        self.most_buffers
-    }
-
     /// What clients' buffers take, and the items that are kept for clients alone.
     pub fn buffers(&self) -> u64 {
         self.buffers.load(Relaxed) + left()
@@ -146,7 +140,7 @@ impl Budget {
     /// Whether enough was put since the last look at the memory of the process for another one.
     pub fn is_time_to_look(&self) -> bool {
         // A guess: if two threads look, the second one has no more to do.
-        self.rss.get().is_some_and(|rss| self.taken.load(Relaxed) >= rss.bytes() / PART_OF_LOOK)
+        self.rss.get().is_some_and(|rss| self.taken.load(Relaxed) >= rss.bytes / PART_OF_LOOK)
     }
 
     /// Looks at the memory of the process before or after an item of so many bytes is put, and changes the limit of items if it must. Returns whether the
@@ -164,7 +158,7 @@ impl Budget {
             }
         };
         self.set_limit(rss.next_limit(taken, self.used(), bytes));
-        taken > rss.bytes()
+        taken > rss.bytes
     }
 
     /// What the process takes of its limit. If that is too much, the allocator returns first what it can.
@@ -173,7 +167,7 @@ impl Budget {
         let apart = self.buffers() + self.waiting().min(self.reserve());
         let taken = || Ok((rss.resident()? + self.expected.load(Relaxed)).saturating_sub(apart));
         match taken()? {
-            much if much > rss.bytes() => {
+            much if much > rss.bytes => {
                 allocator::trim();
                 taken()
             }
@@ -187,11 +181,6 @@ impl Claim<'_> {
     pub fn expect(&mut self) {
         self.budget.expected.fetch_add(self.bytes - self.expected, Relaxed);
         self.expected = self.bytes;
-    }
-
-    /// The bytes.
-    pub fn bytes(&self) -> u64 {
-        self.bytes
     }
 
     /// The item was put.

@@ -13,7 +13,6 @@ const RELATIVE: u64 = 60 * 60 * 24 * 30;
 const MINUS_ONE: u64 = u32::MAX as u64;
 
 /// A monotonic clock. Time 0 has passed before the server started.
-#[derive(Debug)]
 pub struct Clock {
     started: Instant,
 }
@@ -82,12 +81,6 @@ impl Clock {
             return 0;
         }
         unix_time() + deadline.saturating_sub(self.now()).div_ceil(SECOND)
-    }
-}
-
-impl Default for Clock {
-    fn default() -> Clock {
-        Clock::new()
     }
 }
 

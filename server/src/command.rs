@@ -88,11 +88,7 @@ pub fn run(store: &Store, request: &Request, data: &[u8], is_quiet: bool, out: &
 }
 
 fn store_item(store: &Store, order: &Order, data: &[u8]) -> Text {
-    let stored = store.store(order, data);
-    if order.compare.is_some() {
-        count_comparison(store, stored);
-    }
-    match stored {
+    match store.store(order, data) {
         Ok(Answer::Done(_)) => "STORED",
         Ok(Answer::NotStored) => "NOT_STORED",
         Ok(Answer::Exists) => "EXISTS",
@@ -101,32 +97,11 @@ fn store_item(store: &Store, order: &Order, data: &[u8]) -> Text {
     }
 }
 
-/// Counts a `cas`.
-pub fn count_comparison(store: &Store, stored: Result<Answer, Fault>) {
-    match stored {
-        Ok(Answer::Done(_)) => store.books.counts.add(Count::CasHits),
-        Ok(Answer::Exists) => store.books.counts.add(Count::CasBadValue),
-        Ok(_) => store.books.counts.add(Count::CasMisses),
-        Err(_) => {}
-    }
-}
-
 fn delete(store: &Store, key: &[u8]) -> Text {
-    let deleted = store.delete(key, None);
-    count_deletion(store, deleted);
-    match deleted {
+    match store.delete(key, None) {
         Ok(Answer::Done(_)) => "DELETED",
         Ok(_) => NOT_FOUND,
         Err(why) => why.text(),
-    }
-}
-
-/// Counts a `delete`.
-pub fn count_deletion(store: &Store, deleted: Result<Answer, Fault>) {
-    match deleted {
-        Ok(Answer::Done(_)) => store.books.counts.add(Count::DeleteHits),
-        Ok(Answer::NotFound) => store.books.counts.add(Count::DeleteMisses),
-        Ok(_) | Err(_) => {}
     }
 }
 

@@ -34,7 +34,6 @@ pub enum Next {
 }
 
 /// A client's connection. The seat is dropped before the stream is closed, since it shows that to others.
-#[derive(Debug)]
 pub struct Connection {
     seat: Seat,
     stream: Stream,
@@ -53,8 +52,7 @@ pub struct Connection {
 impl Connection {
     /// A client that has just connected.
     pub fn new(stream: Stream, seat: Seat) -> Connection {
-        let file = stream.as_raw_fd();
-        seat.show(file);
+        let file = stream.0.as_raw_fd();
         let (dialogue, input, output) = (Dialogue::of(file), Input::default(), Output::default());
         let (is_ending, is_dry, is_half_closed) = (false, false, false);
         Connection { seat, stream, dialogue, input, needs: 1, output, is_ending, is_dry, is_half_closed }
@@ -62,7 +60,7 @@ impl Connection {
 
     /// Its open file.
     pub fn file(&self) -> RawFd {
-        self.stream.as_raw_fd()
+        self.stream.0.as_raw_fd()
     }
 
     /// Who serves it from now on.
@@ -175,7 +173,7 @@ impl Connection {
 
     /// Keeps what waits, or refuses the value that it is part of. `None`: there is no memory for it.
     fn keep(&mut self, store: &Store, next: Next) -> io::Result<Option<Next>> {
-        if self.input.keep() || store.has_with_more_memory(self.input.len(), || self.input.keep()) {
+        if self.input.keep() || store.with_more_memory(self.input.len(), || self.input.keep().then_some(())).is_some() {
             return Ok(Some(next));
         }
         self.refuse_block();
@@ -222,13 +220,14 @@ impl Connection {
             return Ok(false);
         }
         let needs = self.needs;
-        let has_room = self.input.make_room(needs) || store.has_with_more_memory(needs, || self.input.make_room(needs));
+        let has_room =
+            self.input.make_room(needs) || store.with_more_memory(needs, || self.input.make_room(needs).then_some(())).is_some();
         if !has_room {
             self.refuse_block();
             return Ok(true);
         }
         let room = self.input.room();
-        match retry(|| self.stream.read(room))? {
+        match retry(|| self.stream.0.read(room))? {
             Some(0) => self.is_ending = true,
             Some(count) => {
                 self.is_dry = count < room.len();
@@ -246,7 +245,7 @@ impl Connection {
     /// Sends what can be sent.
     fn send(&mut self, store: &Store) -> io::Result<()> {
         while !self.output.is_empty() {
-            match retry(|| self.output.send(&mut self.stream))? {
+            match retry(|| self.output.send(&mut self.stream.0))? {
                 Some(0) => return Err(ErrorKind::WriteZero.into()),
                 Some(count) => store.books.counts.add_many(Count::BytesWritten, count as u64),
                 None => break,

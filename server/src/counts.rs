@@ -64,13 +64,11 @@ pub fn take_place(index: usize) {
     PLACE.set(Some(index));
 }
 
-#[derive(Debug)]
 #[repr(align(128))]
 struct Place([AtomicU64; KINDS]);
 
 /// The counts of all threads.
 // They are relaxed: no other memory is read by what they say. `stats` may miss the latest ones.
-#[derive(Debug)]
 pub struct Counts {
     own: Box<[Place]>,
     /// What threads without a place of their own add to.

@@ -13,7 +13,6 @@ use std::{env, process};
 const STREAMS: i32 = 3;
 
 /// The process that started the server, and waits until that is ready.
-#[derive(Debug)]
 pub struct Starter(UnixStream);
 
 /// Goes on in a new process without a terminal. The first process ends with status 0 when the new one is ready. If the new one ends before that, it

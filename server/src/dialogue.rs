@@ -36,7 +36,7 @@ pub enum Turn {
 }
 
 /// Where in the protocol a client is.
-#[derive(Debug, Default)]
+#[derive(Default)]
 pub struct Dialogue {
     state: State,
     /// The block of the next command is refused if it has not come.
@@ -45,7 +45,7 @@ pub struct Dialogue {
     file: RawFd,
 }
 
-#[derive(Debug, Default)]
+#[derive(Default)]
 enum State {
     /// Nothing has come yet.
     #[default]

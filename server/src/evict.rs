@@ -4,6 +4,7 @@ use crate::budget::Claim;
 use crate::rss_limit::{PART_OF_CUT, TIMES_OF_CUT};
 use crate::slabs::{address_of, look_around};
 use crate::store::{Fault, Store};
+use cefrodil_map::Reason;
 use std::sync::atomic::Ordering::Relaxed;
 use std::thread::{sleep, yield_now};
 use std::time::Duration;
@@ -18,13 +19,6 @@ const WAIT: Duration = Duration::from_micros(200);
 
 /// How often a command looks at the memory and evicts, at most, if the process exceeds its limit.
 const LOOKS_OF_A_PUT: u32 = 4;
-
-/// Whether an item gives way alone, or with its neighbours in memory: then the system gets that memory back.
-#[derive(Clone, Copy, PartialEq, Eq)]
-enum Way {
-    Alone,
-    WithNeighbours,
-}
 
 impl Store {
     /// Counts the bytes of an item that is about to be put, and makes room for it.
@@ -61,7 +55,7 @@ impl Store {
         if self.books.budget.is_time_to_look() {
             self.look_at_memory(bytes);
         }
-        self.evict_enough(Way::Alone)
+        self.evict_enough(|| self.index.evict(&mut |_| ()))
     }
 
     /// Looks at the memory of the process. If that exceeds its limit, items give way with their neighbours.
@@ -70,7 +64,7 @@ impl Store {
             if !self.books.budget.look(bytes) {
                 break;
             }
-            self.evict_enough(Way::WithNeighbours);
+            self.evict_enough(|| self.evict_with_neighbours());
             self.index.sweep();
         }
     }
@@ -84,7 +78,7 @@ impl Store {
         let (budget, limit) = (&self.books.budget, self.books.budget.limit());
         let cut = (TIMES_OF_CUT * bytes as u64).min(limit / PART_OF_CUT);
         budget.set_limit(budget.used().saturating_sub(cut));
-        self.evict_enough(Way::Alone);
+        self.evict_enough(|| self.index.evict(&mut |_| ()));
         budget.set_limit(limit);
         self.index.sweep();
         allocator::trim();
@@ -95,16 +89,11 @@ impl Store {
         result
     }
 
-    /// The same with a call that says whether there was memory.
-    pub(crate) fn has_with_more_memory(&self, bytes: usize, again: impl FnOnce() -> bool) -> bool {
-        self.with_more_memory(bytes, || again().then_some(())).is_some()
-    }
-
-    /// Evicts items until the others are within the limit. Returns whether they are.
-    fn evict_enough(&self, way: Way) -> bool {
+    /// Evicts items by this call, which returns whether it has, until the others are within the limit. Returns whether they are.
+    fn evict_enough(&self, evict: impl Fn() -> bool) -> bool {
         let mut failed = 0;
         while self.books.budget.is_over() {
-            if self.evict(way) {
+            if evict() {
                 continue;
             }
             failed += 1;
@@ -131,14 +120,11 @@ impl Store {
         false
     }
 
-    /// Evicts one item, or also its neighbours. Returns whether it has.
-    fn evict(&self, way: Way) -> bool {
+    /// Evicts an item and its neighbours in memory: then the system gets that memory back. Returns whether it has.
+    fn evict_with_neighbours(&self) -> bool {
         let mut neighbours = Vec::new();
-        // The time draws a shard.
-        let has_evicted = self.index.evict(self.books.clock.now(), &mut |item| {
-            if way == Way::WithNeighbours {
-                look_around(item, |other| neighbours.push((self.index.hash_of(other.key()), address_of(other))));
-            }
+        let has_evicted = self.index.evict(&mut |item| {
+            look_around(item, |other| neighbours.push((self.index.hash_of(other.key()), address_of(other))));
         });
         neighbours.into_iter().for_each(|(hash, address)| self.evict_at(hash, address));
         has_evicted
@@ -149,11 +135,10 @@ impl Store {
         let mut found = None;
         self.index.peek(hash, &mut |seen| {
             let item_there = seen.ok().flatten().filter(|(item, _)| address_of(item) == address);
-            found = item_there.map(|(item, token)| (token, self.books.leaving(item)));
+            found = item_there.map(|(_, token)| token);
         });
-        let Some((token, leaving)) = found else { return };
-        if self.index.remove(hash, token).is_ok() {
-            self.books.count_gone(leaving);
+        if let Some(token) = found {
+            let _ = self.index.remove(hash, token, Reason::Evicted);
         }
     }
 }

@@ -1,7 +1,7 @@
 //! Items that have expired, or that a flush has hit, go after a while though nobody asks for them.
-use crate::counts::Count;
 use crate::store::Store;
-use crate::walk::{self, Position};
+use crate::walk;
+use cefrodil_map::Reason;
 use std::sync::PoisonError;
 use std::time::Duration;
 
@@ -10,19 +10,13 @@ pub const PAUSE: Duration = Duration::from_secs(1);
 pub const LOOKED_AT: usize = 4096;
 
 /// How far the workers have come in their walk over all items.
-#[derive(Debug)]
+#[derive(Default)]
 pub(crate) struct Round {
-    position: Position,
+    position: usize,
     /// When the oldest item was made that was live.
     oldest: Option<u64>,
     /// The same, of the last round.
     oldest_before: Option<u64>,
-}
-
-impl Default for Round {
-    fn default() -> Round {
-        Round { position: walk::START, oldest: None, oldest_before: None }
-    }
 }
 
 impl Store {
@@ -53,19 +47,13 @@ impl Store {
 
     /// Removes the item with this hash if it is not live. The lock keeps a new time to live from coming between.
     fn remove_dead(&self, hash: u64) {
-        let _lock = self.key_locks.lock(hash);
+        let _lock = self.lock_hash(hash);
         let mut dead = None;
         self.index.peek(hash, &mut |seen| {
-            dead = seen
-                .ok()
-                .flatten()
-                .map(|(item, token)| (token, self.books.leaving(item)))
-                .filter(|(_, leaving)| !leaving.is_live);
+            dead = seen.ok().flatten().filter(|(item, _)| !self.books.is_live(item)).map(|(_, token)| token);
         });
-        let Some((token, leaving)) = dead else { return };
-        if self.index.remove(hash, token).is_ok() {
-            self.books.counts.add(Count::Expired);
-            self.books.count_unfetched(leaving);
+        if let Some(token) = dead {
+            let _ = self.index.remove(hash, token, Reason::Expired);
         }
     }
 

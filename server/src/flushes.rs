@@ -3,7 +3,7 @@ use std::sync::atomic::{AtomicU64, Ordering::Acquire, Ordering::Relaxed, Orderin
 use std::sync::Mutex;
 
 /// Which items `flush_all` has made invalid: those that are no younger than one of these times, once it has come.
-#[derive(Debug, Default)]
+#[derive(Default)]
 pub struct Flushes {
     past: AtomicU64,
     next: AtomicU64,

@@ -1,12 +1,13 @@
 //! Clients that hold more than does not count. If all hold too much, those are cut off that hold most for longest.
 use crate::large::{left, Held};
-use crate::memory::try_reserve;
+use crate::memory::may_fail;
 use mio::{Token, Waker};
+use std::collections::HashMap;
 use std::sync::Arc;
 use std::time::{Duration, Instant};
 
 /// Who serves a client, and its token there.
-#[derive(Clone, Debug)]
+#[derive(Clone)]
 pub struct Home {
     pub waker: Arc<Waker>,
     pub token: Token,
@@ -19,15 +20,14 @@ pub struct Cut {
     pub time: Duration,
 }
 
-/// The clients by their numbers. A number is free that has none.
-#[derive(Debug, Default)]
+/// The clients by their seats.
+#[derive(Default)]
 pub struct Holders {
-    all: Vec<Option<Holder>>,
+    all: HashMap<usize, Holder>,
     /// The bytes of all that are not cut off.
     bytes: u64,
 }
 
-#[derive(Debug)]
 struct Holder {
     home: Option<Home>,
     bytes: u64,
@@ -61,35 +61,23 @@ impl Holder {
 }
 
 impl Holders {
-    /// Notes what a client holds. Returns its number. `None`: there is no memory for one, so the client does not count.
-    pub fn note(&mut self, number: Option<usize>, home: Option<&Home>, bytes: u64, item: Option<&Held>) -> Option<usize> {
-        let number = number.or_else(|| self.add(home))?;
-        if let Some(Some(holder)) = self.all.get_mut(number) {
-            let before = holder.counted();
-            holder.bytes = bytes;
-            holder.item = item.cloned();
-            self.bytes = self.bytes - before + holder.counted();
+    /// Notes what a client holds. Returns whether it counts: there may be no memory for one more.
+    pub fn note(&mut self, seat: usize, home: Option<&Home>, bytes: u64, item: Option<&Held>) -> bool {
+        if !self.all.contains_key(&seat) && may_fail(|| self.all.try_reserve(1)).is_err() {
+            return false;
         }
-        Some(number)
-    }
-
-    fn add(&mut self, home: Option<&Home>) -> Option<usize> {
-        let free = self.all.iter().position(Option::is_none);
-        let number = free.unwrap_or(self.all.len());
-        if free.is_none() {
-            let more = self.all.len().max(1);
-            if self.all.len() == self.all.capacity() && !try_reserve(&mut self.all, more) {
-                return None;
-            }
-            self.all.push(None);
-        }
-        self.all[number] = Some(Holder { home: home.cloned(), bytes: 0, item: None, since: Instant::now(), cut: None });
-        Some(number)
+        let new = || Holder { home: home.cloned(), bytes: 0, item: None, since: Instant::now(), cut: None };
+        let holder = self.all.entry(seat).or_insert_with(new);
+        let before = holder.counted();
+        holder.bytes = bytes;
+        holder.item = item.cloned();
+        self.bytes = self.bytes - before + holder.counted();
+        true
     }
 
     /// The client holds nothing that counts.
-    pub fn remove(&mut self, number: usize) {
-        if let Some(holder) = self.all.get_mut(number).and_then(Option::take) {
+    pub fn remove(&mut self, seat: usize) {
+        if let Some(holder) = self.all.remove(&seat) {
             self.bytes -= holder.counted();
         }
     }
@@ -100,10 +88,10 @@ impl Holders {
         if held <= most {
             return;
         }
-        let going = self.all.iter().flatten().filter(|holder| holder.cut.is_some()).map(Holder::kept).sum::<u64>();
+        let going = self.all.values().filter(|holder| holder.cut.is_some()).map(Holder::kept).sum::<u64>();
         let mut over = held.saturating_sub(most + going);
         while over > 0 {
-            let held = self.all.iter_mut().flatten().filter(|holder| holder.cut.is_none() && holder.size() > 0);
+            let held = self.all.values_mut().filter(|holder| holder.cut.is_none() && holder.size() > 0);
             let Some(holder) = held.max_by_key(|holder| holder.weight()) else { return };
             over = over.saturating_sub(holder.size());
             self.bytes -= holder.bytes;
@@ -117,7 +105,7 @@ impl Holders {
 
     /// The next client of this worker that is to be cut off, and that it has not heard of.
     pub fn next_cut(&mut self, worker: &Arc<Waker>) -> Option<Token> {
-        self.all.iter_mut().flatten().filter(|holder| holder.cut == Some(true)).find_map(|holder| {
+        self.all.values_mut().filter(|holder| holder.cut == Some(true)).find_map(|holder| {
             let token = holder.home.as_ref().filter(|home| Arc::ptr_eq(&home.waker, worker))?.token;
             holder.cut = Some(false);
             Some(token)
@@ -125,8 +113,8 @@ impl Holders {
     }
 
     /// What the client has held, if it is to be cut off.
-    pub fn cut_of(&self, number: usize) -> Option<Cut> {
-        let holder = self.all.get(number)?.as_ref().filter(|holder| holder.cut.is_some())?;
+    pub fn cut_of(&self, seat: usize) -> Option<Cut> {
+        let holder = self.all.get(&seat).filter(|holder| holder.cut.is_some())?;
         Some(Cut { bytes: holder.size(), time: holder.since.elapsed() })
     }
 }

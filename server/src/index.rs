@@ -1,6 +1,6 @@
 //! What the server asks of an index of items.
 use crate::item::{Item, NewItem};
-use cefrodil_map::{AbsentError, IfError, InsertError};
+use cefrodil_map::{AbsentError, IfError, InsertError, Reason};
 use std::time::Duration;
 
 /// Which put of a key stored its item: memcached's `cas unique`. Never compare those of two keys.
@@ -49,6 +49,14 @@ impl From<IfError> for Refused {
     }
 }
 
+/// What a key must have if an item is to be put.
+#[derive(Clone, Copy)]
+pub enum Over {
+    Any,
+    Nothing,
+    Token(Token),
+}
+
 /// What a lookup sees of a key: its item and token, if it is there.
 pub type Seen<'a> = Result<Option<(&'a Item, Token)>, Refused>;
 
@@ -63,21 +71,14 @@ pub trait Index: Send + Sync {
     /// Looks up the item with this hash. The index does not take it for a use of the item.
     fn peek(&self, hash: u64, see: &mut dyn FnMut(Seen<'_>));
 
-    /// Puts the item, whatever its key has.
-    fn put(&self, item: NewItem) -> Result<Token, Refused>;
+    /// Puts the item, if its key has this.
+    fn put(&self, item: NewItem, over: Over) -> Result<Token, Refused>;
 
-    /// Puts the item if its key is absent.
-    fn put_new(&self, item: NewItem) -> Result<Token, Refused>;
+    /// Removes the item with this hash, for this reason, if it has this token.
+    fn remove(&self, hash: u64, token: Token, reason: Reason) -> Result<Token, Refused>;
 
-    /// Puts the item if its key has this token.
-    fn put_if(&self, token: Token, item: NewItem) -> Result<Token, Refused>;
-
-    /// Removes the item with this hash if it has this token.
-    fn remove(&self, hash: u64, token: Token) -> Result<Token, Refused>;
-
-    /// Removes the item that is to give way next in a shard that the number draws, or in another one, and calls `see` with it. Returns whether it has
-    /// removed one.
-    fn evict(&self, draw: u64, see: &mut dyn FnMut(&Item)) -> bool;
+    /// Removes the item that is to give way next in a shard with many items, and calls `see` with it. Returns whether it has removed one.
+    fn evict(&self, see: &mut dyn FnMut(&Item)) -> bool;
 
     /// How many items there are.
     fn len(&self) -> usize;

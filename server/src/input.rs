@@ -14,7 +14,7 @@ thread_local! {
 }
 
 /// Those of `bytes` from `start` to `end`.
-#[derive(Debug, Default)]
+#[derive(Default)]
 pub struct Input {
     bytes: Vec<u8>,
     start: usize,

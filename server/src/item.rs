@@ -14,7 +14,6 @@ pub type Item = Bytes<About>;
 pub type NewItem = Block<About>;
 
 /// What belongs to an item. The order of the fields leaves no gap before the key.
-#[derive(Debug)]
 #[repr(C)]
 pub struct About {
     /// When it was made. What is made of an older item, or because there is one, was made when that was found: so a flush in between hits it.

@@ -28,7 +28,6 @@ const BEFORE: usize = size_of::<Before>();
 static LEFT: AtomicU64 = AtomicU64::new(0);
 
 /// An item that is sent to a client.
-#[derive(Debug)]
 pub struct Held(*const Item);
 
 // SAFETY: it lives as long as it is held, by whatever thread. All threads may read an item.

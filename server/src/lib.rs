@@ -1,5 +1,5 @@
 #![doc = include_str!("../README.md")]
-#![deny(missing_debug_implementations, unsafe_op_in_unsafe_fn)]
+#![deny(unsafe_op_in_unsafe_fn)]
 
 pub mod accept;
 pub mod allocator;
@@ -20,7 +20,6 @@ mod holders;
 pub mod index;
 mod input;
 pub mod item;
-mod key_locks;
 mod large;
 pub mod listen;
 mod listing;
@@ -41,7 +40,6 @@ mod signal;
 pub mod slabs;
 mod stats;
 pub mod store;
-mod usage;
 pub mod user;
 mod walk;
 pub mod worker;

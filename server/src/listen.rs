@@ -1,14 +1,16 @@
 //! Where the server listens, and what it accepts there.
-use mio::net::{TcpListener, TcpStream, UnixListener, UnixStream};
+use mio::net::{TcpListener, UnixListener};
 use nix::sys::stat::{umask, Mode};
 use std::fmt::{self, Display, Formatter};
-use std::fs;
-use std::io::{self, ErrorKind, IoSlice, Read, Write};
-use std::net::ToSocketAddrs;
-use std::os::fd::{AsRawFd, RawFd};
+use std::fs::{self, File};
+use std::io::{self, ErrorKind};
+use std::mem::ManuallyDrop;
+use std::net::{TcpStream, ToSocketAddrs};
+use std::os::fd::{AsRawFd, FromRawFd, IntoRawFd, OwnedFd, RawFd};
 use std::os::unix::fs::FileTypeExt;
 use std::os::unix::net;
 use std::path::{Path, PathBuf};
+use std::ptr;
 
 /// A place to listen at.
 #[derive(Clone, Debug, PartialEq, Eq)]
@@ -19,22 +21,16 @@ pub enum Place {
     File(PathBuf, u32),
 }
 
-/// A socket that clients connect to.
-#[derive(Debug)]
-pub enum Listener {
-    Tcp(TcpListener),
-    Unix(UnixListener, OwnFile),
+/// A socket that clients connect to, and its file if it is a Unix socket.
+pub struct Listener {
+    socket: OwnedFd,
+    file: Option<OwnFile>,
 }
 
 /// A client's connection to one of them.
-#[derive(Debug)]
-pub enum Stream {
-    Tcp(TcpStream),
-    Unix(UnixStream),
-}
+pub struct Stream(pub File);
 
 /// A file of the server's own, by its whole path. It is removed when this is dropped.
-#[derive(Debug)]
 pub struct OwnFile(PathBuf);
 
 impl OwnFile {
@@ -76,7 +72,7 @@ fn listen_at(host: &str, port: u16) -> io::Result<Vec<Listener>> {
     let mut last = ErrorKind::AddrNotAvailable.into();
     for address in (host, port).to_socket_addrs()? {
         match TcpListener::bind(address) {
-            Ok(listener) => listeners.push(Listener::Tcp(listener)),
+            Ok(listener) => listeners.push(Listener::new(listener, None)),
             Err(why) => last = why,
         }
     }
@@ -100,92 +96,60 @@ fn listen_in(path: &Path, mode: u32) -> io::Result<Listener> {
     let before = umask(Mode::from_bits_truncate(!mode & 0o777));
     let bound = UnixListener::bind(path);
     umask(before);
-    Ok(Listener::Unix(bound?, OwnFile::new(path)?))
+    Ok(Listener::new(bound?, Some(OwnFile::new(path)?)))
 }
 
 impl Display for Listener {
     fn fmt(&self, text: &mut Formatter) -> fmt::Result {
-        match self {
-            Listener::Tcp(listener) => match listener.local_addr() {
-                Ok(address) => address.fmt(text),
-                Err(why) => why.fmt(text),
-            },
-            Listener::Unix(_, file) => file.0.display().fmt(text),
+        match (&self.file, tcp(self.as_raw_fd()).local_addr()) {
+            (Some(file), _) => file.0.display().fmt(text),
+            (None, Ok(address)) => address.fmt(text),
+            (None, Err(why)) => why.fmt(text),
         }
     }
 }
 
 impl Listener {
+    fn new(socket: impl IntoRawFd, file: Option<OwnFile>) -> Listener {
+        // SAFETY: it is open, and this owns it from now on.
+        Listener { socket: unsafe { OwnedFd::from_raw_fd(socket.into_raw_fd()) }, file }
+    }
+
     /// A client that waits.
     pub fn accept(&self) -> io::Result<Stream> {
-        match self {
-            Listener::Tcp(listener) => {
-                let (stream, _) = listener.accept()?;
-                // Without that the system would hold small answers back. A client that has gone already is seen later.
-                let _ = stream.set_nodelay(true);
-                Ok(Stream::Tcp(stream))
-            }
-            Listener::Unix(listener, _) => Ok(Stream::Unix(listener.accept()?.0)),
+        let flags = libc::SOCK_NONBLOCK | libc::SOCK_CLOEXEC;
+        // SAFETY: the call writes no address.
+        let file = unsafe { libc::accept4(self.as_raw_fd(), ptr::null_mut(), ptr::null_mut(), flags) };
+        if file < 0 {
+            return Err(io::Error::last_os_error());
         }
+        // SAFETY: it is open, and this owns it.
+        let stream = unsafe { File::from_raw_fd(file) };
+        // Without that the system would hold small answers back. A client of TCP that has gone already is seen later.
+        let _ = tcp(stream.as_raw_fd()).set_nodelay(true);
+        Ok(Stream(stream))
     }
 }
 
 impl AsRawFd for Listener {
     fn as_raw_fd(&self) -> RawFd {
-        match self {
-            Listener::Tcp(listener) => listener.as_raw_fd(),
-            Listener::Unix(listener, _) => listener.as_raw_fd(),
-        }
-    }
-}
-
-impl AsRawFd for Stream {
-    fn as_raw_fd(&self) -> RawFd {
-        match self {
-            Stream::Tcp(stream) => stream.as_raw_fd(),
-            Stream::Unix(stream) => stream.as_raw_fd(),
-        }
+        self.socket.as_raw_fd()
     }
 }
 
 /// The other end's address.
 impl Display for Stream {
     fn fmt(&self, text: &mut Formatter) -> fmt::Result {
-        match self {
-            Stream::Tcp(stream) => match stream.peer_addr() {
-                Ok(address) => address.fmt(text),
-                Err(_) => text.write_str("a client that has left"),
-            },
-            Stream::Unix(_) => text.write_str("a client of the Unix socket"),
+        match tcp(self.0.as_raw_fd()).peer_addr() {
+            Ok(address) => address.fmt(text),
+            Err(why) if why.kind() == ErrorKind::NotConnected => text.write_str("a client that has left"),
+            Err(_) => text.write_str("a client of the Unix socket"),
         }
     }
 }
 
-impl Read for Stream {
-    fn read(&mut self, bytes: &mut [u8]) -> io::Result<usize> {
-        match self {
-            Stream::Tcp(stream) => stream.read(bytes),
-            Stream::Unix(stream) => stream.read(bytes),
-        }
-    }
-}
-
-impl Write for Stream {
-    fn write(&mut self, bytes: &[u8]) -> io::Result<usize> {
-        match self {
-            Stream::Tcp(stream) => stream.write(bytes),
-            Stream::Unix(stream) => stream.write(bytes),
-        }
-    }
-
-    fn write_vectored(&mut self, parts: &[IoSlice]) -> io::Result<usize> {
-        match self {
-            Stream::Tcp(stream) => stream.write_vectored(parts),
-            Stream::Unix(stream) => stream.write_vectored(parts),
-        }
-    }
-
-    fn flush(&mut self) -> io::Result<()> {
-        Ok(())
-    }
+/// An open file as a socket of TCP, to ask and tell the system of it. If it is another one, each answer is an error.
+pub fn tcp(file: RawFd) -> ManuallyDrop<TcpStream> {
+    // SAFETY: the file is not closed here.
+    ManuallyDrop::new(unsafe { TcpStream::from_raw_fd(file) })
 }

@@ -2,15 +2,16 @@
 use crate::command::text;
 use crate::index::Token;
 use crate::item::Item;
+use crate::listen::tcp;
 use crate::output::Output;
 use crate::request::Request;
 use crate::seat::{Seen, State};
 use crate::slabs::address_of;
 use crate::store::Store;
-use crate::walk::{self, Position};
+use crate::walk;
 use std::io::Write;
 use std::mem::ManuallyDrop;
-use std::net::{SocketAddr, TcpStream};
+use std::net::SocketAddr;
 use std::os::fd::{FromRawFd, RawFd};
 use std::os::unix::net::UnixStream;
 
@@ -32,7 +33,7 @@ pub enum Listing {
 #[derive(Clone, Copy, Debug)]
 pub struct Items {
     write: fn(&Store, &Item, Token, &mut Output),
-    next: Option<Position>,
+    next: Option<usize>,
     /// How many are to be listed.
     most: u64,
 }
@@ -40,8 +41,7 @@ pub struct Items {
 impl Listing {
     /// The list that answers a request.
     pub fn of(request: &Request) -> Option<Listing> {
-        let items =
-            |write, is_empty: bool, most| Some(Listing::Items(Items { write, next: (!is_empty).then_some(walk::START), most }));
+        let items = |write, is_empty: bool, most| Some(Listing::Items(Items { write, next: (!is_empty).then_some(0), most }));
         match *request {
             Request::Dump(class, most) => items(write_cached, class != CLASS, if most == 0 { u64::MAX } else { most }),
             Request::Crawl(has_class) => items(write_crawled, !has_class, u64::MAX),
@@ -128,9 +128,8 @@ fn list_client(store: &Store, place: &mut usize, out: &mut Output) -> bool {
 /// Writes the address of an open file's own end, or of the other one. Its worker may close it meanwhile: then this is the address of another file, or
 /// none.
 fn write_address(out: &mut Output, file: RawFd, name: &str, is_own: bool) {
-    // SAFETY: the file is not closed here, and only asked for an address: one of TCP, or otherwise of a Unix socket.
-    let (tcp, unix) =
-        unsafe { (ManuallyDrop::new(TcpStream::from_raw_fd(file)), ManuallyDrop::new(UnixStream::from_raw_fd(file))) };
+    // SAFETY: the file is not closed here, and only asked for an address.
+    let (tcp, unix) = (tcp(file), unsafe { ManuallyDrop::new(UnixStream::from_raw_fd(file)) });
     let (address, path) = if is_own { (tcp.local_addr(), unix.local_addr()) } else { (tcp.peer_addr(), unix.peer_addr()) };
     match (address, path.as_ref().ok().and_then(|address| address.as_pathname())) {
         (Ok(address @ SocketAddr::V4(_)), _) => text!(out, "STAT {file}:{name} tcp:{address}\r\n"),

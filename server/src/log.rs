@@ -10,7 +10,6 @@ pub fn log(what: Arguments) {
 }
 
 /// Messages of one kind, of which few are written a minute.
-#[derive(Debug)]
 pub struct Seldom {
     most: u32,
     /// When the minute began, and how many were written in it.

@@ -1,11 +1,10 @@
 //! The index of items: a map of objects over Cefrodil's index.
 use crate::audit::{digest, Audit};
 use crate::books::Books;
-use crate::index::{Index, Refused, Seen, Token};
+use crate::index::{Index, Over, Refused, Seen, Token};
 use crate::item::{About, Item, NewItem};
 use cefrodil_map::{BytesMap, GetError, IfError, Inserted, Look, OpenError, Put, Reason};
 use std::cell::Cell;
-use std::hash::{BuildHasher, RandomState};
 use std::sync::Arc;
 use std::time::Duration;
 
@@ -13,7 +12,6 @@ use std::time::Duration;
 pub const BYTES_OF_AN_ENTRY: usize = 56;
 
 /// The map, and its log if there is one.
-#[derive(Debug)]
 pub struct MapIndex {
     map: BytesMap<About>,
     audit: Option<Arc<Audit>>,
@@ -30,8 +28,8 @@ const ITEMS_OF_A_LARGE_SHARD: usize = 60_000;
 const MOST_SHARDS: usize = 256;
 
 thread_local! {
-    /// The hash of the key that gave way to the put that this thread makes, for the log.
-    static EVICTED: Cell<Option<u64>> = const { Cell::new(None) };
+    /// The key that gave way to the put that this thread makes, for the log.
+    static EVICTED: Cell<Option<Vec<u8>>> = const { Cell::new(None) };
 }
 
 /// How many shards there are for so many items, if the map does not choose that well by itself.
@@ -59,15 +57,14 @@ impl MapIndex {
     /// Opens an index for at least so many items. `books` hears of each item that leaves it, and again when that is freed.
     pub fn open(items: usize, threads: usize, books: &Arc<Books>, audit: Option<Arc<Audit>>) -> Result<MapIndex, OpenError> {
         let ([freeing, leaving], is_logged) = ([Arc::clone(books), Arc::clone(books)], audit.is_some());
-        let (hasher, freed) = (RandomState::new(), move |item: &Item| freeing.freed(item));
-        let hash_of = hasher.clone();
+        let freed = move |item: &Item| freeing.freed(item);
         let listener = move |item: &Item, reason| {
             leaving.left(item, reason);
-            if reason == Reason::Evicted {
-                EVICTED.set(is_logged.then(|| hash_of.hash_one(item.key())));
+            if is_logged && reason == Reason::Evicted {
+                EVICTED.set(Some(item.key().to_vec()));
             }
         };
-        let mut builder = BytesMap::builder(items).threads(threads).listener(listener).freed(freed).hasher(hasher);
+        let mut builder = BytesMap::builder(items).threads(threads).listener(listener).freed(freed);
         if is_logged {
             // The log has one history, that of a shard.
             builder = builder.shards(1);
@@ -95,7 +92,7 @@ impl MapIndex {
     fn log_put(&self, logged: Option<(u64, u64)>, put: Put) {
         let (Some(audit), Some((hash, digest))) = (&self.audit, logged) else { return };
         if let (Inserted::Evicted, Some(evicted)) = (put.did, EVICTED.take()) {
-            audit.line(format_args!("evict {} {evicted}", put.at - 1));
+            audit.line(format_args!("evict {} {}", put.at - 1, self.hash_of(&evicted)));
         }
         audit.line(format_args!("put {} {hash} {digest}", put.at));
     }
@@ -104,11 +101,6 @@ impl MapIndex {
         if let Some(audit) = &self.audit {
             audit.line(format_args!("{change} {at} {}", hash()));
         }
-    }
-
-    /// What the log says of an item that is about to be put, if there is a log: the hash of its key, and its digest.
-    fn logged(&self, item: &Item) -> Option<(u64, u64)> {
-        self.audit.is_some().then(|| (self.hash_of(item.key()), digest(item)))
     }
 
     fn failed(&self, hash: u64, why: IfError) -> Refused {
@@ -141,35 +133,28 @@ impl Index for MapIndex {
         self.map.peek_hash(hash, |found| see(seen(found)));
     }
 
-    fn put(&self, item: NewItem) -> Result<Token, Refused> {
-        let logged = self.logged(&item);
-        let put = self.map.put(item)?;
+    fn put(&self, item: NewItem, over: Over) -> Result<Token, Refused> {
+        // The hash of the key, and the item's digest.
+        let logged = self.audit.is_some().then(|| (self.hash_of(item.key()), digest(&item)));
+        let put = match over {
+            Over::Any => self.map.put(item)?,
+            Over::Nothing => self.map.put_if_absent(item)?,
+            Over::Token(token) => {
+                self.map.replace_if(token, item).map_err(|why| self.failed(logged.map_or(0, |(hash, _)| hash), why))?
+            }
+        };
         self.log_put(logged, put);
         Ok(put.at)
     }
 
-    fn put_new(&self, item: NewItem) -> Result<Token, Refused> {
-        let logged = self.logged(&item);
-        let put = self.map.put_if_absent(item)?;
-        self.log_put(logged, put);
-        Ok(put.at)
-    }
-
-    fn put_if(&self, token: Token, item: NewItem) -> Result<Token, Refused> {
-        let logged = self.logged(&item);
-        let put = self.map.replace_if(token, item).map_err(|why| self.failed(logged.map_or(0, |(hash, _)| hash), why))?;
-        self.log_put(logged, put);
-        Ok(put.at)
-    }
-
-    fn remove(&self, hash: u64, token: Token) -> Result<Token, Refused> {
-        let at = self.map.remove_stamped(hash, token).map_err(|why| self.failed(hash, why))?;
+    fn remove(&self, hash: u64, token: Token, reason: Reason) -> Result<Token, Refused> {
+        let at = self.map.remove_stamped(hash, token, reason).map_err(|why| self.failed(hash, why))?;
         self.log_change("remove", at, || hash);
         Ok(at)
     }
 
-    fn evict(&self, draw: u64, see: &mut dyn FnMut(&Item)) -> bool {
-        let evicted = self.map.evict(draw, |item, at| {
+    fn evict(&self, see: &mut dyn FnMut(&Item)) -> bool {
+        let evicted = self.map.evict(|item, at| {
             self.log_change("evict", at, || self.hash_of(item.key()));
             see(item);
         });

@@ -44,7 +44,6 @@ pub fn buffer(bytes: usize) -> Option<Vec<u8>> {
 }
 
 /// An allocator, and a reserve for what it refuses.
-#[derive(Debug)]
 pub struct Spare<A = System> {
     allocator: A,
     reserve: Reserve,
@@ -52,7 +51,6 @@ pub struct Spare<A = System> {
     state: AtomicU64,
 }
 
-#[derive(Debug)]
 #[repr(align(16))]
 struct Reserve(UnsafeCell<MaybeUninit<[u8; RESERVE]>>);
 
@@ -105,21 +103,6 @@ unsafe impl<A: GlobalAlloc> GlobalAlloc for Spare<A> {
         if at.is_null() {
             self.take(layout)
         } else {
-            at
-        }
-    }
-
-    unsafe fn alloc_zeroed(&self, layout: Layout) -> *mut u8 {
-        // SAFETY: as above. A block of the reserve has so many bytes.
-        unsafe {
-            let at = self.allocator.alloc_zeroed(layout);
-            if !at.is_null() {
-                return at;
-            }
-            let at = self.take(layout);
-            if !at.is_null() {
-                at.write_bytes(0, layout.size());
-            }
             at
         }
     }

@@ -6,9 +6,10 @@ use crate::request::{key, refusal, words, How, Order, Refusal, Request, ERROR, F
 const LONGEST_OPAQUE: usize = 33;
 
 /// What a meta command does.
-#[derive(Clone, Copy, Debug, PartialEq, Eq)]
+#[derive(Clone, Copy, Debug, Default, PartialEq, Eq)]
 pub enum Verb {
     /// `mg`
+    #[default]
     Get,
     /// `ms`
     Set,
@@ -19,7 +20,7 @@ pub enum Verb {
 }
 
 /// A meta command.
-#[derive(Debug, PartialEq, Eq)]
+#[derive(Debug, Default, PartialEq, Eq)]
 pub struct Meta<'a> {
     /// What it does.
     pub verb: Verb,
@@ -64,7 +65,8 @@ pub fn parse(letter: u8, line: &[u8]) -> Result<Request<'_>, Refusal> {
         length = number::length(last).ok_or(FORMAT)?;
     }
     let start = last.as_ptr() as usize - line.as_ptr() as usize + last.len();
-    let mut meta = Meta::new(verb, key, length, &line[start..]);
+    let order = Order { key, length, ..Order::default() };
+    let mut meta = Meta { verb, order, words: &line[start..], delta: 1, ..Meta::default() };
     match meta.read_flags() {
         Ok(()) => Ok(Request::Meta(meta)),
         Err(why) if verb == Verb::Set => Err(Refusal { block: length + 2, ..why }),
@@ -72,31 +74,13 @@ pub fn parse(letter: u8, line: &[u8]) -> Result<Request<'_>, Refusal> {
     }
 }
 
-impl<'a> Meta<'a> {
-    fn new(verb: Verb, key: &'a [u8], length: usize, words: &'a [u8]) -> Meta<'a> {
-        let order = Order { how: How::Set, key, flags: 0, expiry: 0, length, compare: None };
-        let (is_quiet, with_value, subtracts) = (false, false, false);
-        Meta {
-            verb,
-            order,
-            words,
-            is_quiet,
-            with_value,
-            expiry: None,
-            subtracts,
-            delta: 1,
-            creates: false,
-            made_expiry: 0,
-            initial: 0,
-        }
-    }
-
+impl Meta<'_> {
     fn read_flags(&mut self) -> Result<(), Refusal> {
         let (mut seen, mut mode) = (0u128, None);
         for word in words(self.words) {
             let bit = 1u128.checked_shl(u32::from(word[0])).unwrap_or(0);
             if seen & bit != 0 {
-                return Err(self.duplicate());
+                return Err(self.fault("CLIENT_ERROR duplicate flag"));
             }
             seen |= bit;
             match word[0] {
@@ -132,25 +116,18 @@ impl<'a> Meta<'a> {
                 self.creates = true;
                 self.made_expiry = number::integer(token).ok_or(self.bad_token())?;
             }
-            _ => return Err(self.invalid()),
+            _ => return Err(self.fault("CLIENT_ERROR invalid flag")),
         }
         Ok(())
     }
 
-    fn has_one_text(&self) -> bool {
-        matches!(self.verb, Verb::Delete | Verb::Arithmetic)
-    }
-
-    fn duplicate(&self) -> Refusal {
-        refusal(if self.has_one_text() { INVALID_OR_DUPLICATE } else { "CLIENT_ERROR duplicate flag" })
-    }
-
-    fn invalid(&self) -> Refusal {
-        refusal(if self.has_one_text() { INVALID_OR_DUPLICATE } else { "CLIENT_ERROR invalid flag" })
+    /// Of some commands each fault in the flags has the same text.
+    fn fault(&self, text: &'static str) -> Refusal {
+        refusal(if matches!(self.verb, Verb::Delete | Verb::Arithmetic) { INVALID_OR_DUPLICATE } else { text })
     }
 
     fn bad_token(&self) -> Refusal {
-        refusal(if self.has_one_text() { INVALID_OR_DUPLICATE } else { "CLIENT_ERROR bad token in command line format" })
+        self.fault("CLIENT_ERROR bad token in command line format")
     }
 }
 

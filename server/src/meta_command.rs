@@ -1,5 +1,5 @@
 //! Carries meta commands out.
-use crate::command::{count_change, count_comparison, count_deletion, line, text, NOT_NUMERIC};
+use crate::command::{count_change, line, text, NOT_NUMERIC};
 use crate::counts::Count;
 use crate::item::Item;
 use crate::meta::{Meta, Verb};
@@ -59,17 +59,11 @@ fn get(store: &Store, meta: &Meta, out: &mut Output) {
 }
 
 fn set(store: &Store, meta: &Meta, data: &[u8], out: &mut Vec<u8>) {
-    let stored = store.store(&meta.order, data);
-    if meta.order.compare.is_some() {
-        count_comparison(store, stored);
-    }
-    tell(meta, stored, out);
+    tell(meta, store.store(&meta.order, data), out);
 }
 
 fn delete(store: &Store, meta: &Meta, out: &mut Vec<u8>) {
-    let deleted = store.delete(meta.order.key, meta.order.compare);
-    count_deletion(store, deleted);
-    tell(meta, deleted, out);
+    tell(meta, store.delete(meta.order.key, meta.order.compare), out);
 }
 
 fn tell(meta: &Meta, answered: Result<Answer, Fault>, out: &mut Vec<u8>) {

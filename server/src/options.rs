@@ -92,61 +92,21 @@ pub enum Asked {
     Version,
 }
 
-/// The names of an option: its letter, its long name, and whether a value follows.
-const NAMES: [(char, &str, bool); 24] = [
-    ('p', "port", true),
-    ('l', "listen", true),
-    ('s', "unix-socket", true),
-    ('a', "unix-mask", true),
-    ('u', "user", true),
-    ('d', "daemon", false),
-    ('P', "pidfile", true),
-    ('v', "verbose", false),
-    ('r', "enable-coredumps", false),
-    ('U', "udp-port", true),
-    ('t', "threads", true),
-    ('m', "memory-limit", true),
-    ('n', "items", true),
-    ('c', "conn-limit", true),
-    ('I', "max-item-size", true),
-    ('o', "extended", true),
-    ('R', "max-reqs-per-event", true),
-    ('b', "listen-backlog", true),
-    ('k', "lock-memory", false),
-    ('B', "protocol", true),
-    ('f', "slab-growth-factor", true),
-    ('A', "audit", true),
-    ('h', "help", false),
-    ('V', "version", false),
-];
+/// Memcached's options that change nothing here, as the help would have them.
+const IDLE: &str = "\
+-R, --max-reqs-per-event=N
+-b, --listen-backlog=N
+-k, --lock-memory
+-B, --protocol=ascii
+-f, --slab-growth-factor=N
+";
 
 /// Memcached's names in the list of `-o` that change nothing here.
-const EXTENDED: [&str; 24] = [
-    "modern",
-    "no_modern",
-    "maxconns_fast",
-    "no_maxconns_fast",
-    "hashpower",
-    "no_hashexpand",
-    "hash_algorithm",
-    "tail_repair_time",
-    "lru_crawler",
-    "no_lru_crawler",
-    "lru_crawler_sleep",
-    "lru_crawler_tocrawl",
-    "lru_maintainer",
-    "no_lru_maintainer",
-    "hot_lru_pct",
-    "warm_lru_pct",
-    "hot_max_factor",
-    "warm_max_factor",
-    "slab_reassign",
-    "no_slab_reassign",
-    "slab_automove",
-    "slab_chunk_max",
-    "no_inline_ascii_resp",
-    "worker_logbuf_size",
-];
+const EXTENDED: &str = "\
+modern no_modern maxconns_fast no_maxconns_fast hashpower no_hashexpand hash_algorithm
+tail_repair_time lru_crawler no_lru_crawler lru_crawler_sleep lru_crawler_tocrawl lru_maintainer
+no_lru_maintainer hot_lru_pct warm_lru_pct hot_max_factor warm_max_factor slab_reassign
+no_slab_reassign slab_automove slab_chunk_max no_inline_ascii_resp worker_logbuf_size";
 
 /// The letter of the option that has a long name alone.
 const UNUSED: char = 'A';
@@ -268,19 +228,29 @@ fn items_for(memory: usize) -> usize {
     }
 }
 
+/// The names of each option: its letter, its long name, and whether a value follows.
+fn names() -> impl Iterator<Item = (char, &'static str, bool)> {
+    HELP.lines().chain(IDLE.lines()).filter_map(|line| {
+        let (short, rest) = line.split_once("--")?;
+        let long = rest.split(' ').next()?;
+        let letter = short.chars().nth(1).filter(|letter| *letter != ' ').unwrap_or(UNUSED);
+        Some(long.split_once('=').map_or((letter, long, false), |(name, _)| (letter, name, true)))
+    })
+}
+
 /// The option's letter, and its value: behind the name, or the next word.
 fn option(word: &str, words: &mut impl Iterator<Item = String>) -> Result<(char, String), String> {
     let unknown = || format!("there is no option '{word}' here: leave it out, or see --help");
     let (found, value) = if let Some(long) = word.strip_prefix("--") {
         let (name, value) = long.split_once('=').map_or((long, None), |(name, value)| (name, Some(value)));
-        (NAMES.iter().find(|(_, known, _)| *known == name), value)
+        (names().find(|(_, known, _)| *known == name), value)
     } else {
         let short = word.strip_prefix('-').ok_or_else(unknown)?;
         let letter = short.chars().next().filter(|letter| *letter != UNUSED).ok_or_else(unknown)?;
         let value = Some(&short[letter.len_utf8()..]).filter(|value| !value.is_empty());
-        (NAMES.iter().find(|(known, ..)| *known == letter), value)
+        (names().find(|(known, ..)| *known == letter), value)
     };
-    let (letter, _, takes_value) = *found.ok_or_else(unknown)?;
+    let (letter, _, takes_value) = found.ok_or_else(unknown)?;
     match (takes_value, value) {
         (true, Some(value)) => Ok((letter, value.to_owned())),
         (true, None) => words.next().map(|value| (letter, value)).ok_or_else(|| format!("{word} needs a value")),
@@ -299,7 +269,7 @@ fn extended(options: &mut Options, word: &str, one: &str) -> Result<(), String> 
     if name == "idle_timeout" {
         let seconds = within(name, value, 0..=u32::MAX as usize)? as u32;
         options.idle_timeout = Some(seconds).filter(|seconds| *seconds > 0);
-    } else if EXTENDED.contains(&name) {
+    } else if EXTENDED.split_whitespace().any(|known| known == name) {
         options.idle.push(format!("{word} {name}"));
     } else if !name.is_empty() {
         return Err(format!("{word}: there is no '{name}' here: leave it out"));

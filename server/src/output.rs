@@ -19,7 +19,7 @@ thread_local! {
 }
 
 /// Answers, as the list of their bytes. That lacks the large value, if there is one.
-#[derive(Debug, Default)]
+#[derive(Default)]
 pub struct Output {
     bytes: Vec<u8>,
     large: Option<Large>,
@@ -28,7 +28,6 @@ pub struct Output {
 }
 
 /// A value that is sent from its item, behind so many bytes of the list.
-#[derive(Debug)]
 struct Large {
     before: usize,
     item: Held,

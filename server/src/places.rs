@@ -9,7 +9,6 @@ pub const NONE: u32 = u32::MAX;
 static PLACES: Mutex<Places> = Mutex::new(Places { all: Vec::new(), free: Vec::new() });
 
 /// Each place has the address of an item, or 0 if it is free.
-#[derive(Debug)]
 struct Places {
     all: Vec<usize>,
     /// The free places. Its capacity is that of `all`, so that it never grows when an item is freed.

@@ -52,9 +52,10 @@ pub struct Keys {
 }
 
 /// When a value is stored.
-#[derive(Clone, Copy, Debug, PartialEq, Eq)]
+#[derive(Clone, Copy, Debug, Default, PartialEq, Eq)]
 pub enum How {
     /// Always.
+    #[default]
     Set,
     /// If the key has no value.
     Add,
@@ -67,7 +68,7 @@ pub enum How {
 }
 
 /// What is to be stored.
-#[derive(Clone, Copy, Debug, PartialEq, Eq)]
+#[derive(Clone, Copy, Debug, Default, PartialEq, Eq)]
 pub struct Order<'a> {
     pub how: How,
     pub key: &'a [u8],
@@ -216,14 +217,10 @@ fn crawl<'a>(classes: &[u8]) -> Result<Request<'a>, Refusal> {
     if matches!(classes, b"all" | b"hash") {
         return Ok(Request::Crawl(true));
     }
-    let (mut all, mut has_class) = (classes.split(|byte| *byte == b','), false);
-    let is_class = |class| (1..=LAST_CLASS).contains(&class);
-    let are_classes = all.all(|class| {
-        let class = number::unsigned(class).filter(|class| is_class(*class));
-        has_class |= class == Some(CLASS);
-        class.is_some()
-    });
-    are_classes.then_some(Request::Crawl(has_class)).ok_or(refusal("BADCLASS invalid class id"))
+    let class = |class| number::unsigned(class).filter(|class| (1..=LAST_CLASS).contains(class));
+    let classes: Option<Vec<u64>> = classes.split(|byte| *byte == b',').map(class).collect();
+    let has_class = classes.ok_or(refusal("BADCLASS invalid class id"))?.contains(&CLASS);
+    Ok(Request::Crawl(has_class))
 }
 
 /// Old clients send a time, which must be 0.

@@ -16,13 +16,12 @@ const PART_OF_LEAST: u64 = 8;
 const PAGE: u64 = 4096;
 
 /// The most that the process may take.
-#[derive(Debug)]
 pub struct RssLimit {
     /// The kernel's numbers of pages.
     pages: File,
-    bytes: u64,
+    pub bytes: u64,
     /// The room of items at first.
-    most: u64,
+    pub most: u64,
 }
 
 impl RssLimit {
@@ -31,16 +30,6 @@ impl RssLimit {
         let mut limit = RssLimit { pages: File::open("/proc/self/statm")?, bytes, most: 0 };
         limit.most = bytes.saturating_sub(limit.resident()?);
         Ok(limit)
-    }
-
-    /// The limit.
-    pub fn bytes(&self) -> u64 {
-        self.bytes
-    }
-
-    /// The room of items at first.
-    pub fn most(&self) -> u64 {
-        self.most
     }
 
     /// How many bytes the process takes.

@@ -3,6 +3,7 @@ use crate::books::Books;
 use crate::holders::{Cut, Holders, Home};
 use crate::large::Held;
 use mio::{Token, Waker};
+use std::mem;
 use std::os::fd::RawFd;
 use std::sync::atomic::{AtomicI32, AtomicU32, AtomicUsize, Ordering::Acquire, Ordering::Relaxed, Ordering::Release};
 use std::sync::{Arc, Mutex, MutexGuard, OnceLock, PoisonError};
@@ -13,7 +14,6 @@ pub const FREE: usize = 1 << 13;
 /// The seats of all clients.
 // The counts are relaxed, since no other memory is read by what they say. Only the thread that takes seats adds to `taken`. If that thread does
 // not see yet that a seat is free, it refuses a client.
-#[derive(Debug)]
 pub struct Seats {
     taken: AtomicUsize,
     books: Arc<Books>,
@@ -26,9 +26,8 @@ pub struct Seats {
 }
 
 /// What others see of a client.
-#[derive(Debug)]
 struct Place {
-    /// Its open file, or `NO_FILE`, or `NOBODY` if the place is free.
+    /// Its open file, or `NOBODY` if the place is free.
     file: AtomicI32,
     /// When it last had a turn, in seconds since the server started.
     turn: AtomicU32,
@@ -36,7 +35,6 @@ struct Place {
 }
 
 const NOBODY: RawFd = -1;
-const NO_FILE: RawFd = -2;
 
 /// What a client waits for.
 #[derive(Clone, Copy, Debug, PartialEq, Eq)]
@@ -56,14 +54,13 @@ pub struct Seen {
 }
 
 /// A client's seat, until it is dropped.
-#[derive(Debug)]
 pub struct Seat {
     seats: Arc<Seats>,
     index: usize,
     /// What the client's buffers take.
     bytes: u64,
-    /// Its number among those that hold much.
-    number: Option<usize>,
+    /// Whether it is among those that hold much.
+    is_noted: bool,
     home: Option<Home>,
 }
 
@@ -77,17 +74,17 @@ impl Seats {
         Arc::new(Seats { taken, books, places, next, holders, listeners })
     }
 
-    /// Takes a seat, if one is free. Only one thread calls it.
-    pub fn take(self: &Arc<Seats>) -> Option<Seat> {
+    /// Takes a seat for the client with this open file, if one is free. Only one thread calls it.
+    pub fn take(self: &Arc<Seats>, file: RawFd) -> Option<Seat> {
         let first = self.next.load(Relaxed);
         let places = (first..self.places.len()).chain(0..first);
         // Acquire: who had the seat is done with it.
         let is_free = |index: &usize| self.places[*index].file.load(Acquire) == NOBODY;
         let index = (self.taken() < self.places.len()).then(|| places).into_iter().flatten().find(is_free)?;
-        self.places[index].file.store(NO_FILE, Relaxed);
+        self.places[index].file.store(file, Relaxed);
         self.next.store(index + 1, Relaxed);
         self.taken.fetch_add(1, Relaxed);
-        Some(Seat { seats: Arc::clone(self), index, bytes: 0, number: None, home: None })
+        Some(Seat { seats: Arc::clone(self), index, bytes: 0, is_noted: false, home: None })
     }
 
     /// How many are taken.
@@ -98,8 +95,8 @@ impl Seats {
     /// Cuts clients off if all hold too much.
     pub fn look(&self) {
         let budget = &self.books.budget;
-        if budget.buffers() > budget.most_buffers() {
-            self.holders().cut(budget.most_buffers());
+        if budget.buffers() > budget.most_buffers {
+            self.holders().cut(budget.most_buffers);
         }
     }
 
@@ -138,11 +135,6 @@ impl Place {
 }
 
 impl Seat {
-    /// Lets others see the client's open file.
-    pub fn show(&self, file: RawFd) {
-        self.place().file.store(file, Relaxed);
-    }
-
     /// Who serves the client.
     pub fn settle(&mut self, home: Home) {
         self.home = Some(home);
@@ -179,20 +171,19 @@ impl Seat {
             return self.leave();
         }
         let mut holders = self.seats.holders();
-        self.number = holders.note(self.number, self.home.as_ref(), (bytes.saturating_sub(FREE)) as u64, item);
-        holders.cut(self.seats.books.budget.most_buffers());
+        self.is_noted = holders.note(self.index, self.home.as_ref(), (bytes.saturating_sub(FREE)) as u64, item);
+        holders.cut(self.seats.books.budget.most_buffers);
     }
 
     /// Whether it is to be cut off, and what it has held since when.
     pub fn cut(&self) -> Option<Cut> {
-        let number = self.number?;
-        self.seats.holders().cut_of(number)
+        self.is_noted.then(|| self.seats.holders().cut_of(self.index)).flatten()
     }
 
     /// It holds nothing that counts, until it says so anew.
     pub fn leave(&mut self) {
-        if let Some(number) = self.number.take() {
-            self.seats.holders().remove(number);
+        if mem::take(&mut self.is_noted) {
+            self.seats.holders().remove(self.index);
         }
     }
 

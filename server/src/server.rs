@@ -19,14 +19,12 @@ use std::thread;
 const SIGNAL: Token = Token(usize::MAX);
 
 /// Accepts at some places.
-#[derive(Debug)]
 pub struct Server {
     listeners: Vec<Listener>,
     workers: Workers,
 }
 
 /// The workers, to whom clients are handed in turn.
-#[derive(Debug)]
 struct Workers {
     store: Arc<Store>,
     inboxes: Vec<Inbox>,
@@ -80,12 +78,12 @@ impl Server {
 
 impl Workers {
     fn hand(&mut self, mut stream: Stream) {
-        let Some(seat) = self.store.seats.take() else {
+        let Some(seat) = self.store.seats.take(stream.0.as_raw_fd()) else {
             static SELDOM: Seldom = Seldom::new(1);
             self.store.books.counts.add(Count::Rejected);
             SELDOM.log(format_args!("clients are turned away: {} are connected (-c)", self.store.options.connections));
             // If the client doesn't get this, it sees all the same that the connection ends.
-            let _ = stream.write(b"ERROR Too many open connections\r\n");
+            let _ = stream.0.write(b"ERROR Too many open connections\r\n");
             return;
         };
         self.store.books.counts.add(Count::Connections);

@@ -6,16 +6,16 @@ use std::alloc::Layout;
 use std::io;
 use std::mem::{align_of, size_of};
 use std::ptr;
-use std::sync::atomic::{AtomicU16, AtomicU64, Ordering::Acquire, Ordering::Relaxed, Ordering::Release};
+use std::slice;
+use std::sync::atomic::{AtomicU16, AtomicU32, AtomicU64, Ordering::Acquire, Ordering::Relaxed, Ordering::Release};
 use std::sync::{Mutex, MutexGuard, OnceLock, PoisonError};
 
-/// The bytes of a chunk, and those of its blocks together.
+/// The bytes of a chunk.
 pub const CHUNK: usize = 1 << 14;
-const ROOM: usize = CHUNK - size_of::<Chunk>();
 
 /// The bytes of the smallest and the largest block. A page has few larger items, so the C library's allocator may have those.
 const LEAST: usize = 32;
-pub const MOST: usize = ROOM / 16 / ALIGN * ALIGN;
+pub const MOST: usize = CHUNK / 16;
 
 /// All blocks begin at a multiple of this.
 const ALIGN: usize = 8;
@@ -30,69 +30,75 @@ const MOST_EMPTY: usize = 16;
 static SLABS: OnceLock<Slabs> = OnceLock::new();
 
 /// Chunks in one range of addresses.
-#[derive(Debug)]
 pub struct Slabs {
+    /// The address of the first one.
     start: usize,
-    end: usize,
+    chunks: &'static [Chunk],
     unused: Mutex<Unused>,
-    /// The place in it is the number of blocks in a chunk.
-    lists: [Mutex<List>; MOST_BLOCKS + 1],
-    /// How many blocks each chunk has; 0: none. It changes with the lock of their list, and stays the same while a block of the chunk is taken.
-    blocks: Box<[AtomicU16]>,
+    /// Of each number of blocks in a chunk: the first of those chunks that have a free block, or `None`.
+    lists: [Mutex<Link>; MOST_BLOCKS + 1],
 }
 
-/// Chunks without blocks.
-#[derive(Debug)]
+/// The number of a chunk and 1, or `NONE`.
+type Link = u32;
+const NONE: Link = 0;
+
+/// Chunks without blocks, by their numbers.
 struct Unused {
-    /// The address of the first one that was never used.
+    /// The first one that was never used.
     next: usize,
-    /// The addresses of those in memory, and of those that the system has got back.
+    /// Those in memory, and those that the system has got back.
     empty: Vec<usize>,
     returned: Vec<usize>,
 }
 
-/// The first of those chunks that have a free block, or null.
-#[derive(Debug)]
-struct List(*mut Chunk);
-
-/// What is at the beginning of a chunk. The lock of its list guards all but `items`.
-#[repr(C)]
+/// What is known of a chunk: zeros at first. Only who has the lock of its list changes it, or looks at more than `blocks` and `items`.
+// So all but `items` is relaxed.
 struct Chunk {
-    /// The bytes of each block.
-    bytes: usize,
-    /// How many blocks were ever taken, and how many are taken now.
-    begun: usize,
-    taken: usize,
-    /// The first free block of those that were ever taken, or null. A free block has the address of the next one.
-    free: *mut usize,
-    /// Its neighbours in the list, or null.
-    before: *mut Chunk,
-    next: *mut Chunk,
+    /// How many blocks it has; 0: none. It stays the same while a block of the chunk is taken.
+    blocks: AtomicU16,
+    /// The bytes of each, and those of all that were ever taken.
+    bytes: AtomicU16,
+    begun: AtomicU16,
+    /// How many are taken now.
+    taken: AtomicU16,
+    /// Where the last free block of those that were ever taken begins, and 1, or 0. The block begins with the same of the one before.
+    free: AtomicU16,
+    /// Its neighbours in the list.
+    before: AtomicU32,
+    next: AtomicU32,
     /// A bit for each `LEAST` bytes of the chunk: whether a complete item begins there.
     items: [AtomicU64; MOST_BLOCKS / 64],
 }
 
-// SAFETY: the thread that has the lock of a list owns the chunks in it.
-unsafe impl Send for List {}
-
 /// Reserves addresses for so many bytes of chunks. Until that is done, the C library's allocator has all items.
 pub fn set_up(bytes: usize) -> io::Result<()> {
+    let count = bytes / CHUNK;
+    let heads = (count * size_of::<Chunk>()).next_multiple_of(CHUNK);
+    let length = heads + (count + 1) * CHUNK;
     // SAFETY: a new mapping, at any address. No page of it takes memory before it is written.
-    let start = unsafe {
+    let first = unsafe {
         let flags = libc::MAP_PRIVATE | libc::MAP_ANONYMOUS | libc::MAP_NORESERVE;
-        libc::mmap(ptr::null_mut(), bytes + CHUNK, libc::PROT_READ | libc::PROT_WRITE, flags, -1, 0)
+        libc::mmap(ptr::null_mut(), length, libc::PROT_READ | libc::PROT_WRITE, flags, -1, 0)
     };
-    if start == libc::MAP_FAILED {
+    if first == libc::MAP_FAILED {
         return Err(io::Error::last_os_error());
     }
     // SAFETY: it is that mapping. If the kernel refuses, it may fill a chunk that it has got back, as part of a huge page.
-    unsafe { libc::madvise(start, bytes + CHUNK, libc::MADV_NOHUGEPAGE) };
-    let start = (start as usize).next_multiple_of(CHUNK);
-    let unused = Mutex::new(Unused { next: start, empty: Vec::new(), returned: Vec::new() });
-    let lists = [const { Mutex::new(List(ptr::null_mut())) }; MOST_BLOCKS + 1];
-    let blocks = (0..bytes / CHUNK).map(|_| AtomicU16::new(0)).collect();
-    let slabs = Slabs { start, end: start + bytes / CHUNK * CHUNK, unused, lists, blocks };
+    unsafe { libc::madvise(first, length, libc::MADV_NOHUGEPAGE) };
+    // SAFETY: the mapping begins with zeros for all of them, and stays. Nothing else uses these.
+    let chunks = unsafe { slice::from_raw_parts(first.cast(), count) };
+    let unused = Mutex::new(Unused { next: 0, empty: Vec::new(), returned: Vec::new() });
+    let start = (first as usize + heads).next_multiple_of(CHUNK);
+    let slabs = Slabs { start, chunks, unused, lists: [const { Mutex::new(NONE) }; MOST_BLOCKS + 1] };
     SLABS.set(slabs).map_err(|_| io::ErrorKind::AlreadyExists.into())
+}
+
+/// The chunks, and the number of the one that has this address.
+fn find(at: usize) -> Option<(&'static Slabs, usize)> {
+    let slabs = SLABS.get()?;
+    let number = at.checked_sub(slabs.start)? / CHUNK;
+    (number < slabs.chunks.len()).then_some((slabs, number))
 }
 
 /// Memory of this layout, or null.
@@ -115,34 +121,33 @@ pub unsafe fn take(layout: Layout) -> *mut u8 {
 ///
 /// The same as for `std::alloc::dealloc`. `take` returned the memory.
 pub unsafe fn give_back(at: *mut u8, layout: Layout) {
-    match SLABS.get() {
+    match find(at as usize) {
         // SAFETY: the caller says that `take` returned it, and that nobody uses it.
-        Some(slabs) if slabs.has(at as usize) => unsafe { slabs.give_back(at) },
+        Some((slabs, number)) => unsafe { slabs.give_back(number, at) },
         // SAFETY: as above. So `large::take` did return it.
-        _ => unsafe { large::give_back(at, layout) },
+        None => unsafe { large::give_back(at, layout) },
     }
 }
 
 /// Notes that an item is complete. Returns whether there is memory for that.
 pub fn note(item: &Item) -> bool {
-    if SLABS.get().is_none_or(|slabs| !slabs.has(address_of(item))) {
-        return large::note(item);
-    }
-    // SAFETY: the item lies in a chunk. The release comes behind all that was written to the item.
-    unsafe { Chunk::word(address_of(item)).fetch_or(bit(address_of(item)), Release) };
+    let at = address_of(item);
+    let Some((slabs, number)) = find(at) else { return large::note(item) };
+    // Release: it comes behind all that was written to the item.
+    slabs.chunks[number].word(at).fetch_or(bit(at), Release);
     true
 }
 
 /// Calls `each` with all items of the chunk in which this one lies. None of them is freed meanwhile, and `each` must not free one.
 pub fn look_around(item: &Item, each: impl FnMut(&Item)) {
-    if let Some(slabs) = SLABS.get().filter(|slabs| slabs.has(address_of(item))) {
-        slabs.look((address_of(item) - slabs.start) / CHUNK, each);
+    if let Some((slabs, number)) = find(address_of(item)) {
+        slabs.look(number, each);
     }
 }
 
 /// Calls `each` in the same way with all items of the chunk with this number. Returns whether there are chunks from that number on.
 pub fn look_in(number: usize, each: impl FnMut(&Item)) -> bool {
-    let Some(slabs) = SLABS.get().filter(|slabs| number < slabs.used()) else { return false };
+    let Some(slabs) = SLABS.get().filter(|slabs| number < lock(&slabs.unused).next) else { return false };
     slabs.look(number, each);
     true
 }
@@ -150,10 +155,6 @@ pub fn look_in(number: usize, each: impl FnMut(&Item)) -> bool {
 /// Where an item lies.
 pub fn address_of(item: &Item) -> usize {
     item as *const Item as usize
-}
-
-fn chunk_of(at: usize) -> *mut Chunk {
-    (at / CHUNK * CHUNK) as *mut Chunk
 }
 
 /// The bit of an item at this address, in its word of `items`.
@@ -166,204 +167,137 @@ fn lock<T>(guarded: &Mutex<T>) -> MutexGuard<'_, T> {
 }
 
 impl Slabs {
-    fn has(&self, at: usize) -> bool {
-        (self.start..self.end).contains(&at)
-    }
-
     /// A block for so many bytes, if there is one.
     fn take(&self, bytes: usize) -> Option<*mut u8> {
-        let blocks = ROOM / bytes.max(LEAST).next_multiple_of(ALIGN);
+        let blocks = CHUNK / bytes.max(LEAST).next_multiple_of(ALIGN);
         let mut list = lock(&self.lists[blocks]);
-        if list.0.is_null() {
-            let chunk = lock(&self.unused).take(self.end)? as *mut Chunk;
-            // SAFETY: the chunk is in no list, and no block of it is taken, so nobody else uses it.
-            unsafe {
-                chunk.write(Chunk::new(blocks));
-                list.add(chunk);
-            }
-            self.blocks_of(chunk).store(blocks as u16, Relaxed);
+        if *list == NONE {
+            let number = lock(&self.unused).take(self.chunks.len())?;
+            self.chunks[number].begin(blocks as u16);
+            self.add(&mut list, number);
         }
-        let chunk = list.0;
-        // SAFETY: the chunk is in the list, so it has a free block, and the lock guards it.
-        unsafe {
-            let at = Chunk::take(chunk);
-            if (*chunk).taken == blocks {
-                list.remove(chunk);
-            }
-            Some(at)
+        let number = *list as usize - 1;
+        let chunk = &self.chunks[number];
+        let free = chunk.free.load(Relaxed);
+        let place = if free == 0 { chunk.begun.fetch_add(chunk.bytes.load(Relaxed), Relaxed) } else { free - 1 };
+        let at = (self.address(number) + usize::from(place)) as *mut u8;
+        if free > 0 {
+            // SAFETY: a free block that was taken before begins so.
+            chunk.free.store(unsafe { at.cast::<u16>().read() }, Relaxed);
         }
+        if chunk.taken.fetch_add(1, Relaxed) + 1 == blocks as u16 {
+            self.remove(&mut list, number);
+        }
+        Some(at)
     }
 
     /// # Safety
     ///
-    /// It is a block that `take` returned, and nobody uses it.
-    unsafe fn give_back(&self, at: *mut u8) {
-        let chunk = chunk_of(at as usize);
+    /// It is a block of the chunk with this number that `take` returned, and nobody uses it.
+    unsafe fn give_back(&self, number: usize, at: *mut u8) {
+        let chunk = &self.chunks[number];
         // The block is taken so far, so this stays the same until the lock is taken.
-        let blocks = self.blocks_of(chunk).load(Relaxed) as usize;
-        // SAFETY: the lock guards the chunk.
-        unsafe {
-            let mut list = lock(&self.lists[blocks]);
-            Chunk::give_back(chunk, at);
-            if (*chunk).taken == blocks - 1 {
-                list.add(chunk);
-            }
-            if (*chunk).taken > 0 {
-                return;
-            }
-            list.remove(chunk);
-            self.blocks_of(chunk).store(0, Relaxed);
+        let blocks = chunk.blocks.load(Relaxed);
+        let mut list = lock(&self.lists[blocks as usize]);
+        chunk.word(at as usize).fetch_and(!bit(at as usize), Relaxed);
+        let place = (at as usize % CHUNK) as u16;
+        // SAFETY: the caller says that nobody uses it.
+        unsafe { at.cast::<u16>().write(chunk.free.swap(place + 1, Relaxed)) };
+        let taken = chunk.taken.fetch_sub(1, Relaxed) - 1;
+        if taken == blocks - 1 {
+            self.add(&mut list, number);
         }
-        lock(&self.unused).give_back(chunk as usize);
+        if taken == 0 {
+            self.remove(&mut list, number);
+            chunk.blocks.store(0, Relaxed);
+            drop(list);
+            lock(&self.unused).give_back(number, self.address(number));
+        }
     }
 
-    fn blocks_of(&self, chunk: *mut Chunk) -> &AtomicU16 {
-        &self.blocks[(chunk as usize - self.start) / CHUNK]
-    }
-
-    /// How many chunks were ever used.
-    fn used(&self) -> usize {
-        (lock(&self.unused).next - self.start) / CHUNK
+    /// Where this chunk begins.
+    fn address(&self, number: usize) -> usize {
+        self.start + number * CHUNK
     }
 
     fn look(&self, number: usize, mut each: impl FnMut(&Item)) {
-        let chunk = (self.start + number * CHUNK) as *mut Chunk;
-        let blocks = self.blocks[number].load(Relaxed);
+        let chunk = &self.chunks[number];
+        let blocks = chunk.blocks.load(Relaxed);
         let _list = lock(&self.lists[blocks as usize]);
         // Without the lock it may have become a chunk of other blocks, which the next look finds.
-        if blocks == 0 || self.blocks[number].load(Relaxed) != blocks {
+        if blocks == 0 || chunk.blocks.load(Relaxed) != blocks {
             return;
         }
-        // SAFETY: while this has the lock, the chunk has such blocks, and none is freed or taken. A block with its bit has a complete item, of which
-        // only atomic fields change.
-        unsafe {
-            for place in 0..(*chunk).begun {
-                let at = Chunk::block(chunk, place);
-                if Chunk::word(at as usize).load(Acquire) & bit(at as usize) != 0 {
-                    each(&*(at as *const Item));
-                }
+        for place in (0..chunk.begun.load(Relaxed)).step_by(chunk.bytes.load(Relaxed).into()) {
+            let at = self.address(number) + usize::from(place);
+            if chunk.word(at).load(Acquire) & bit(at) != 0 {
+                // SAFETY: a block with its bit has a complete item, of which only atomic fields change. The lock keeps it from being freed.
+                each(unsafe { &*(at as *const Item) });
             }
         }
+    }
+
+    /// Adds a chunk to a list of chunks that have a free block.
+    fn add(&self, list: &mut Link, number: usize) {
+        let link = number as Link + 1;
+        self.chunks[number].before.store(NONE, Relaxed);
+        self.chunks[number].next.store(*list, Relaxed);
+        if let Some(next) = self.linked(*list) {
+            next.before.store(link, Relaxed);
+        }
+        *list = link;
+    }
+
+    fn remove(&self, list: &mut Link, number: usize) {
+        let [before, next] = [&self.chunks[number].before, &self.chunks[number].next].map(|link| link.load(Relaxed));
+        if let Some(next) = self.linked(next) {
+            next.before.store(before, Relaxed);
+        }
+        match self.linked(before) {
+            Some(before) => before.next.store(next, Relaxed),
+            None => *list = next,
+        }
+    }
+
+    fn linked(&self, link: Link) -> Option<&Chunk> {
+        self.chunks.get((link as usize).checked_sub(1)?)
     }
 }
 
 impl Unused {
-    /// A chunk without blocks, if one is left before this end.
-    fn take(&mut self, end: usize) -> Option<usize> {
+    /// The number of a chunk without blocks, if one of so many is left.
+    fn take(&mut self, count: usize) -> Option<usize> {
         self.empty.pop().or_else(|| self.returned.pop()).or_else(|| {
             let next = self.next;
-            (next < end).then(|| {
-                self.next += CHUNK;
-                next
-            })
+            self.next += usize::from(next < count);
+            (next < count).then_some(next)
         })
     }
 
-    fn give_back(&mut self, chunk: usize) {
+    /// The chunk with this number, at this address, has no block any more.
+    fn give_back(&mut self, number: usize, at: usize) {
         if self.empty.len() < MOST_EMPTY {
-            return self.empty.push(chunk);
+            return self.empty.push(number);
         }
-        // SAFETY: the chunk has no block, so nobody needs what is in it. If the kernel refuses, it takes memory until it is used again.
-        unsafe { libc::madvise(chunk as *mut _, CHUNK, libc::MADV_DONTNEED) };
-        self.returned.push(chunk);
-    }
-}
-
-impl List {
-    /// # Safety
-    ///
-    /// The chunk is in no list, and nobody else uses it.
-    unsafe fn add(&mut self, chunk: *mut Chunk) {
-        // SAFETY: the caller has the lock of this list, which owns its first chunk.
-        unsafe {
-            (*chunk).before = ptr::null_mut();
-            (*chunk).next = self.0;
-            if !self.0.is_null() {
-                (*self.0).before = chunk;
-            }
-        }
-        self.0 = chunk;
-    }
-
-    /// # Safety
-    ///
-    /// The chunk is in this list.
-    unsafe fn remove(&mut self, chunk: *mut Chunk) {
-        // SAFETY: the caller has the lock of this list, which owns its chunks.
-        unsafe {
-            let (before, next) = ((*chunk).before, (*chunk).next);
-            if !next.is_null() {
-                (*next).before = before;
-            }
-            if before.is_null() {
-                self.0 = next;
-            } else {
-                (*before).next = next;
-            }
-        }
+        // SAFETY: nobody needs what is in it. If the kernel refuses, it takes memory until it is used again.
+        unsafe { libc::madvise(at as *mut _, CHUNK, libc::MADV_DONTNEED) };
+        self.returned.push(number);
     }
 }
 
 impl Chunk {
-    fn new(blocks: usize) -> Chunk {
-        let (free, before, next) = (ptr::null_mut(), ptr::null_mut(), ptr::null_mut());
-        Chunk { bytes: ROOM / blocks / ALIGN * ALIGN, begun: 0, taken: 0, free, before, next, items: Default::default() }
-    }
-
-    /// The block at this place.
-    ///
-    /// # Safety
-    ///
-    /// The chunk has that place.
-    unsafe fn block(chunk: *mut Chunk, place: usize) -> *mut u8 {
-        // SAFETY: the caller says so.
-        unsafe { chunk.add(1).cast::<u8>().add(place * (*chunk).bytes) }
+    /// It is to have so many blocks, all of which are free.
+    fn begin(&self, blocks: u16) {
+        self.begun.store(0, Relaxed);
+        self.free.store(0, Relaxed);
+        self.bytes.store((CHUNK / usize::from(blocks) / ALIGN * ALIGN) as u16, Relaxed);
+        self.blocks.store(blocks, Relaxed);
     }
 
     /// The word of `items` that has the bit of a block at this address.
-    ///
-    /// # Safety
-    ///
-    /// The block is one of a chunk, and taken as long as the word is used.
-    unsafe fn word<'a>(at: usize) -> &'a AtomicU64 {
-        // SAFETY: the caller says so.
-        unsafe { &(*ptr::addr_of!((*chunk_of(at)).items))[at % CHUNK / LEAST / 64] }
-    }
-
-    /// Takes a block.
-    ///
-    /// # Safety
-    ///
-    /// The caller has the lock of the chunk, which has a free block.
-    unsafe fn take(chunk: *mut Chunk) -> *mut u8 {
-        // SAFETY: the caller says so. A free block that was taken before has the address of the next one.
-        unsafe {
-            (*chunk).taken += 1;
-            let at = (*chunk).free;
-            if at.is_null() {
-                (*chunk).begun += 1;
-                return Chunk::block(chunk, (*chunk).begun - 1);
-            }
-            (*chunk).free = *at as *mut usize;
-            at.cast()
-        }
-    }
-
-    /// Takes a block back.
-    ///
-    /// # Safety
-    ///
-    /// The caller has the lock of the chunk. The block is one of it, and nobody uses it.
-    unsafe fn give_back(chunk: *mut Chunk, at: *mut u8) {
-        // SAFETY: the caller says so.
-        unsafe {
-            // Relaxed: the lock comes before the next item in this block.
-            Chunk::word(at as usize).fetch_and(!bit(at as usize), Relaxed);
-            at.cast::<usize>().write((*chunk).free as usize);
-            (*chunk).free = at.cast();
-            (*chunk).taken -= 1;
-        }
+    fn word(&self, at: usize) -> &AtomicU64 {
+        &self.items[at % CHUNK / LEAST / 64]
     }
 }
 
-const _: () = assert!(align_of::<Item>() <= ALIGN && align_of::<Chunk>() <= ALIGN && size_of::<Chunk>() % ALIGN == 0);
+const _: () = assert!(align_of::<Item>() <= ALIGN);

@@ -5,7 +5,8 @@ use crate::counts::Count;
 use crate::listing::CLASS;
 use crate::request::ERROR;
 use crate::store::Store;
-use crate::usage;
+use nix::sys::resource::{getrusage, UsageWho};
+use nix::sys::time::TimeValLike;
 use std::io::Write;
 use std::process;
 
@@ -32,9 +33,9 @@ fn general(store: &Store, out: &mut Vec<u8>) {
     let (version, own) = (version!(), env!("CARGO_PKG_VERSION"));
     text!(out, "STAT pid {}\r\nSTAT uptime {}\r\n", process::id(), store.books.clock.uptime());
     text!(out, "STAT time {}\r\nSTAT version {version}\r\nSTAT cefrodild {own}\r\n", unix_time());
-    let (user, system) = usage::times();
-    text!(out, "STAT pointer_size 64\r\nSTAT rusage_user {:.6}\r\n", user.as_secs_f64());
-    text!(out, "STAT rusage_system {:.6}\r\n", system.as_secs_f64());
+    let usage = getrusage(UsageWho::RUSAGE_SELF).expect("a process can ask for its own usage");
+    let [user, system] = [usage.user_time(), usage.system_time()].map(|time| time.num_microseconds() as f64 / 1e6);
+    text!(out, "STAT pointer_size 64\r\nSTAT rusage_user {user:.6}\r\nSTAT rusage_system {system:.6}\r\n");
     text!(out, "STAT max_connections {}\r\n", store.options.connections);
     text!(out, "STAT curr_connections {}\r\nSTAT threads {}\r\n", store.seats.taken(), store.options.threads);
     // Clients are always accepted. If there are too many, they are told so.

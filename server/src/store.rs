@@ -4,18 +4,20 @@ use crate::counts::Count;
 use crate::expire::Round;
 use crate::index::{Index, Refused, Seen, Token};
 use crate::item::Item;
-use crate::key_locks::KeyLocks;
 use crate::options::Options;
 use crate::seat::Seats;
-use std::fmt::{self, Debug, Formatter};
 use std::sync::atomic::AtomicU64;
-use std::sync::{Arc, Mutex, MutexGuard};
+use std::sync::{Arc, Mutex, MutexGuard, PoisonError};
+
+/// How many locks there are for all keys.
+const LOCKS: usize = 64;
 
 /// The items, and all that is counted of them.
 pub struct Store {
     pub index: Box<dyn Index>,
     pub books: Arc<Books>,
-    pub(crate) key_locks: KeyLocks,
+    /// Keys share them. A change of a deadline and a change of a value that keeps it must not come between each other's two steps.
+    key_locks: [Mutex<()>; LOCKS],
     pub(crate) round: Mutex<Round>,
     /// The second since the start in which the system refused memory though items had given way.
     pub(crate) helpless: AtomicU64,
@@ -66,16 +68,10 @@ pub(crate) enum Found<T> {
     Absent,
 }
 
-impl Debug for Store {
-    fn fmt(&self, text: &mut Formatter) -> fmt::Result {
-        text.debug_struct("Store").field("options", &self.options).field("books", &self.books).finish_non_exhaustive()
-    }
-}
-
 impl Store {
     /// A store over this index.
     pub fn new(index: Box<dyn Index>, books: Arc<Books>, options: Options) -> Store {
-        let (key_locks, round, helpless) = (KeyLocks::default(), Mutex::default(), AtomicU64::new(u64::MAX));
+        let (key_locks, round, helpless) = ([const { Mutex::new(()) }; LOCKS], Mutex::default(), AtomicU64::new(u64::MAX));
         let seats = Seats::new(options.connections, Arc::clone(&books));
         Store { index, books, key_locks, round, helpless, seats, options }
     }
@@ -157,7 +153,12 @@ impl Store {
 
     /// Locks the key against other changes of its deadline, and those that keep it.
     pub(crate) fn lock(&self, key: &[u8]) -> MutexGuard<'_, ()> {
-        self.key_locks.lock(self.index.hash_of(key))
+        self.lock_hash(self.index.hash_of(key))
+    }
+
+    /// Locks the keys with this hash so.
+    pub(crate) fn lock_hash(&self, hash: u64) -> MutexGuard<'_, ()> {
+        self.key_locks[hash as usize % LOCKS].lock().unwrap_or_else(PoisonError::into_inner)
     }
 
     /// Gives the key's item a new deadline. Returns whether the key has a value.

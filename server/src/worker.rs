@@ -10,7 +10,8 @@ use mio::{Events, Interest, Poll, Token, Waker};
 use slab::Slab;
 use std::io::{self, ErrorKind};
 use std::mem;
-use std::sync::{Arc, Mutex, MutexGuard, PoisonError};
+use std::sync::mpsc::{channel, Receiver, Sender, TryRecvError};
+use std::sync::Arc;
 use std::time::{Duration, Instant};
 
 /// The token of what wakes the worker. Those of connections are smaller.
@@ -23,25 +24,16 @@ const EVENTS: usize = 1024;
 const GRACE: Duration = Duration::from_secs(2);
 
 /// What hands clients to a worker. When it is dropped, the worker ends.
-#[derive(Debug)]
 pub struct Inbox {
-    mail: Arc<Mutex<Mail>>,
+    clients: Option<Sender<Connection>>,
     waker: Arc<Waker>,
 }
 
-/// The clients that wait in an inbox, and whether it has been dropped.
-#[derive(Debug, Default)]
-struct Mail {
-    clients: Vec<Connection>,
-    is_last: bool,
-}
-
 /// The state of a worker's thread.
-#[derive(Debug)]
 pub struct Worker {
     store: Arc<Store>,
     poll: Poll,
-    mail: Arc<Mutex<Mail>>,
+    clients: Receiver<Connection>,
     /// The place of each is its token.
     connections: Slab<Box<Connection>>,
     /// Whose turn it is, though no event came.
@@ -55,24 +47,18 @@ pub struct Worker {
     waker: Arc<Waker>,
 }
 
-fn lock(mail: &Mutex<Mail>) -> MutexGuard<'_, Mail> {
-    mail.lock().unwrap_or_else(PoisonError::into_inner)
-}
-
 impl Inbox {
-    /// Hands a client over, if there is memory for that.
+    /// Hands a client over.
     pub fn hand(&self, client: Connection) -> io::Result<()> {
-        let mut mail = lock(&self.mail);
-        mail.clients.try_reserve(1)?;
-        mail.clients.push(client);
-        drop(mail);
+        let sent = self.clients.as_ref().is_some_and(|clients| clients.send(client).is_ok());
+        sent.then_some(()).ok_or(ErrorKind::BrokenPipe)?;
         self.waker.wake()
     }
 }
 
 impl Drop for Inbox {
     fn drop(&mut self) {
-        lock(&self.mail).is_last = true;
+        self.clients = None;
         if let Err(why) = self.waker.wake() {
             log(format_args!("a worker can't be woken: {why}"));
         }
@@ -84,12 +70,13 @@ impl Worker {
     pub fn new(store: Arc<Store>) -> io::Result<(Worker, Inbox)> {
         let poll = Poll::new()?;
         let waker = Arc::new(Waker::new(poll.registry(), WAKE)?);
-        let inbox = Inbox { mail: Arc::default(), waker: Arc::clone(&waker) };
+        let (sender, clients) = channel();
+        let inbox = Inbox { clients: Some(sender), waker: Arc::clone(&waker) };
         // It need not grow later, when the system may refuse memory.
         let connections = Slab::with_capacity(store.options.connections);
-        let (ready, mail, woke, end) = (Vec::new(), Arc::clone(&inbox.mail), Instant::now(), None);
+        let (ready, woke, end) = (Vec::new(), Instant::now(), None);
         let next_tidy = woke + PAUSE;
-        Ok((Worker { store, poll, mail, connections, ready, end, next_tidy, woke, waker }, inbox))
+        Ok((Worker { store, poll, clients, connections, ready, end, next_tidy, woke, waker }, inbox))
     }
 
     /// Answers clients until the inbox is dropped.
@@ -171,11 +158,12 @@ impl Worker {
     }
 
     fn take_clients(&mut self) {
-        let Mail { clients, is_last } = {
-            let mut mail = lock(&self.mail);
-            Mail { clients: mem::take(&mut mail.clients), is_last: mail.is_last }
+        let is_last = loop {
+            match self.clients.try_recv() {
+                Ok(client) => self.add(client),
+                Err(none) => break none == TryRecvError::Disconnected,
+            }
         };
-        clients.into_iter().for_each(|client| self.add(client));
         if is_last && self.end.is_none() {
             self.end = Some(Instant::now() + GRACE);
             // Each has a last turn, for what it has sent.

@@ -1,11 +1,12 @@
 //! Commands that change what a key has.
 use crate::budget::{cost, Claim};
 use crate::counts::Count;
-use crate::index::{Refused, Token};
+use crate::index::{Over, Refused, Token};
 use crate::item::{new_item, Item, NewItem};
 use crate::number;
 use crate::request::{Change, How, Order};
 use crate::store::{Answer, Changed, Fault, Found, Store};
+use cefrodil_map::Reason;
 
 /// How often a call tries again that others' changes of its key disturbed.
 const TRIES: u32 = 1000;
@@ -24,6 +25,13 @@ impl Store {
             Ok(Answer::Done(_)) => self.books.counts.add(Count::Stored),
             _ => {}
         }
+        match stored {
+            _ if order.compare.is_none() => {}
+            Ok(Answer::Done(_)) => self.books.counts.add(Count::CasHits),
+            Ok(Answer::Exists) => self.books.counts.add(Count::CasBadValue),
+            Ok(_) => self.books.counts.add(Count::CasMisses),
+            Err(_) => {}
+        }
         stored.map_err(|why| self.refuse(order, why))
     }
 
@@ -41,7 +49,7 @@ impl Store {
         let put = self.put(claim, || {
             let fresh = || self.fresh(order, born, data);
             let item = fresh().or_else(|| self.with_more_memory(data.len(), fresh)).ok_or(Refused::Full)?;
-            self.index.put(item)
+            self.index.put(item, Over::Any)
         })?;
         Ok(put.map_or(Answer::NotStored, Answer::Done))
     }
@@ -91,10 +99,10 @@ impl Store {
     fn put_over(&self, key: &[u8], found: Found<()>, next: NewItem) -> Result<Option<Token>, Fault> {
         let bytes = cost(key.len(), next.value().len());
         match found {
-            Found::Absent => self.put(self.make_room(bytes)?, || self.index.put_new(next)),
-            Found::Dead(token) => self.put(self.make_room(bytes)?, || self.index.put_if(token, next)),
+            Found::Absent => self.put(self.make_room(bytes)?, || self.index.put(next, Over::Nothing)),
+            Found::Dead(token) => self.put(self.make_room(bytes)?, || self.index.put(next, Over::Token(token))),
             Found::Live((), token) => {
-                let put = self.put(self.make_room_later(bytes)?, || self.index.put_if(token, next))?;
+                let put = self.put(self.make_room_later(bytes)?, || self.index.put(next, Over::Token(token)))?;
                 // So the old value does not give way to the new one.
                 self.balance(bytes);
                 Ok(put)
@@ -104,7 +112,7 @@ impl Store {
 
     /// Puts an item for which there is room. `None`: its key has no longer what it had.
     fn put(&self, claim: Claim<'_>, put: impl FnOnce() -> Result<Token, Refused>) -> Result<Option<Token>, Fault> {
-        let (put, bytes) = (put(), claim.bytes());
+        let (put, bytes) = (put(), claim.bytes);
         match put {
             Ok(_) => claim.keep(),
             Err(_) => drop(claim),
@@ -126,11 +134,13 @@ impl Store {
 
     /// Deletes the key's value, if it has this token.
     pub fn delete(&self, key: &[u8], compare: Option<Token>) -> Result<Answer, Fault> {
-        Ok(match self.delete_if(key, |token| compare.is_none_or(|compare| compare == token))? {
-            Found::Live(true, token) => Answer::Done(token),
-            Found::Live(false, _) => Answer::Exists,
-            Found::Dead(..) | Found::Absent => Answer::NotFound,
-        })
+        let (count, answer) = match self.delete_if(key, |token| compare.is_none_or(|compare| compare == token))? {
+            Found::Live(true, token) => (Count::DeleteHits, Answer::Done(token)),
+            Found::Live(false, _) => return Ok(Answer::Exists),
+            Found::Dead(..) | Found::Absent => (Count::DeleteMisses, Answer::NotFound),
+        };
+        self.books.counts.add(count);
+        Ok(answer)
     }
 
     /// Removes the key, and returns what it was: if it was live, whether its token was to be deleted.
@@ -142,7 +152,7 @@ impl Store {
                 Found::Live((), token) if !is_meant(token) => return Ok(Found::Live(false, token)),
                 Found::Live((), token) | Found::Dead(token) => token,
             };
-            match self.index.remove(self.index.hash_of(key), token) {
+            match self.index.remove(self.index.hash_of(key), token, Reason::Removed) {
                 Ok(_) if matches!(found, Found::Dead(_)) => return Ok(Found::Dead(token)),
                 Ok(_) => return Ok(Found::Live(true, token)),
                 Err(Refused::Absent) => return Ok(Found::Absent),

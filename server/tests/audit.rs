@@ -21,7 +21,7 @@ fn the_end_of_a_log_returns_its_first_error() {
 
 #[test]
 fn a_file_that_cannot_be_made_is_named() {
-    let why = Audit::create("/no/such/file").expect_err("there is no such folder").to_string();
+    let why = Audit::create("/no/such/file").err().expect("there is no such folder").to_string();
     assert!(why.contains("/no/such/file"), "{why}");
 }
 

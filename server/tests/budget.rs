@@ -1,7 +1,9 @@
 //! The bytes of items and of clients' buffers, what is counted of items that go, and the seats of clients.
-use cefrodild::books::{Books, Leaving};
-use cefrodild::budget::Budget;
+use cefrodil_map::Reason;
+use cefrodild::books::Books;
+use cefrodild::budget::{cost, Budget};
 use cefrodild::counts::Count;
+use cefrodild::item::new_item;
 use cefrodild::options::Options;
 use cefrodild::seat::{Seat, Seats, FREE};
 use std::sync::Arc;
@@ -22,7 +24,7 @@ fn bytes_are_added_and_subtracted() {
     budget.claim(40).keep();
     assert_eq!(state(), (100, false));
     let claim = budget.claim(1);
-    assert_eq!((state(), claim.bytes()), ((101, true), 1));
+    assert_eq!((state(), claim.bytes), ((101, true), 1));
     drop(claim);
     assert_eq!(state(), (100, false), "it was not put");
     budget.leave(60);
@@ -61,27 +63,38 @@ fn what_has_left_should_not_take_much() {
 #[test]
 fn what_gave_way_is_counted() {
     let books = Books::new(0, &Options::default());
+    let leave = |is_live, was_fetched, reason| {
+        let item = new_item(1, 0, if is_live { u64::MAX } else { 0 }, b"key", &[]).expect("there is memory");
+        if was_fetched {
+            item.note_fetched();
+        }
+        books.budget.claim(cost(3, 0)).keep();
+        books.left(&item, reason);
+    };
     for (is_live, was_fetched, times) in [(true, true, 1), (true, false, 2), (false, true, 4), (false, false, 8)] {
-        (0..times).for_each(|_| books.count_gone(Leaving { is_live, was_fetched }));
+        (0..times).for_each(|_| leave(is_live, was_fetched, Reason::Evicted));
     }
-    books.count_unfetched(Leaving { is_live: false, was_fetched: false });
-    books.count_unfetched(Leaving { is_live: false, was_fetched: true });
-    let counts = [Count::Evicted, Count::EvictedUnfetched, Count::Reclaimed, Count::ExpiredUnfetched];
-    assert_eq!(counts.map(|count| books.counts.get(count)), [3, 2, 12, 9]);
+    for was_fetched in [false, true] {
+        leave(false, was_fetched, Reason::Expired);
+        leave(true, was_fetched, Reason::Removed);
+        leave(true, was_fetched, Reason::Replaced);
+    }
+    let counts = [Count::Evicted, Count::EvictedUnfetched, Count::Reclaimed, Count::ExpiredUnfetched, Count::Expired];
+    assert_eq!(counts.map(|count| books.counts.get(count)), [3, 2, 12, 9, 2]);
     books.counts.reset();
-    assert_eq!(counts.map(|count| books.counts.get(count)), [0; 4]);
+    assert_eq!(counts.map(|count| books.counts.get(count)), [0; 5]);
 }
 
 #[test]
 fn so_many_seats() {
     let seats = seats(2, 100);
-    let (first, second) = (seats.take(), seats.take());
-    assert!(first.is_some() && second.is_some() && seats.take().is_none());
+    let (first, second) = (seats.take(0), seats.take(0));
+    assert!(first.is_some() && second.is_some() && seats.take(0).is_none());
     assert_eq!(seats.taken(), 2);
     drop(first);
     assert_eq!(seats.taken(), 1);
-    let third = seats.take();
-    assert!(third.is_some() && seats.take().is_none());
+    let third = seats.take(0);
+    assert!(third.is_some() && seats.take(0).is_none());
     drop((second, third));
     assert_eq!(seats.taken(), 0);
 }
@@ -90,7 +103,7 @@ fn so_many_seats() {
 fn what_clients_hold_is_counted() {
     let books = Arc::new(Books::new(0, &Options { memory: 200_000, ..Options::default() }));
     let seats = Seats::new(2, Arc::clone(&books));
-    let take = || seats.take().expect("a seat is free");
+    let take = || seats.take(0).expect("a seat is free");
     let (mut first, mut second) = (take(), take());
     first.hold(60, None);
     second.hold(40_000, None);
@@ -105,7 +118,7 @@ fn what_clients_hold_is_counted() {
 #[test]
 fn who_holds_most_for_longest_is_cut_off() {
     let seats = seats(3, 1_000);
-    let take = || seats.take().expect("a seat is free");
+    let take = || seats.take(0).expect("a seat is free");
     let (mut first, mut second, mut third) = (take(), take(), take());
     let are_cut = |seats: [&Seat; 3]| seats.map(|seat| seat.cut().is_some());
     first.hold(FREE + 600, None);
@@ -127,7 +140,7 @@ fn who_holds_most_for_longest_is_cut_off() {
 #[test]
 fn who_has_held_less_for_much_longer_is_cut_off() {
     let seats = seats(2, 1_000);
-    let (mut first, mut second) = (seats.take().expect("a seat is free"), seats.take().expect("a seat is free"));
+    let (mut first, mut second) = (seats.take(0).expect("a seat is free"), seats.take(0).expect("a seat is free"));
     first.hold(FREE + 400, None);
     sleep(Duration::from_millis(20));
     second.hold(FREE + 601, None);
@@ -138,7 +151,7 @@ fn who_has_held_less_for_much_longer_is_cut_off() {
 fn a_few_bytes_of_each_client_do_not_count() {
     let books = Arc::new(Books::new(0, &Options::default()));
     let seats = Seats::new(100, Arc::clone(&books));
-    let mut all: Vec<_> = (0..100).map_while(|_| seats.take()).collect();
+    let mut all: Vec<_> = (0..100).map_while(|_| seats.take(0)).collect();
     all.iter_mut().for_each(|seat| seat.hold(FREE, None));
     assert!(all.iter().all(|seat| seat.cut().is_none()));
     assert_eq!(books.budget.buffers(), 100 * FREE as u64);

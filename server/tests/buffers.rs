@@ -25,7 +25,7 @@ fn buffers_take_no_room_of_items() {
     books.budget.leave(1 << 40);
     books.budget.free(1 << 40);
     let store = Store::new(Box::new(index), books, options);
-    let mut seat = store.seats.take().expect("a seat is free");
+    let mut seat = store.seats.take(0).expect("a seat is free");
     seat.count(1 << 40);
     let set = |key: &[u8]| {
         let order = Order { how: How::Set, key, flags: 0, expiry: 0, length: MEGABYTE as usize, compare: None };

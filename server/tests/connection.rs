@@ -6,6 +6,7 @@ use cefrodild::store::Store;
 use plain::client::{Client, MEGABYTE};
 use std::io::{ErrorKind, Read, Write};
 use std::net::{Shutdown, TcpListener, TcpStream};
+use std::os::fd::OwnedFd;
 use std::os::unix::net::UnixStream;
 use std::thread::yield_now;
 use std::time::{Duration, Instant};
@@ -33,8 +34,8 @@ impl Both {
         }
         let arrived = accepted.try_clone().expect("there is a descriptor");
         let client = Client::new(4 * MEGABYTE);
-        let seat = client.store.seats.take().expect("a seat is free");
-        Both { client, connection: Connection::new(Stream::Tcp(mio::net::TcpStream::from_std(accepted)), seat), arrived, stream }
+        let seat = client.store.seats.take(0).expect("a seat is free");
+        Both { client, connection: Connection::new(Stream(OwnedFd::from(accepted).into()), seat), arrived, stream }
     }
 
     fn turn(&mut self) -> Next {
@@ -189,8 +190,8 @@ fn a_client_is_not_idle_while_answers_wait() {
 fn pair(store: &Store) -> (Connection, UnixStream) {
     let (accepted, stream) = UnixStream::pair().expect("there are descriptors");
     accepted.set_nonblocking(true).and(stream.set_nonblocking(true)).expect("they are sockets");
-    let seat = store.seats.take().expect("a seat is free");
-    (Connection::new(Stream::Unix(mio::net::UnixStream::from_std(accepted)), seat), stream)
+    let seat = store.seats.take(0).expect("a seat is free");
+    (Connection::new(Stream(OwnedFd::from(accepted).into()), seat), stream)
 }
 
 /// What is left of a client's answers goes into a small buffer. The thread keeps the large one for the next client.

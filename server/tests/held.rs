@@ -4,6 +4,7 @@ use cefrodild::connection::{Connection, Next};
 use cefrodild::listen::Stream;
 use plain::client::{Client, MEGABYTE};
 use std::io::{ErrorKind, Read, Write};
+use std::os::fd::OwnedFd;
 use std::os::unix::net::UnixStream;
 use std::sync::{Mutex, MutexGuard, PoisonError};
 
@@ -24,8 +25,8 @@ impl Both {
     fn of(client: &Client) -> Both {
         let (accepted, stream) = UnixStream::pair().expect("there are descriptors");
         accepted.set_nonblocking(true).and(stream.set_nonblocking(true)).expect("they are sockets");
-        let seat = client.store.seats.take().expect("a seat is free");
-        Both { connection: Connection::new(Stream::Unix(mio::net::UnixStream::from_std(accepted)), seat), stream }
+        let seat = client.store.seats.take(0).expect("a seat is free");
+        Both { connection: Connection::new(Stream(OwnedFd::from(accepted).into()), seat), stream }
     }
 
     /// Gives the connection turns until it waits for an event.

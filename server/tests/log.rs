@@ -1,8 +1,9 @@
 //! What the index writes into the log: each change and each answer, in order.
+use cefrodil_map::Reason;
 use cefrodild::audit::{digest, Audit};
 use cefrodild::books::Books;
 use cefrodild::counts::Count;
-use cefrodild::index::{Index, Refused};
+use cefrodild::index::{Index, Over, Refused};
 use cefrodild::item::{new_item, NewItem};
 use cefrodild::map_index::MapIndex;
 use cefrodild::options::Options;
@@ -36,7 +37,7 @@ impl Logged {
     }
 
     fn put(&self, key: &[u8], flags: u32) -> u64 {
-        self.index.put(item(key, flags)).expect("there is room")
+        self.index.put(item(key, flags), Over::Any).expect("there is room")
     }
 
     /// The lines but for the head. This ends the log.
@@ -62,15 +63,15 @@ fn each_call_has_its_line() {
     look();
     let first = logged.put(key, 1);
     look();
-    let second = index.put_if(first, item(key, 2)).expect("it has this token");
+    let second = index.put(item(key, 2), Over::Token(first)).expect("it has this token");
     look();
-    let third = index.remove(hash, second).expect("it has this token");
-    assert_eq!(index.remove(hash, second), Err(Refused::Absent));
-    assert_eq!(index.put_if(second, item(key, 3)), Err(Refused::Absent));
-    let fourth = index.put_new(item(key, 4)).expect("it was absent");
+    let third = index.remove(hash, second, Reason::Removed).expect("it has this token");
+    assert_eq!(index.remove(hash, second, Reason::Removed), Err(Refused::Absent));
+    assert_eq!(index.put(item(key, 3), Over::Token(second)), Err(Refused::Absent));
+    let fourth = index.put(item(key, 4), Over::Nothing).expect("it was absent");
     let mut evicted = None;
-    assert!(index.evict(hash, &mut |item| evicted = Some(item.flags)) && evicted == Some(4));
-    assert!(!index.evict(hash, &mut |_| panic!("there is none")));
+    assert!(index.evict(&mut |item| evicted = Some(item.flags)) && evicted == Some(4));
+    assert!(!index.evict(&mut |_| panic!("there is none")));
     let fifth = fourth + 1;
     let line = |kind: &str, at, more: &[u64]| (kind.to_owned(), at, more.to_vec());
     let digest = |flags| digest(&item(key, flags));
@@ -108,9 +109,9 @@ fn each_eviction_has_its_line() {
 fn what_changed_nothing_is_not_in_the_log() {
     let logged = Logged::new("nothing", 100);
     let token = logged.put(b"key", 1);
-    assert_eq!(logged.index.put_new(item(b"key", 2)), Err(Refused::Changed));
-    assert_eq!(logged.index.put_if(token + 1, item(b"key", 2)), Err(Refused::Changed));
-    assert_eq!(logged.index.remove(logged.index.hash_of(b"key"), token + 1), Err(Refused::Changed));
+    assert_eq!(logged.index.put(item(b"key", 2), Over::Nothing), Err(Refused::Changed));
+    assert_eq!(logged.index.put(item(b"key", 2), Over::Token(token + 1)), Err(Refused::Changed));
+    assert_eq!(logged.index.remove(logged.index.hash_of(b"key"), token + 1, Reason::Removed), Err(Refused::Changed));
     let lines = logged.lines();
     assert_eq!(lines.iter().map(|(kind, ..)| kind.as_str()).collect::<Vec<_>>(), ["put"]);
 }

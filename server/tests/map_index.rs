@@ -1,9 +1,10 @@
 //! The index of items over Cefrodil's.
+use cefrodil_map::Reason;
 use cefrodild::audit::Audit;
 use cefrodild::books::Books;
 use cefrodild::budget::cost;
 use cefrodild::counts::Count;
-use cefrodild::index::{Index, Refused, Token};
+use cefrodild::index::{Index, Over, Refused, Token};
 use cefrodild::item::new_item;
 use cefrodild::map_index::{shards_for, MapIndex};
 use cefrodild::options::Options;
@@ -14,7 +15,7 @@ use std::sync::Arc;
 fn put(index: &MapIndex, books: &Books, key: &[u8], flags: u32) -> Token {
     books.budget.claim(cost(key.len(), 1)).keep();
     let item = new_item(1, flags, u64::MAX, key, &[&[0]]).expect("there is memory");
-    index.put(item).expect("there is room")
+    index.put(item, Over::Any).expect("there is room")
 }
 
 fn books() -> Arc<Books> {
@@ -40,11 +41,11 @@ fn a_token_names_one_put_of_a_key() {
         assert_eq!(flags_of(&index, key, old), Some(1));
         let new = put(&index, &books, key, 2);
         assert_eq!((flags_of(&index, key, old), flags_of(&index, key, new)), (None, Some(2)));
-        assert_eq!(index.remove(hash, old), Err(Refused::Changed));
+        assert_eq!(index.remove(hash, old, Reason::Removed), Err(Refused::Changed));
         assert_eq!(flags_of(&index, key, new), Some(2));
-        assert!(index.remove(hash, new).is_ok());
+        assert!(index.remove(hash, new, Reason::Removed).is_ok());
         index.look(&[key], &mut |_, seen| assert!(matches!(seen, Ok(None))));
-        assert_eq!((index.remove(hash, new), flags_of(&index, key, new)), (Err(Refused::Absent), None));
+        assert_eq!((index.remove(hash, new, Reason::Removed), flags_of(&index, key, new)), (Err(Refused::Absent), None));
         assert_eq!((index.len(), books.budget.used()), (0, 0), "its bytes are given back");
     }
 }
@@ -54,13 +55,13 @@ fn a_condition_that_is_not_met_changes_nothing() {
     let books = books();
     let index = MapIndex::open(1000, 1, &books, None).expect("there is memory");
     let (key, item) = (b"key".as_slice(), |flags| new_item(1, flags, u64::MAX, b"key", &[&[0]]).expect("there is memory"));
-    assert_eq!(index.put_if(1, item(1)), Err(Refused::Absent));
-    assert_eq!(index.remove(index.hash_of(key), 1), Err(Refused::Absent));
+    assert_eq!(index.put(item(1), Over::Token(1)), Err(Refused::Absent));
+    assert_eq!(index.remove(index.hash_of(key), 1, Reason::Removed), Err(Refused::Absent));
     let old = put(&index, &books, key, 2);
     let new = put(&index, &books, key, 3);
-    assert_eq!(index.put_new(item(4)), Err(Refused::Changed));
-    assert_eq!(index.put_if(old, item(5)), Err(Refused::Changed));
-    assert_eq!(index.remove(index.hash_of(key), old), Err(Refused::Changed));
+    assert_eq!(index.put(item(4), Over::Nothing), Err(Refused::Changed));
+    assert_eq!(index.put(item(5), Over::Token(old)), Err(Refused::Changed));
+    assert_eq!(index.remove(index.hash_of(key), old, Reason::Removed), Err(Refused::Changed));
     assert_eq!(flags_of(&index, key, new), Some(3));
     assert_eq!((index.len(), books.budget.used()), (1, cost(key.len(), 1)));
 }
@@ -72,11 +73,11 @@ fn a_condition_that_is_met() {
     let (key, bytes) = (b"key".as_slice(), cost(3, 1));
     let item = |flags| new_item(1, flags, u64::MAX, key, &[&[0]]).expect("there is memory");
     books.budget.claim(bytes).keep();
-    let first = index.put_new(item(1)).expect("it was absent");
+    let first = index.put(item(1), Over::Nothing).expect("it was absent");
     books.budget.claim(bytes).keep();
-    let second = index.put_if(first, item(2)).expect("it has this token");
+    let second = index.put(item(2), Over::Token(first)).expect("it has this token");
     assert_eq!(flags_of(&index, key, second), Some(2));
-    assert!(index.remove(index.hash_of(key), second).is_ok());
+    assert!(index.remove(index.hash_of(key), second, Reason::Removed).is_ok());
     index.look(&[key], &mut |_, seen| assert!(matches!(seen, Ok(None))));
     assert_eq!((index.len(), books.budget.used()), (0, 0));
 }
@@ -115,7 +116,7 @@ fn items_that_were_removed_or_replaced_did_not_give_way() {
     let index = MapIndex::open(1000, 1, &books, None).expect("there is memory");
     put(&index, &books, b"key", 1);
     let token = put(&index, &books, b"key", 2);
-    assert!(index.remove(index.hash_of(b"key"), token).is_ok());
+    assert!(index.remove(index.hash_of(b"key"), token, Reason::Removed).is_ok());
     assert_eq!((books.counts.get(Count::Evicted), index.len(), books.budget.used()), (0, 0, 0));
 }
 
@@ -155,10 +156,10 @@ fn each_item_is_evicted_once() {
         put(&index, &books, &[key], key.into());
     }
     let mut evicted = BTreeSet::new();
-    for near in 0..100 {
-        assert!(index.evict(near, &mut |item| assert!(evicted.insert(item.flags))));
+    for _ in 0..100 {
+        assert!(index.evict(&mut |item| assert!(evicted.insert(item.flags))));
     }
-    assert!(!index.evict(0, &mut |_| panic!("there is none")));
+    assert!(!index.evict(&mut |_| panic!("there is none")));
     assert_eq!((books.counts.get(Count::Evicted), index.len(), books.budget.used()), (100, 0, 0));
 }
 
@@ -167,7 +168,7 @@ fn what_has_expired_is_not_counted_as_evicted() {
     let books = books();
     let index = MapIndex::open(1000, 1, &books, None).expect("there is memory");
     books.budget.claim(cost(3, 0)).keep();
-    assert!(index.put_new(new_item(1, 0, 0, b"key", &[]).expect("there is memory")).is_ok());
-    assert!(index.evict(0, &mut |item| assert_eq!(item.key(), b"key")));
+    assert!(index.put(new_item(1, 0, 0, b"key", &[]).expect("there is memory"), Over::Nothing).is_ok());
+    assert!(index.evict(&mut |item| assert_eq!(item.key(), b"key")));
     assert_eq!((books.counts.get(Count::Evicted), books.counts.get(Count::Reclaimed)), (0, 1));
 }

@@ -12,6 +12,7 @@ use cefrodild::worker::Worker;
 use std::alloc::{GlobalAlloc, Layout, System};
 use std::cell::Cell;
 use std::io::{ErrorKind, Read, Write};
+use std::os::fd::OwnedFd;
 use std::os::unix::net::UnixStream;
 use std::ptr;
 use std::sync::{Arc, Mutex, MutexGuard, Once, PoisonError};
@@ -85,8 +86,8 @@ impl Client {
     fn of(store: &Store) -> Client {
         let (accepted, stream) = UnixStream::pair().expect("there are descriptors");
         accepted.set_nonblocking(true).and(stream.set_nonblocking(true)).expect("they are sockets");
-        let seat = store.seats.take().expect("a seat is free");
-        Client { connection: Connection::new(Stream::Unix(mio::net::UnixStream::from_std(accepted)), seat), stream }
+        let seat = store.seats.take(0).expect("a seat is free");
+        Client { connection: Connection::new(Stream(OwnedFd::from(accepted).into()), seat), stream }
     }
 
     /// Gives the connection turns. Returns whether it goes on.

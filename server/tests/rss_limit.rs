@@ -19,9 +19,9 @@ fn bounded(bytes: u64) -> Budget {
 
 #[test]
 fn what_the_process_does_not_take_is_room() {
-    let most = high().most();
+    let most = high().most;
     assert!((HIGH - 1000 * MEGABYTE..HIGH).contains(&most), "{most}");
-    assert_eq!(RssLimit::new(1).expect("the system tells").most(), 0);
+    assert_eq!(RssLimit::new(1).expect("the system tells").most, 0);
     let budget = Budget::new(0, 0);
     let most = budget.bound_process(HIGH).expect("the system tells");
     assert!(most > HIGH - 1000 * MEGABYTE && budget.limit() == most, "{most}");
@@ -31,7 +31,7 @@ fn what_the_process_does_not_take_is_room() {
 fn items_have_what_they_take_and_what_is_free() {
     let limit = high();
     let next = |taken, used| limit.next_limit(taken, used, 1);
-    let most = limit.most();
+    let most = limit.most;
     assert_eq!(next(HIGH - 10, most / 2), most / 2 + 10);
     assert_eq!(next(HIGH, most / 2), most / 2);
     assert_eq!(next(HIGH + 10, most / 2), most / 2 - 10);
@@ -43,7 +43,7 @@ fn items_have_what_they_take_and_what_is_free() {
 #[test]
 fn a_larger_item_takes_a_larger_step() {
     let limit = high();
-    let most = limit.most();
+    let most = limit.most;
     let next = |over, bytes| limit.next_limit(HIGH + over, most, bytes);
     assert_eq!(next(most, most / 16), most - most / 4);
     assert_eq!(next(10, most / 16), most - 10, "but no larger than it must be");

@@ -9,6 +9,7 @@ use plain::draw::Draw;
 use std::io::{self, ErrorKind, Read, Write};
 use std::mem::size_of;
 use std::os::fd::AsRawFd;
+use std::os::fd::OwnedFd;
 use std::os::unix::net::UnixStream;
 use std::sync::Arc;
 use std::thread::{spawn, yield_now};
@@ -111,8 +112,8 @@ fn narrow_pair() -> (UnixStream, UnixStream) {
 /// A client of the worker whose inbox this is.
 fn connected(store: &Store, inbox: &Inbox, number: usize) -> Slow {
     let (end, stream) = narrow_pair();
-    let seat = store.seats.take().expect("a seat is free");
-    inbox.hand(Connection::new(Stream::Unix(mio::net::UnixStream::from_std(end)), seat)).expect("the worker takes it");
+    let seat = store.seats.take(0).expect("a seat is free");
+    inbox.hand(Connection::new(Stream(OwnedFd::from(end).into()), seat)).expect("the worker takes it");
     Slow::new(number, stream)
 }
 

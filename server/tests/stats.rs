@@ -153,7 +153,7 @@ fn the_process_and_its_time() {
 #[test]
 fn seats_that_are_taken() {
     let mut client = Client::new(MEGABYTE);
-    let seats: Vec<_> = (0..3).map(|_| client.store.seats.take().expect("it is free")).collect();
+    let seats: Vec<_> = (0..3).map(|_| client.store.seats.take(0).expect("it is free")).collect();
     assert_eq!(stats(&mut client, "", "curr_connections"), "3");
     drop(seats);
     assert_eq!(stats(&mut client, "", "curr_connections"), "0");
@@ -222,7 +222,7 @@ fn how_long_it_has_run() {
 #[test]
 fn connections_are_always_accepted() {
     let mut client = Client::new(MEGABYTE);
-    let _seat = client.store.seats.take().expect("it is free");
+    let _seat = client.store.seats.take(0).expect("it is free");
     assert_eq!(stats(&mut client, "", "accepting_conns listen_disabled_num connection_structures"), "1 0 1");
 }
 

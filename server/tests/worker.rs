@@ -7,6 +7,7 @@ use cefrodild::worker::{Inbox, Worker};
 use plain::client::{Client, MEGABYTE};
 use std::io::{self, Read, Write};
 use std::net::{TcpListener, TcpStream};
+use std::os::fd::OwnedFd;
 use std::sync::Arc;
 use std::thread::{spawn, yield_now, JoinHandle};
 use std::time::{Duration, Instant};
@@ -44,10 +45,8 @@ impl Working {
         stream.set_read_timeout(Some(LIMIT)).expect("it is a socket");
         let (accepted, _) = self.listener.accept().expect("one has connected");
         accepted.set_nonblocking(true).expect("it is a socket");
-        let seat = self.store.seats.take().expect("a seat is free");
-        self.inbox
-            .hand(Connection::new(Stream::Tcp(mio::net::TcpStream::from_std(accepted)), seat))
-            .expect("the worker takes it");
+        let seat = self.store.seats.take(0).expect("a seat is free");
+        self.inbox.hand(Connection::new(Stream(OwnedFd::from(accepted).into()), seat)).expect("the worker takes it");
         stream
     }
 

@@ -8,7 +8,7 @@ use crate::core::Core;
 use crate::error::OpenError;
 use crate::settings::Settings;
 use crate::wait::TRIES;
-use cefrodil::{Cache, Shape};
+use cefrodil::{Cache, Mix, Shape};
 use std::collections::hash_map::RandomState;
 use std::fmt::{self, Debug, Formatter};
 use std::hash::{BuildHasher, Hash};
@@ -155,6 +155,7 @@ impl<K, V, S> ObjectBuilder<K, V, S> {
     /// - An entry that alone is heavier than `most` is refused: [`InsertError::TooHeavy`](crate::InsertError::TooHeavy). What its key had stays.
     /// - The map is still bounded by its number of entries, too. Take a capacity for as many entries as fit by their weight.
     /// - [`weight`](ObjectMap::weight) is the sum. Objects that have left and wait to be freed don't count.
+    /// - [`set_most_weight`](ObjectMap::set_most_weight) changes `most`.
     pub fn max_weight(mut self, most: u64, weigher: impl Fn(&K, &V) -> u64 + Send + Sync + 'static) -> Self {
         self.hears.weigher = Some((most, Box::new(move |object| weigher(&object.key, &object.value))));
         self
@@ -192,18 +193,20 @@ impl<O: Held, S> ObjectInner<O, S> {
         hears: Hears<O>,
     ) -> Result<ObjectInner<O, S>, OpenError> {
         let count = settings.handles();
-        let mut handles = Cache::open(shape, shards, count).map_err(OpenError::of)?;
-        let Settings { hasher, life, idle, threads, .. } = settings;
+        let Settings { hasher, once, life, idle, threads, .. } = settings;
+        // `ObjectInner::hash` mixes what the hasher does not spread, so that a hash says which shard its key has.
+        let shape = Shape { mix: Mix::None, ..*shape };
+        let mut handles = Cache::open(&shape, shards, count).map_err(OpenError::of)?;
         let Hears { listener, freed, weigher } = hears;
         let capacity = handles[0].capacity();
         Ok(ObjectInner {
             core: Core::new(handles, capacity, life, idle, tries),
             epochs: Epochs::new(threads),
             hasher,
+            mixes: !once,
             listener,
             freed,
-            weights: weigher.map(|(most, weigher)| Weights::new(most, weigher)),
-            shards,
+            weights: weigher.map(|(most, weigher)| Weights::new(most, weigher, shards)),
             objects: PhantomData,
         })
     }

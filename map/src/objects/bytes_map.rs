@@ -34,7 +34,9 @@ pub struct BytesBuilder<H, S = RandomState> {
 impl<H: Head> BytesMap<H> {
     /// Chooses how to open a map for at least this many entries.
     pub fn builder(capacity: usize) -> BytesBuilder<H> {
-        BytesBuilder { settings: Settings::new(capacity), hears: Hears::nothing() }
+        // The sum of what they weigh has no bound, and `evict` knows how many each shard has.
+        let hears = Hears { weigher: Some((u64::MAX, Box::new(|_| 0))), ..Hears::nothing() };
+        BytesBuilder { settings: Settings::new(capacity), hears }
     }
 }
 
@@ -121,24 +123,23 @@ impl<H: Head, S> BytesMap<H, S> {
         look(pinned.state_or_look(hash, &Any, reply, 1).map(|state| state.object()).ok_or(GetError::Busy))
     }
 
-    /// Evicts the block that would give way to a new key next, in a shard that the number draws, or if that shard is empty, in another one. Numbers in a
-    /// row draw all shards. Calls `see` with the block, which stays until `see` returns, and with the moment of the eviction. Then the listener hears of
-    /// the block. `None`: the map is empty.
+    /// Evicts the block that would give way to a new key next, in a shard with many blocks. Calls `see` with the block, which stays until `see`
+    /// returns, and with the moment of the eviction. Then the listener hears of the block. `None`: the map is empty.
     ///
     /// # Errors
     ///
     /// [`RemoveError`]: nothing was evicted.
-    pub fn evict<R>(&self, draw: u64, see: impl FnOnce(&Bytes<H>, u64) -> R) -> Result<Option<R>, RemoveError> {
-        self.inner.evict(draw, self.inner.core.tries, see)
+    pub fn evict<R>(&self, see: impl FnOnce(&Bytes<H>, u64) -> R) -> Result<Option<R>, RemoveError> {
+        self.inner.evict(self.inner.core.tries, see)
     }
 
-    /// As [`ObjectMap::remove_stamped`](crate::ObjectMap::remove_stamped).
+    /// As [`ObjectMap::remove_stamped`](crate::ObjectMap::remove_stamped). The listener hears this reason.
     ///
     /// # Errors
     ///
     /// [`IfError`]: this call removed nothing.
-    pub fn remove_stamped(&self, hash: u64, since: u64) -> Result<u64, IfError> {
-        self.inner.remove_stamped(hash, since)
+    pub fn remove_stamped(&self, hash: u64, since: u64, reason: Reason) -> Result<u64, IfError> {
+        self.inner.remove_stamped(hash, since, reason)
     }
 }
 

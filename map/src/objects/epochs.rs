@@ -102,6 +102,14 @@ impl Epochs {
         Place::Shared(since)
     }
 
+    #[cold]
+    fn end_shared(&self, since: u64) {
+        let mut shared = lock(&self.shared);
+        if let Some(place) = shared.iter().position(|pinned| *pinned == since) {
+            shared.swap_remove(place);
+        }
+    }
+
     /// Retires an object, which has left the index by a call that returned it. The thread has claimed this slot, or has none. Returns the objects
     /// that may be freed now.
     pub fn retire(&self, slot: Option<usize>, word: u64) -> Vec<u64> {
@@ -189,12 +197,7 @@ impl Drop for Guard<'_> {
                     pin.since.store(NONE, Release);
                 }
             }
-            Place::Shared(since) => {
-                let mut shared = lock(&self.epochs.shared);
-                if let Some(place) = shared.iter().position(|pinned| *pinned == since) {
-                    shared.swap_remove(place);
-                }
-            }
+            Place::Shared(since) => self.epochs.end_shared(since),
         }
     }
 }

@@ -7,26 +7,18 @@ use crate::error::RemoveError;
 use crate::stats::Kind;
 use cefrodil::{Evict, EvictError, Reply, TurnError};
 
-/// Multiples of this come to each shard, in an order that looks random.
-const STEP: u64 = 0x9e37_79b9_7f4a_7c15;
-
-/// How many hashes are tried for each shard before all shards are taken to be empty: then it isn't so with a chance of 2^-46 at most.
-const HASHES_OF_A_SHARD: u64 = 32;
-
 impl<O: Held, S> ObjectInner<O, S> {
-    /// Evicts the object that would give way next in a shard that this number draws, or if that shard is empty, in another one. Calls `see` with it
-    /// before it is retired, and with the moment. `None`: the map is empty.
-    pub fn evict<R>(&self, draw: u64, tries: u32, see: impl FnOnce(&O, u64) -> R) -> Result<Option<R>, RemoveError> {
-        let mut hash = draw.wrapping_mul(STEP);
-        for _ in 0..=HASHES_OF_A_SHARD * u64::from(self.shards) {
+    /// Evicts the object that would give way next in a shard with many objects, so that each keeps its share. If other threads are only about to
+    /// put these, another shard evicts. Calls `see` with the object before it is retired, and with the moment. `None`: there is none.
+    pub fn evict<R>(&self, tries: u32, see: impl FnOnce(&O, u64) -> R) -> Result<Option<R>, RemoveError> {
+        for hash in self.weights.iter().flat_map(Weights::fullest_first) {
             if let Evict::Evicted { at, old } = self.evict_in_shard(hash, tries)? {
                 self.core.slots.count(Kind::Evicted);
-                let left = self.leaving(old.value[0]);
+                let left = self.leaving(hash, old.value[0]);
                 let seen = see(left.object(), at);
                 left.tell(Reason::Evicted);
                 return Ok(Some(seen));
             }
-            hash = hash.wrapping_add(STEP);
         }
         Ok(None)
     }
@@ -49,25 +41,30 @@ impl<O: Held, S> ObjectInner<O, S> {
         self.weights.as_ref().is_some_and(Weights::is_over)
     }
 
+    /// Changes what objects may weigh together, and evicts what is too much.
+    pub fn set_most_weight(&self, most: u64) -> Result<(), RemoveError> {
+        self.weights.iter().for_each(|weights| weights.set_most(most));
+        self.evict_to_bound(self.core.tries).map(drop).map_err(|why| self.core.refused(why))
+    }
+
     /// Makes room for an object whose weight was counted, and which is about to be put under this hash. If it replaces another one, that is about to
     /// leave, and `evict_to_bound` comes after the put. Returns whether objects were evicted.
     #[inline(never)]
     pub fn make_room(&self, hash: u64, tries: u32) -> Result<bool, RemoveError> {
         match self.core.slots.call(|handle| handle.get_or_turn(hash)) {
             Reply::Found { .. } => Ok(false),
-            Reply::Absent { .. } | Reply::Busy => self.evict_to_bound(hash, tries),
+            Reply::Absent { .. } | Reply::Busy => self.evict_to_bound(tries),
         }
     }
 
-    /// Evicts objects until the others weigh no more than they may, from shards that the hash of a put draws. The put's own shard would not do: then
-    /// some shards would keep much less than their share. Returns whether it evicted some.
+    /// Evicts objects until the others weigh no more than they may. Returns whether it evicted some.
     #[inline(never)]
-    pub fn evict_to_bound(&self, hash: u64, tries: u32) -> Result<bool, RemoveError> {
-        let mut draws = hash;
+    pub fn evict_to_bound(&self, tries: u32) -> Result<bool, RemoveError> {
+        let mut has_evicted = false;
         // If there is none, other threads are about to put what weighs too much. They come here, too, after their puts.
-        while self.is_too_heavy() && self.evict(draws, tries, |_, _| ())?.is_some() {
-            draws = draws.wrapping_add(1);
+        while self.is_too_heavy() && self.evict(tries, |_, _| ())?.is_some() {
+            has_evicted = true;
         }
-        Ok(draws != hash)
+        Ok(has_evicted)
     }
 }

@@ -21,11 +21,11 @@ pub(crate) struct ObjectInner<O: Held, S> {
     pub core: Core<Handle<1>, ()>,
     pub epochs: Epochs,
     pub hasher: S,
+    /// Whether that may spread hashes badly.
+    pub mixes: bool,
     pub listener: Option<Listener<O>>,
     pub freed: Option<Freed<O>>,
     pub weights: Option<Weights<O>>,
-    /// How many shards the index has.
-    pub shards: u32,
     pub objects: PhantomData<O>,
 }
 
@@ -82,11 +82,11 @@ impl<O: Held, S> ObjectInner<O, S> {
         self.core.flights.detach(Print::of_hash(hash));
     }
 
-    /// An object has left the index, by a call that returned its word.
-    pub fn leaving(&self, word: u64) -> Left<'_, O, S> {
+    /// An object has left the index, by a call that returned its word. Its shard is that of this hash.
+    pub fn leaving(&self, hash: u64, word: u64) -> Left<'_, O, S> {
         let left = Left { inner: self, word };
         if let Some(weights) = &self.weights {
-            weights.give_back(left.object().weight());
+            weights.give_back(hash, left.object().weight());
         }
         left
     }
@@ -167,8 +167,19 @@ fn contain(call: impl FnOnce()) {
 impl<O: Held, S: BuildHasher> ObjectInner<O, S> {
     #[inline]
     pub fn hash<Q: Hash + ?Sized>(&self, key: &Q) -> u64 {
-        self.hasher.hash_one(key)
+        let hash = self.hasher.hash_one(key);
+        if self.mixes {
+            mix(hash)
+        } else {
+            hash
+        }
     }
+}
+
+/// Spreads a hash: the finalizer of `MurmurHash3`.
+fn mix(hash: u64) -> u64 {
+    let fold = |hash: u64| hash ^ (hash >> 33);
+    fold(fold(fold(hash).wrapping_mul(0xff51_afd7_ed55_8ccd)).wrapping_mul(0xc4ce_b9fe_1a85_ec53))
 }
 
 /// An object that has left the index. It is retired when this is dropped, also by a panic.

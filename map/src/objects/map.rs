@@ -3,7 +3,7 @@ use super::builder::ObjectBuilder;
 use super::inner::ObjectInner;
 use super::object::Object;
 use super::weights::Weights;
-use crate::error::OpenError;
+use crate::error::{OpenError, RemoveError};
 use crate::stats::Stats;
 use std::borrow::Borrow;
 use std::collections::hash_map::RandomState;
@@ -82,6 +82,15 @@ impl<K, V, S> ObjectMap<K, V, S> {
     #[must_use]
     pub fn weight(&self) -> u64 {
         self.inner.weights.as_ref().map_or(0, Weights::sum)
+    }
+
+    /// Changes the bound on what the entries weigh, and evicts until they weigh no more. Without a weigher there is no bound.
+    ///
+    /// # Errors
+    ///
+    /// [`RemoveError`]: the next put evicts what is too much.
+    pub fn set_most_weight(&self, most: u64) -> Result<(), RemoveError> {
+        self.inner.set_most_weight(most)
     }
 
     /// Frees the objects that have left the map and that no call uses. Returns how many still wait. A program whose objects are large calls

@@ -230,7 +230,7 @@ impl<O: Held, S> ObjectInner<O, S> {
         if self.listener.is_some() && HEARING.get() >= MOST_HEARING {
             return Err(InsertError::TooDeep);
         }
-        let claim = Claim::of(self.weights.as_ref(), object.weight()).ok_or(InsertError::TooHeavy)?;
+        let claim = Claim::of(self.weights.as_ref(), hash, object.weight()).ok_or(InsertError::TooHeavy)?;
         let has_evicted = self.is_too_heavy() && self.make_room(hash, tries).map_err(InsertError::of_eviction)?;
         Ok((claim, has_evicted))
     }
@@ -238,11 +238,11 @@ impl<O: Held, S> ObjectInner<O, S> {
     // Ends a put: what gave way is retired. Others give way if they weigh too much with what was put over an object.
     fn end(&self, hash: u64, Done { mut put, old }: Done, has_evicted: bool, tries: u32) -> Put {
         if let Some((word, reason)) = old {
-            self.leaving(word).tell(reason);
+            self.leaving(hash, word).tell(reason);
         }
         if self.is_too_heavy() {
             // If there is no turn, the next put does this.
-            let _ = self.evict_to_bound(hash, tries);
+            let _ = self.evict_to_bound(tries);
         }
         if has_evicted && put.did == Inserted::New {
             put.did = Inserted::Evicted;

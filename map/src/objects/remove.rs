@@ -69,7 +69,7 @@ where
     ///
     /// [`IfError`]: this call removed nothing.
     pub fn remove_stamped(&self, hash: u64, since: u64) -> Result<u64, IfError> {
-        self.inner.remove_stamped(hash, since)
+        self.inner.remove_stamped(hash, since, Reason::Removed)
     }
 }
 
@@ -100,13 +100,13 @@ impl<O: Held, S> ObjectInner<O, S> {
             _ => self.core.slots.call(take),
         })?;
         self.core.slots.count(Kind::Removed);
-        self.leaving(taken.old.value[0]).tell(reason);
+        self.leaving(hash, taken.old.value[0]).tell(reason);
         Ok(taken.at)
     }
 
-    pub fn remove_stamped(&self, hash: u64, since: u64) -> Result<u64, IfError> {
+    pub fn remove_stamped(&self, hash: u64, since: u64, reason: Reason) -> Result<u64, IfError> {
         self.detach(hash);
-        self.take_if(hash, since, Reason::Removed).map_err(|why| match why {
+        self.take_if(hash, since, reason).map_err(|why| match why {
             TurnError::Call(PutIfError::NotThere { at }) => IfError::NotThere { at },
             TurnError::Call(PutIfError::Changed { since }) => IfError::Changed { since },
             TurnError::Call(_) => self.core.refused(IfError::Spent),
@@ -150,7 +150,7 @@ impl<O: Held, S: BuildHasher> ObjectInner<O, S> {
     {
         let hash = self.hash(key);
         match self.generation_at(hash, key, since) {
-            Ok(_) => self.remove_stamped(hash, since),
+            Ok(_) => self.remove_stamped(hash, since, Reason::Removed),
             Err(IfError::Busy) => Err(self.core.refused(IfError::Busy)),
             Err(why) => Err(why),
         }

@@ -85,7 +85,7 @@ impl<K, V, S> ObjectMap<K, V, S> {
             let taken = inner.core.slots.in_turn(inner.core.tries, || inner.core.slots.call(|handle| handle.try_take(hash)));
             if let Take::Taken { old, .. } = taken.map_err(ClearError::of_removal)? {
                 inner.core.slots.count(Kind::Removed);
-                inner.leaving(old.value[0]).tell(Reason::Removed);
+                inner.leaving(hash, old.value[0]).tell(Reason::Removed);
             }
         }
         Ok(())

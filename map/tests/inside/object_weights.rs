@@ -1,9 +1,10 @@
 //! A bound on weights, and an eviction that gets no turn.
-use super::one_shard;
 use super::turns::Turn;
+use super::{done, one_shard};
 use crate::slots::BEFORE_CALL;
-use crate::{Block, BytesMap, Head, InsertError, Inserted, ObjectMap, RemoveError};
+use crate::{Block, BytesMap, Head, InsertError, Inserted, ObjectBuilder, ObjectMap, RemoveError};
 use cefrodil::Handle;
+use std::hash::{BuildHasher, BuildHasherDefault, Hasher};
 use std::sync::{Arc, Mutex, OnceLock};
 
 type Numbers = ObjectMap<u64, u64>;
@@ -53,6 +54,52 @@ fn a_new_key_that_gets_no_turn_to_make_room_is_refused() {
     assert_eq!((map.insert(2, 50).unwrap(), map.weight(), map.len()), (Inserted::Evicted, 50, 1));
 }
 
+/// Spreads nothing.
+#[derive(Default)]
+struct Plain(u64);
+
+impl Hasher for Plain {
+    fn write(&mut self, _: &[u8]) {
+        unreachable!("a key is a number")
+    }
+
+    fn write_u64(&mut self, number: u64) {
+        self.0 = number;
+    }
+
+    fn finish(&self) -> u64 {
+        self.0
+    }
+}
+
+#[test]
+fn each_shard_keeps_its_share() {
+    keep_shares(ObjectMap::builder(1_600));
+    keep_shares(ObjectMap::builder(1_600).hasher(BuildHasherDefault::<Plain>::default()));
+}
+
+// Of 800 objects, of which each tenth is heavy, a shard has a sixteenth.
+fn keep_shares<S: BuildHasher>(builder: ObjectBuilder<u64, u64, S>) {
+    let map = builder.shards(16).threads(1).max_weight(1_520, |_, value| *value).open().unwrap();
+    for key in 0..20_000 {
+        map.insert(key, if key % 10 == 0 { 10 } else { 1 }).unwrap();
+    }
+    let mut shards = [0; 16];
+    map.for_each(|key, _| shards[(map.hash_of(key) >> 48) as usize % 16] += 1).unwrap();
+    assert!(shards.iter().all(|number| (number * 16_u64).abs_diff(map.len() as u64) <= 80), "{shards:?}");
+}
+
+#[test]
+fn a_bound_that_shrinks_without_a_turn_says_so() {
+    let map = Numbers::builder(100).shards(1).max_weight(10, |_, value| *value).open_shaped(&one_shard(100), 1, TRIES).unwrap();
+    (0..10).for_each(|key| done(map.insert(key, 1).unwrap()));
+    let turn = Turn::begin(&map.inner.core.slots, Handle::try_entries);
+    assert_eq!(map.set_most_weight(5), Err(RemoveError::Held));
+    drop(turn);
+    assert_eq!((map.weight(), map.stats().refused), (10, 1));
+    assert_eq!((map.insert(10, 1).unwrap(), map.weight()), (Inserted::Evicted, 5));
+}
+
 /// A head of blocks that have nothing else.
 struct Empty(#[allow(dead_code)] u8);
 
@@ -70,8 +117,8 @@ fn an_eviction_without_a_turn_says_so() {
     let map = BytesMap::<Empty>::builder(100).shards(1).open().unwrap();
     map.put(Block::new(Empty(0), b"", &[])).unwrap();
     let turn = Turn::begin(&map.inner.core.slots, |handle: &mut Handle<1>| handle.try_entries());
-    assert_eq!(map.inner.evict(0, TRIES, |_, _| ()), Err(RemoveError::Held));
+    assert_eq!(map.inner.evict(TRIES, |_, _| ()), Err(RemoveError::Held));
     assert_eq!((map.len(), map.stats().evicted), (1, 0));
     drop(turn);
-    assert_eq!((map.inner.evict(0, TRIES, |_, _| ()), map.len()), (Ok(Some(())), 0));
+    assert_eq!((map.inner.evict(TRIES, |_, _| ()), map.len()), (Ok(Some(())), 0));
 }

@@ -2,7 +2,7 @@
 use crate::ledger::{done, next};
 use cefrodil_map::{AbsentError, Block, Bytes, BytesMap, GetError, Head, IfError, Look, Reason};
 use std::alloc::{alloc, dealloc, Layout};
-use std::hash::{BuildHasher, BuildHasherDefault, Hasher, RandomState};
+use std::hash::{BuildHasherDefault, Hasher, RandomState};
 use std::mem::offset_of;
 use std::sync::atomic::{AtomicU64, AtomicUsize, Ordering::Relaxed, Ordering::SeqCst};
 use std::sync::Arc;
@@ -138,8 +138,8 @@ fn each_call_does_what_it_says() {
     assert!(map.remove_if(b"1", second).is_ok());
     assert_eq!(found(1), None);
     let third = map.put_if_absent(make(1, 15)).unwrap().at;
-    assert!(matches!(map.remove_stamped(hash, second), Err(IfError::Changed { .. })));
-    assert!(map.remove_stamped(hash, third).is_ok());
+    assert!(matches!(map.remove_stamped(hash, second, Reason::Removed), Err(IfError::Changed { .. })));
+    assert!(map.remove_stamped(hash, third, Reason::Removed).is_ok());
     assert_eq!((found(1), map.is_empty(), map.capacity()), (None, true, 100));
 }
 
@@ -168,9 +168,9 @@ fn an_eviction_shows_the_block_that_gives_way() {
         })
         .open()
         .unwrap();
-    assert!(map.evict(7, |_, _| ()).unwrap().is_none());
+    assert!(map.evict(|_, _| ()).unwrap().is_none());
     let since = map.put(make(1, 10)).unwrap().at;
-    let seen = map.evict(0, |block, at| {
+    let seen = map.evict(|block, at| {
         // It has left the map, and is not freed.
         map.look(b"1", |look| assert!(matches!(look, Ok(Look::Absent { .. }))));
         (2..50).for_each(|key| done(map.put(make(key, 0)).unwrap()));
@@ -180,10 +180,8 @@ fn an_eviction_shows_the_block_that_gives_way() {
     });
     assert_eq!((seen, heard.load(SeqCst), map.len(), map.stats().evicted), (Ok(Some((10, since + 1))), 10, 48, 1));
     assert_eq!(map.free_unused(), 0);
-    // Those that are used stay longest, whatever shard the hash is of.
-    (2..10).for_each(|key| map.look(key.to_string().as_bytes(), |look| assert!(look.is_ok())));
-    let mut left = (0..48).map(|_| map.evict(1, |block, _| block.key().to_vec()).unwrap().unwrap()).collect::<Vec<_>>();
-    assert!(map.is_empty() && map.evict(1, |_, _| ()).unwrap().is_none());
+    let mut left = (0..48).map(|_| map.evict(|block, _| block.key().to_vec()).unwrap().unwrap()).collect::<Vec<_>>();
+    assert!(map.is_empty() && map.evict(|_, _| ()).unwrap().is_none());
     left.sort();
     left.dedup();
     assert_eq!(left.len(), 48);
@@ -194,7 +192,7 @@ fn a_full_shard_evicts_what_was_not_used() {
     let map = BytesMap::<Counted>::builder(100).shards(1).threads(1).open().unwrap();
     (0..50).for_each(|key| done(map.put(make(key, 0)).unwrap()));
     (0..40).for_each(|key: u64| map.look(key.to_string().as_bytes(), |look| assert!(look.is_ok())));
-    let mut left: Vec<_> = (0..5).map(|_| map.evict(0, |block, _| block.key().to_vec()).unwrap().unwrap()).collect();
+    let mut left: Vec<_> = (0..5).map(|_| map.evict(|block, _| block.key().to_vec()).unwrap().unwrap()).collect();
     left.sort();
     assert_eq!(left, (40..45).map(|key| key.to_string().into_bytes()).collect::<Vec<_>>());
 }
@@ -257,7 +255,7 @@ fn threads_find_whole_blocks_and_each_is_freed_once() {
                         (0, _) => done(map.put(new())),
                         (1, Some(since)) => done(map.remove_if(text.as_bytes(), since)),
                         (2, Some(since)) => done(map.replace_if(since, new())),
-                        (3, Some(since)) => done(map.remove_stamped(map.hash_of(text.as_bytes()), since)),
+                        (3, Some(since)) => done(map.remove_stamped(map.hash_of(text.as_bytes()), since, Reason::Removed)),
                         _ => done(map.put_if_absent(new())),
                     }
                 }
@@ -269,13 +267,6 @@ fn threads_find_whole_blocks_and_each_is_freed_once() {
     drop(map);
     assert_eq!(freed.load(SeqCst), left.load(SeqCst) + entries);
     assert!(freed.load(SeqCst) <= made.load(SeqCst));
-}
-
-#[test]
-fn the_hash_is_that_of_the_hasher() {
-    let hasher = RandomState::new();
-    let map = BytesMap::<Counted>::builder(100).hasher(hasher.clone()).open().unwrap();
-    assert_eq!(map.hash_of(b"key"), hasher.hash_one(b"key".as_slice()));
 }
 
 #[test]

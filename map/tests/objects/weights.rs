@@ -111,6 +111,20 @@ fn one_heavy_after_the_other<S: BuildHasher>(map: &ObjectMap<u64, u64, S>) {
 }
 
 #[test]
+fn a_bound_that_shrinks_evicts_and_one_that_grows_leaves_room() {
+    let map: Numbers = ObjectMap::builder(1_000).max_weight(MOST, |_, value| *value).open().unwrap();
+    put_all(&map, 0..10, 10);
+    assert_eq!((map.set_most_weight(35), map.weight(), map.len(), map.stats().evicted), (Ok(()), 30, 3, 7));
+    assert_eq!(map.insert(10, 36).unwrap_err().why, InsertError::TooHeavy);
+    map.set_most_weight(200).unwrap();
+    put_all(&map, 10..27, 10);
+    assert_eq!((map.weight(), map.stats().evicted), (200, 7));
+    let unbounded = Numbers::new(10).unwrap();
+    unbounded.insert(1, 1).unwrap();
+    assert_eq!((unbounded.set_most_weight(0), unbounded.len()), (Ok(()), 1));
+}
+
+#[test]
 fn a_bound_of_zero_holds_what_weighs_nothing() {
     let map: Numbers = ObjectMap::builder(10).max_weight(0, |_, value| *value).open().unwrap();
     assert_eq!(map.insert(1, 1).unwrap_err().why, InsertError::TooHeavy);

@@ -5,7 +5,7 @@ pub mod draw;
 
 use cefrodil_map::Reason;
 use cefrodild::books::Books;
-use cefrodild::index::{Index, Refused, Seen, Token};
+use cefrodild::index::{Index, Over, Refused, Seen, Token};
 use cefrodild::item::{Item, NewItem};
 use std::collections::HashMap;
 use std::hash::{BuildHasher, BuildHasherDefault, DefaultHasher};
@@ -50,23 +50,6 @@ pub struct Plain {
 impl Plain {
     pub fn new(books: &Arc<Books>, control: &Arc<Control>) -> Plain {
         Plain { items: Mutex::default(), books: Arc::clone(books), control: Arc::clone(control) }
-    }
-
-    fn put_as(&self, item: NewItem, meant: impl FnOnce(Option<Token>) -> bool) -> Result<Token, Refused> {
-        if self.control.refuses_puts.load(SeqCst) {
-            return Err(Refused::Full);
-        }
-        let (items, last) = &mut *self.items.lock().unwrap();
-        let hash = self.hash_of(item.key());
-        let token = items.get(&hash).map(|entry| entry.token);
-        if !meant(token) {
-            return Err(token.map_or(Refused::Absent, |_| Refused::Changed));
-        }
-        *last += 1;
-        if let Some(old) = items.insert(hash, Entry { item, token: *last }) {
-            self.left(&old, Reason::Replaced);
-        }
-        Ok(*last)
     }
 
     fn left(&self, entry: &Entry, reason: Reason) {
@@ -115,21 +98,28 @@ impl Index for Plain {
         see(Ok(entry.map(|entry| (&*entry.item, entry.token))));
     }
 
-    fn put(&self, item: NewItem) -> Result<Token, Refused> {
-        self.put_as(item, |_| true)
+    fn put(&self, item: NewItem, over: Over) -> Result<Token, Refused> {
+        if !matches!(over, Over::Any) {
+            self.let_others_act();
+        }
+        if self.control.refuses_puts.load(SeqCst) {
+            return Err(Refused::Full);
+        }
+        let (items, last) = &mut *self.items.lock().unwrap();
+        let hash = self.hash_of(item.key());
+        match (items.get(&hash).map(|entry| entry.token), over) {
+            (None, Over::Token(_)) => return Err(Refused::Absent),
+            (Some(_), Over::Nothing) => return Err(Refused::Changed),
+            (Some(found), Over::Token(token)) if found != token => return Err(Refused::Changed),
+            _ => *last += 1,
+        }
+        if let Some(old) = items.insert(hash, Entry { item, token: *last }) {
+            self.left(&old, Reason::Replaced);
+        }
+        Ok(*last)
     }
 
-    fn put_new(&self, item: NewItem) -> Result<Token, Refused> {
-        self.let_others_act();
-        self.put_as(item, |token| token.is_none())
-    }
-
-    fn put_if(&self, token: Token, item: NewItem) -> Result<Token, Refused> {
-        self.let_others_act();
-        self.put_as(item, |found| found == Some(token))
-    }
-
-    fn remove(&self, hash: u64, token: Token) -> Result<Token, Refused> {
+    fn remove(&self, hash: u64, token: Token, reason: Reason) -> Result<Token, Refused> {
         self.let_others_act();
         if self.refuses_removal() {
             return Err(Refused::Held);
@@ -139,7 +129,7 @@ impl Index for Plain {
             None => Err(Refused::Absent),
             Some(entry) if entry.token != token => Err(Refused::Changed),
             Some(entry) => {
-                self.left(entry, Reason::Removed);
+                self.left(entry, reason);
                 items.remove(&hash);
                 *last += 1;
                 Ok(*last)
@@ -148,7 +138,7 @@ impl Index for Plain {
     }
 
     /// The item that was stored longest ago.
-    fn evict(&self, _: u64, see: &mut dyn FnMut(&Item)) -> bool {
+    fn evict(&self, see: &mut dyn FnMut(&Item)) -> bool {
         let (items, _) = &mut *self.items.lock().unwrap();
         let oldest = items.iter().min_by_key(|(_, entry)| entry.token).map(|(hash, _)| *hash);
         let Some(entry) = oldest.filter(|_| !self.refuses_removal()).and_then(|hash| items.remove(&hash)) else { return false };

@@ -1,8 +1,8 @@
 //! How many lookups find their key in a cache, for `bench/map_hits.py` and `bench/mixed_sizes.py`. Standard input has the keys, as words of 64 bits.
 //! Each that is missed is put.
 //!
-//! usage: ratio CAPACITY CACHE [SHARDS BOUND]     CACHE: map; number, objects by their number; objects, by their weight; sizes; or server. It prints a
-//! line of 0 and 1: which lookups hit.
+//! usage: ratio CAPACITY CACHE [SHARDS BOUND]     CACHE: map; number, objects by their number; objects, by their weight; shards, the same in 16 shards;
+//! sizes; or server. It prints a line of 0 and 1: which lookups hit.
 mod server;
 
 use cefrodil_map::{Map, ObjectMap};
@@ -51,8 +51,8 @@ fn number(capacity: usize) -> Result<Box<dyn Cache>, Failure> {
 }
 
 /// Bounded by weight alone: its index has room for more.
-fn objects(capacity: usize) -> Result<Box<dyn Cache>, Failure> {
-    let builder = ObjectMap::<u64, u64>::builder(2 * capacity).shards(1).threads(1);
+fn objects(capacity: usize, shards: u32) -> Result<Box<dyn Cache>, Failure> {
+    let builder = ObjectMap::<u64, u64>::builder(2 * capacity).shards(shards).threads(1);
     Ok(Box::new(builder.max_weight(capacity as u64, |_, _| 1).open()?))
 }
 
@@ -69,7 +69,8 @@ fn main() -> Result<(), Failure> {
     let mut cache = match name.as_str() {
         "map" => map(capacity)?,
         "number" => number(capacity)?,
-        "objects" => objects(capacity)?,
+        "objects" => objects(capacity, 1)?,
+        "shards" => objects(capacity, 16)?,
         "sizes" => sizes(capacity, more[0].parse()?, more[1].parse()?)?,
         "server" => server::open(capacity)?,
         _ => return Err(format!("there is no cache {name}").into()),
