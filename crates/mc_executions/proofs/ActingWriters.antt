@@ -1,19 +1,35 @@
 -- A lawful act of the writer may come next.
-use Rattle.std.proofs.Common.{◌≡◌, ℕ, suc, [], ◌∷◌, ◌++◌, length, get_or, refl, ap, sym, ◌∙◌, subst, arith}
+use Rattle.std.proofs.Common.{◌≡◌, ℕ, suc, List, [], ◌∷◌, ◌++◌, length, get_or, refl, ap, sym, ◌∙◌, subst, arith}
+use Rattle.std.proofs.lemmas.Option.{none-some}
+use Rattle.std.specs.Prelude.{Some}
 use mathlib.Core.Option.{some, none}
 use Rattle.atomic_table.specs.Table.{step, stepped}
 use Rattle.atomic_table.proofs.Lists.{set_here}
 use Rattle.mc_theory.specs.declared.act.Act.{Act}
 use Rattle.mc_theory.specs.declared.act.Act.TheVariants.{Open, Slot, Item, Moment, Close, Hand, Mark}
-use Rattle.mc_shared.specs.Inside.Steps.{IsOffBits}
+use Rattle.mc_theory.specs.Lists.{Made}
+use Rattle.mc_theory.specs.Writes.{write_of}
+use Rattle.mc_shared.specs.Inside.Seats.{MayMake}
+use Rattle.mc_shared.specs.Inside.Steps.{IsOffBits, WritesAt}
+use Rattle.mc_shared.specs.declared.layout.Layout.{Layout}
 use Rattle.mc_shared.specs.Steps.{SeatView, IsStored, bit_of}
-use Rattle.mc_shared.specs.Views.{View, writer_view, with_bit, with_note}
+use Rattle.mc_shared.specs.Views.{AreLawful, View, layout_state, writer_view, with_bit, with_note}
 use Rattle.mc_shared.proofs.EachStep.{got_below, makes}
 use Rattle.mc_shared.proofs.RecencySteps.{store_bits, store_past}
 use Rattle.mc_executions.specs.Executions.{TableState, HasActs}
 use Rattle.mc_executions.specs.GrownExecutions.{grown, AllWritersMayAct}
 use Rattle.mc_executions.proofs.GrownExecutions.{executions_grow}
 use Rattle.mc_executions.proofs.RunningSteps.{each_is_a_step}
+
+-- an act that writes a word before the recency words is on no bit, and this is where it writes
+off_bits : (l : Layout) (acts : List Made) (a : Act) (n x : ℕ) → write_of l.width l.shape (layout_state l acts).words (layout_state l acts).phase a ≡ Some (n, x) → IsOffBits a × WritesAt l acts a n x
+off_bits l acts (Hand i) n x e = absurd (none-some (n, x) e)
+off_bits l acts (Mark i) n x e = absurd (none-some (n, x) e)
+off_bits l acts (Open k d) n x e = (tt, e)
+off_bits l acts (Slot p y) n x e = (tt, e)
+off_bits l acts (Item i j y) n x e = (tt, e)
+off_bits l acts Moment n x e = (tt, e)
+off_bits l acts Close n x e = (tt, e)
 
 off_stored : (a : Act) → IsOffBits a → IsStored a
 off_stored (Hand i) o = absurd o
@@ -35,8 +51,14 @@ off_zero Close o z = refl
 
 pub writers_may_act : AllWritersMayAct
 writers_may_act l = record {
-  acts = λ states n seat place x acts tally a run mine off may writes small.
+  acts = λ states n seat place x acts tally a run mine shape allowed few written small.
       let s : TableState = states n in
+      let fits = (run.ruled n).views seat (writer_view l acts tally) mine in
+      let lawful : AreLawful l acts = subst (AreLawful l) (sym fits.2) (run.ruled n).lawful in
+      let may : MayMake l acts a = record { shape = shape; lawful = lawful; allowed = allowed; few = few } in
+      let at = off_bits l acts a place x written in
+      let off = at.0 in
+      let writes = at.1 in
       let v : View = writer_view l acts tally in
       let st = step (length s.homes) place x 0 none in
       let allows = makes l seat (length s.homes) [] acts tally a place x (λ z. x) (λ z. z) st may writes (λ z. refl) (store_bits l acts a place x (λ z. z) off may writes) (store_past l acts a place x off may writes) in

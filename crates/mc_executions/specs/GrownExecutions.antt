@@ -4,14 +4,14 @@ use mathlib.Core.Option.{some}
 use lib.ListN.{get_elem?}
 use Rattle.atomic_table.specs.Table as table
 use Rattle.mc_words.specs.Places.{all_words, word_count}
+use Rattle.mc_words.specs.Shapes.{IsShape}
 use Rattle.mc_theory.specs.Lists.{Made}
 use Rattle.mc_theory.specs.Readings.{Reading}
-use Rattle.mc_theory.specs.Writes.{place_read}
+use Rattle.mc_theory.specs.Acts.{IsAllowed}
+use Rattle.mc_theory.specs.Writes.{place_read, write_of}
 use Rattle.mc_theory.specs.declared.access.Access.{Access}
 use Rattle.mc_shared.specs.TableRule.{Ruled}
-use Rattle.mc_shared.specs.Inside.Seats.{MayMake}
-use Rattle.mc_shared.specs.Inside.Steps.{WritesAt, IsOffBits}
-use Rattle.mc_shared.specs.Views.{Tally, tally_for, with_bit, writer_view, reader_view, new_writer_view}
+use Rattle.mc_shared.specs.Views.{Tally, layout_state, tally_for, with_bit, writer_view, reader_view, new_writer_view}
 use Rattle.mc_theory.specs.declared.act.Act.{Act}
 use Rattle.mc_shared.specs.declared.layout.Layout.{Layout}
 use Rattle.mc_executions.specs.Executions.{TableState, IsStep, IsExecution, HasRecord, HasActs}
@@ -45,10 +45,12 @@ pub record ReadersMayCome (l : Layout) : Type 0 where
 abbrev pub AllReadersMayCome : Type 0
 AllReadersMayCome = (l : Layout) → ReadersMayCome l
 
--- in particular the writer may make any lawful act that writes a word before the recency words
+-- in particular the writer may make any act next that is allowed in its state and that writes a word before the recency words: each but marks
+-- and the hand's readings
 pub record WritersMayAct (l : Layout) : Type 0 where
   pub acts : (states : ℕ → TableState) (n seat place x : ℕ) (acts : List Made) (tally : Tally) (a : Act) → IsExecution l states → get_elem? (states n).views seat ≡ some (writer_view l acts tally) →
-      IsOffBits a → MayMake l acts a → WritesAt l acts a place x → slice_index (states n).words place < 2 ^ 64 →
+      IsShape l.shape → IsAllowed l.shape (layout_state l acts) a → (layout_state l acts).version_steps ≤ 2 ^ 62 →
+      write_of l.width l.shape (layout_state l acts).words (layout_state l acts).phase a ≡ Some (place, x) → slice_index (states n).words place < 2 ^ 64 →
       (states' : ℕ → TableState) × IsExecution l states' × ((k : ℕ) → k ≤ n → states' k ≡ states k) × HasActs (states' (suc n)) (acts ++ with_bit a 0 ∷ [])
 
 abbrev pub AllWritersMayAct : Type 0

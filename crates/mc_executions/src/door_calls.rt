@@ -14,12 +14,7 @@ pub fn any_get(side: &mut AnySide, key: u64, value: &mut [u64], reply: &mut RawR
 }
 
 /// `AnySide::get_or_turn`, which `cefrodil_get_or_turn` calls.
-pub fn any_get_or_turn(
-    side: &mut AnySide,
-    key: u64,
-    value: &mut [u64],
-    reply: &mut RawReply,
-) -> u32
+pub fn any_get_or_turn(side: &mut AnySide, key: u64, value: &mut [u64], reply: &mut RawReply) -> u32
     ensures timed { TellsTimed (width_of side.old) (role_in side.old) (role_in side.new) (side.new ≡ side.old) key value.old value.new (record { status = result; reply = reply.new }) }
 {
     side.get_or_turn(key, value, reply)
