@@ -143,8 +143,8 @@ impl Budget {
         self.rss.get().is_some_and(|rss| self.taken.load(Relaxed) >= rss.bytes / PART_OF_LOOK)
     }
 
-    /// Looks at the memory of the process before or after an item of so many bytes is put, and changes the limit of items if it must. Returns whether the
-    /// process takes too much.
+    /// Looks at the memory of the process before or after an item of so many bytes is put, and changes the limit of items if it must. Returns
+    /// whether the process takes too much.
     pub fn look(&self, bytes: u64) -> bool {
         let Some(rss) = self.rss.get() else { return false };
         let _turn = self.turn.lock();

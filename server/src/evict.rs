@@ -133,10 +133,7 @@ impl Store {
     /// Evicts the item with this hash if it lies at this address. If it can't be removed, it stays.
     fn evict_at(&self, hash: u64, address: usize) {
         let mut found = None;
-        self.index.peek(hash, &mut |seen| {
-            let item_there = seen.ok().flatten().filter(|(item, _)| address_of(item) == address);
-            found = item_there.map(|(_, token)| token);
-        });
+        self.index.peek(hash, &mut |item, token| found = (address_of(item) == address).then_some(token));
         if let Some(token) = found {
             let _ = self.index.remove(hash, token, Reason::Evicted);
         }

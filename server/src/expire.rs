@@ -49,9 +49,7 @@ impl Store {
     fn remove_dead(&self, hash: u64) {
         let _lock = self.lock_hash(hash);
         let mut dead = None;
-        self.index.peek(hash, &mut |seen| {
-            dead = seen.ok().flatten().filter(|(item, _)| !self.books.is_live(item)).map(|(_, token)| token);
-        });
+        self.index.peek(hash, &mut |item, token| dead = (!self.books.is_live(item)).then_some(token));
         if let Some(token) = dead {
             let _ = self.index.remove(hash, token, Reason::Expired);
         }

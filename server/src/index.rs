@@ -68,8 +68,8 @@ pub trait Index: Send + Sync {
     /// Looks the keys up in order, and calls `each` with the position of each.
     fn look(&self, keys: &[&[u8]], each: &mut dyn FnMut(usize, Seen<'_>));
 
-    /// Looks up the item with this hash. The index does not take it for a use of the item.
-    fn peek(&self, hash: u64, see: &mut dyn FnMut(Seen<'_>));
+    /// Calls `see` with the item with this hash and its token, if it is there and others don't disturb that. It is no use of the item.
+    fn peek(&self, hash: u64, see: &mut dyn FnMut(&Item, Token));
 
     /// Puts the item, if its key has this.
     fn put(&self, item: NewItem, over: Over) -> Result<Token, Refused>;

@@ -2,7 +2,7 @@
 use mio::net::{TcpListener, UnixListener};
 use nix::sys::stat::{umask, Mode};
 use std::fmt::{self, Display, Formatter};
-use std::fs::{self, File};
+use std::fs;
 use std::io::{self, ErrorKind};
 use std::mem::ManuallyDrop;
 use std::net::{TcpStream, ToSocketAddrs};
@@ -27,8 +27,8 @@ pub struct Listener {
     file: Option<OwnFile>,
 }
 
-/// A client's connection to one of them.
-pub struct Stream(pub File);
+/// A client's connection to one of them. All that it is asked for is the same for a Unix socket, but its address.
+pub struct Stream(pub TcpStream);
 
 /// A file of the server's own, by its whole path. It is removed when this is dropped.
 pub struct OwnFile(PathBuf);
@@ -124,9 +124,9 @@ impl Listener {
             return Err(io::Error::last_os_error());
         }
         // SAFETY: it is open, and this owns it.
-        let stream = unsafe { File::from_raw_fd(file) };
+        let stream = unsafe { TcpStream::from_raw_fd(file) };
         // Without that the system would hold small answers back. A client of TCP that has gone already is seen later.
-        let _ = tcp(stream.as_raw_fd()).set_nodelay(true);
+        let _ = stream.set_nodelay(true);
         Ok(Stream(stream))
     }
 }
@@ -140,7 +140,7 @@ impl AsRawFd for Listener {
 /// The other end's address.
 impl Display for Stream {
     fn fmt(&self, text: &mut Formatter) -> fmt::Result {
-        match tcp(self.0.as_raw_fd()).peer_addr() {
+        match self.0.peer_addr() {
             Ok(address) => address.fmt(text),
             Err(why) if why.kind() == ErrorKind::NotConnected => text.write_str("a client that has left"),
             Err(_) => text.write_str("a client of the Unix socket"),

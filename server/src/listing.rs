@@ -68,13 +68,11 @@ impl Items {
             if self.most == 0 {
                 return false;
             }
-            store.index.peek(hash, &mut |seen| {
+            store.index.peek(hash, &mut |item, token| {
                 // Another item of this key, or one of another index, is not what was found.
-                if let Some((item, token)) = seen.ok().flatten().filter(|(item, _)| address_of(item) == address) {
-                    if store.books.is_live(item) {
-                        self.most -= 1;
-                        (self.write)(store, item, token, out);
-                    }
+                if address_of(item) == address && store.books.is_live(item) {
+                    self.most -= 1;
+                    (self.write)(store, item, token, out);
                 }
             });
         }

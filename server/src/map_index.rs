@@ -129,8 +129,12 @@ impl Index for MapIndex {
         }
     }
 
-    fn peek(&self, hash: u64, see: &mut dyn FnMut(Seen<'_>)) {
-        self.map.peek_hash(hash, |found| see(seen(found)));
+    fn peek(&self, hash: u64, see: &mut dyn FnMut(&Item, Token)) {
+        self.map.peek_hash(hash, |found| {
+            if let Ok(Look::Found { result, since, .. }) = found {
+                see(result, since);
+            }
+        });
     }
 
     fn put(&self, item: NewItem, over: Over) -> Result<Token, Refused> {

@@ -35,8 +35,8 @@ pub const APART: usize = 1 << 17;
 /// A smaller buffer has its own size.
 const SMALL: usize = 1 << 12;
 
-/// An empty buffer for so many bytes. Unless it is small it is mapped by itself, so that it leaves no hole among the items. What is not used of it takes
-/// no memory. `None`: there is no memory for it.
+/// An empty buffer for so many bytes. Unless it is small it is mapped by itself, so that it leaves no hole among the items. What is not used of it
+/// takes no memory. `None`: there is no memory for it.
 pub fn buffer(bytes: usize) -> Option<Vec<u8>> {
     let mut buffer = Vec::new();
     let size = if bytes < SMALL { bytes } else { bytes.max(APART) };
@@ -94,8 +94,8 @@ impl<A> Spare<A> {
     }
 }
 
-// SAFETY: a block is one of the allocator, or one of the reserve. The latter has its size and alignment, and is given to nobody else before all are given
-// back.
+// SAFETY: a block is one of the allocator, or one of the reserve. The latter has its size and alignment, and is given to nobody else before all are
+// given back.
 unsafe impl<A: GlobalAlloc> GlobalAlloc for Spare<A> {
     unsafe fn alloc(&self, layout: Layout) -> *mut u8 {
         // SAFETY: the caller says that it may be called: here and below.

@@ -25,10 +25,7 @@ fn books() -> Arc<Books> {
 /// The flags of the key's item, if it is there and has this token.
 fn flags_of(index: &MapIndex, key: &[u8], token: Token) -> Option<u32> {
     let mut flags = None;
-    index.peek(index.hash_of(key), &mut |seen| {
-        let seen = seen.expect("nobody disturbs it").filter(|(_, found)| *found == token);
-        flags = seen.map(|(item, _)| item.flags);
-    });
+    index.peek(index.hash_of(key), &mut |item, found| flags = (found == token).then_some(item.flags));
     flags
 }
 

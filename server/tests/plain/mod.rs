@@ -86,16 +86,13 @@ impl Index for Plain {
         }
     }
 
-    fn peek(&self, hash: u64, see: &mut dyn FnMut(Seen<'_>)) {
-        if self.control.refuses_looks.load(SeqCst) {
-            return see(Err(Refused::Held));
-        }
+    fn peek(&self, hash: u64, see: &mut dyn FnMut(&Item, Token)) {
         let (items, _) = &*self.items.lock().unwrap();
-        let entry = items.get(&hash);
-        if let Some(entry) = entry.filter(|_| self.control.touches_before_peek.load(SeqCst)) {
+        let Some(entry) = items.get(&hash).filter(|_| !self.control.refuses_looks.load(SeqCst)) else { return };
+        if self.control.touches_before_peek.load(SeqCst) {
             entry.item.touch(u64::MAX);
         }
-        see(Ok(entry.map(|entry| (&*entry.item, entry.token))));
+        see(&entry.item, entry.token);
     }
 
     fn put(&self, item: NewItem, over: Over) -> Result<Token, Refused> {
