@@ -18,8 +18,8 @@
 // The map then holds 1,000 pages or more, as long as they weigh no more than the bound together. While calls put, the sum may be above the bound by
 // what they put. What has left and waits to be freed weighs a sixteenth of the bound and one object more at most, while no function of `look` runs. If
 // a thread is stopped within a write, the sum may stay above the bound until a later put. A put that fails may have made others leave. Of a few
-// shards the one with the most objects chooses what leaves, so all keep nearly as many. Ask for about as many entries as weigh so much together: in a
-// much larger map fewer lookups hit.
+// shards the one with the most objects chooses what leaves, so all keep nearly as many. Ask for at least as many entries as weigh so much together: room
+// for more takes memory alone.
 //
 // Which objects leave: those that no call has found since their put. So keys that are used once evict few that are used often. If nearly all were found,
 // one that was not found lately leaves: perhaps the one that an update has made heavier. An object whose key left shortly before its put counts as found.

@@ -153,7 +153,7 @@ impl<K, V, S> ObjectBuilder<K, V, S> {
     ///   while a put runs. It stays above until the next put if the call that evicts gets no turn for over a second.
     /// - A put of a new key makes room first. It is refused if it gets no turn for that, as any write.
     /// - An entry that alone is heavier than `most` is refused: [`InsertError::TooHeavy`](crate::InsertError::TooHeavy). What its key had stays.
-    /// - The map is still bounded by its number of entries, too. Take a capacity for as many entries as fit by their weight.
+    /// - The map is still bounded by its number of entries, too. Take a capacity for at least as many entries as fit by their weight.
     /// - [`weight`](ObjectMap::weight) is the sum. Objects that have left and wait to be freed don't count.
     /// - [`set_most_weight`](ObjectMap::set_most_weight) changes `most`.
     pub fn max_weight(mut self, most: u64, weigher: impl Fn(&K, &V) -> u64 + Send + Sync + 'static) -> Self {
