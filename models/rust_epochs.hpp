@@ -63,7 +63,7 @@ struct RustEpochs : rl::test_suite<RustEpochs, 3> {
             shared.push_back(number);                                  //| shared.push(since);
         }
         look_up();
-        const Guard guard(shared_lock);                                //| let mut shared = lock(&self.epochs.shared);
+        const Guard guard(shared_lock);                                //| let mut shared = lock(&self.shared);
         shared.erase(std::find(shared.begin(), shared.end(), number)); //| shared.swap_remove(place);
     }
     size_t pinned_since() {
