@@ -56,6 +56,7 @@ OF_PROCESS(get_8, (cefrodil_handle *handle, uint64_t key, uint64_t *value, cefro
 OF_PROCESS(get_many, (cefrodil_handle *handle, const uint64_t *keys, size_t key_count, uint64_t *values, size_t value_words,
                       cefrodil_answer *answers, size_t answer_count),
            (handle, keys, key_count, values, value_words, answers, answer_count))
+OF_PROCESS(prefetch, (cefrodil_handle *handle, uint64_t key), (handle, key))
 OF_PROCESS(get_or_turn, (cefrodil_handle *handle, uint64_t key, uint64_t *value, size_t words, cefrodil_reply *reply),
            (handle, key, value, words, reply))
 OF_PROCESS(get_or_turn_1, (cefrodil_handle *handle, uint64_t key, uint64_t *value, cefrodil_reply *reply), (handle, key, value, reply))

@@ -4,11 +4,11 @@
  *
  * A block of at least 4,096 bytes begins 56 bytes after the start of a cache line. A table's slots begin at its word 1 + stripes, and
  * stripes are a power of two. So from 8 stripes on they begin on a cache line, and no bucket of four slots crosses one.
- * A block of at least 2 MB begins 56 bytes after a boundary of huge pages, and the huge pages that it fills are requested.
+ * A block of at least 8 MB begins 56 bytes after a boundary of huge pages, and the huge pages that it fills are requested.
  * Blocks from 128 KB up to that are cut from regions of 32 MB, whose huge pages are requested. The bytes of a block that is given back are cut
  * again if it is the last one, or the largest hole of its region: an opening gives as much back as it keeps. So the tables of many shards are on huge
- * pages too. The first huge page of the first region isn't: a program with little in its caches takes no more memory than it uses. A region
- * is freed with its last block. Any thread may allocate and free, and so may another copy of these functions in the same program, since
+ * pages too. The first huge page of the first region isn't, unless a block of it has 2 MB: a program with little in its caches takes no more
+ * memory than it uses. A region is freed with its last block. Any thread may allocate and free, and so may another copy of these functions in the same program, since
  * libraries that were built apart may pass a handle on.
  *
  * A process may fork at any time: its child allocates and frees as it does. A small block knows in which process it was allocated. What a child
@@ -40,7 +40,7 @@ bool is_of_this_process(const void *at);
 void keep_for_parent(void *at);
 extern bool has_been_forked __attribute__((visibility("hidden")));
 
-enum { LINE = 64, APART = 2 * LINE, BEHIND = 56, PLACED = 4096, CUT = 128 << 10, HUGE_PAGE = 2 << 20, REGION = 32 << 20 };
+enum { LINE = 64, APART = 2 * LINE, BEHIND = 56, PLACED = 4096, CUT = 128 << 10, HUGE_PAGE = 2 << 20, LARGE = 8 << 20, REGION = 32 << 20 };
 
 /* It is at the start of its region. */
 struct region {
@@ -132,7 +132,7 @@ void keep_for_parent(void *at) {
 static void ask_for_huge_pages(char *first, size_t size) { (void)madvise(first, size / HUGE_PAGE * HUGE_PAGE, MADV_HUGEPAGE); }
 
 static void *placed(size_t size) {
-    const size_t align = size < HUGE_PAGE ? LINE : HUGE_PAGE;
+    const size_t align = size < LARGE ? LINE : HUGE_PAGE;
     char *block = size > SIZE_MAX - align - BEHIND ? NULL : malloc(size + align + BEHIND);
     if (block == NULL) {
         return NULL;
@@ -203,6 +203,9 @@ static void *cut(size_t size) {
         ((uintptr_t *)at)[-1] = (uintptr_t)open_region + 1;
         open_region->users++;
     }
+    if (first != NULL && size >= HUGE_PAGE) {
+        ask_for_huge_pages((char *)open_region, HUGE_PAGE);
+    }
     pthread_mutex_unlock(&lock);
     return at;
 }
@@ -228,7 +231,7 @@ static void give_back(struct region *region, const char *at) {
 }
 
 static void *at_line(size_t size) {
-    void *at = size >= CUT && size < HUGE_PAGE ? cut(size) : NULL;
+    void *at = size >= CUT && size < LARGE ? cut(size) : NULL;
     return at != NULL ? at : placed(size);
 }
 

@@ -248,6 +248,11 @@ CEFRODIL_CALL cefrodil_status cefrodil_get(cefrodil_handle *handle, uint64_t key
 CEFRODIL_CALL cefrodil_status cefrodil_get_many(cefrodil_handle *handle, const uint64_t *keys, size_t key_count, uint64_t *values,
                                                 size_t value_words, cefrodil_answer *answers, size_t answer_count);
 
+/* Loads the words that a lookup of the key will read, so that a lookup which follows waits less for them: for a program that knows its next key
+ * while it works on another. It pays in caches that are larger than the processor's. It changes nothing, and no answer depends on it.
+ * OK. CLOSED. */
+CEFRODIL_NO_NULL cefrodil_status cefrodil_prefetch(cefrodil_handle *handle, uint64_t key);
+
 /* Like cefrodil_get. If the lookup is busy, it tries once for the turn of the key's shard. With the turn nothing disturbs the lookup, so it
  * is not busy. BUSY: that try did not win. */
 CEFRODIL_CALL cefrodil_status cefrodil_get_or_turn(cefrodil_handle *handle, uint64_t key, uint64_t *value, size_t words,

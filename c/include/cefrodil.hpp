@@ -160,6 +160,8 @@ template <size_t Words> class Writing : private inside::Calls<Words> {
     using Calls::put_many;
     // Looks the key up, but doesn't count as a use of it.
     using Calls::peek;
+    // Loads the words that a lookup of the key will read.
+    using Calls::prefetch;
     // The number of changes to all shards.
     [[nodiscard]] Status moment(uint64_t &number) noexcept { return static_cast<Status>(cefrodil_moment(this->raw(), &number)); }
     // The number of keys, and of those that all shards hold together at most.

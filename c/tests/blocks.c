@@ -53,7 +53,7 @@ static int lies_right(const struct full *full) {
     if (full->size < 4096) {
         return at % 16 == 8;
     }
-    return at % (full->size < 2 << 20 ? 64 : 2 << 20) == 56;
+    return at % (full->size < 8 << 20 ? 64 : 2 << 20) == 56;
 }
 
 static void make(struct full *full, size_t size, size_t align) {
@@ -124,7 +124,7 @@ static void small_blocks_are_alone(void) {
 }
 
 static void large_sizes(void) {
-    const size_t sizes[] = {(128 << 10) - 1, 128 << 10, 1 << 20, (2 << 20) - 1, 2 << 20, (2 << 20) + 1, 4 << 20, 67108864 + 8};
+    const size_t sizes[] = {(128 << 10) - 1, 128 << 10, 1 << 20, (2 << 20) - 1, 2 << 20, (8 << 20) - 1, 8 << 20, (8 << 20) + 1, 67108864 + 8};
     for (size_t n = 0; n < sizeof sizes / sizeof *sizes; n++) {
         struct full full;
         make(&full, sizes[n], 8);
@@ -245,12 +245,12 @@ static void blocks_longer_than_a_hole(void) {
     rattle_dealloc(end.at);
 }
 
-/* A block of 128 KB to 2 MB is cut from a region, which is freed with it. Any other has a block of malloc by itself. */
+/* A block of 128 KB to 8 MB is cut from a region, which is freed with it. Any other has a block of malloc by itself. */
 static void sizes_of_blocks_of_regions(void) {
     const struct {
         size_t size;
         long regions;
-    } rows[] = {{8, 0}, {4096, 0}, {(128 << 10) - 1, 0}, {128 << 10, 1}, {(128 << 10) + 1, 1}, {(2 << 20) - 1, 1}, {2 << 20, 0}, {8 << 20, 0}};
+    } rows[] = {{8, 0}, {4096, 0}, {(128 << 10) - 1, 0}, {128 << 10, 1}, {(128 << 10) + 1, 1}, {2 << 20, 1}, {(8 << 20) - 1, 1}, {8 << 20, 0}, {9 << 20, 0}};
     const long before = in_use;
     for (size_t n = 0; n < sizeof rows / sizeof *rows; n++) {
         struct full full;
@@ -267,9 +267,9 @@ static int were_requested(uintptr_t first, uintptr_t end) {
     return advices == 1 && advised[0].about == MADV_HUGEPAGE && (uintptr_t)advised[0].at == first && advised[0].size == end - first;
 }
 
-/* A block of 2 MB or more has the huge pages requested that it fills, and none beyond. */
+/* A block of 8 MB or more has the huge pages requested that it fills, and none beyond. */
 static void huge_pages_of_large_blocks(void) {
-    const size_t sizes[] = {2 << 20, (4 << 20) - 57, (4 << 20) - 56, (8 << 20) + 100};
+    const size_t sizes[] = {8 << 20, (10 << 20) - 57, (10 << 20) - 56, (12 << 20) + 100};
     for (size_t n = 0; n < sizeof sizes / sizeof *sizes; n++) {
         struct full full;
         advices = 0;
@@ -280,7 +280,7 @@ static void huge_pages_of_large_blocks(void) {
     }
 }
 
-/* A region has 32 MB, and all its huge pages are requested. The first huge page of the first region isn't. */
+/* A region has 32 MB, and all its huge pages are requested. The first huge page of the first region is only with a block of 2 MB. */
 static void huge_pages_of_regions(void) {
     struct full fulls[32];
     advices = 0;
@@ -298,6 +298,13 @@ static void huge_pages_of_regions(void) {
     for (int n = 0; n < 32; n++) {
         rattle_dealloc(fulls[n].at);
     }
+    make(&fulls[0], 1 << 20, 8);
+    advices = 0;
+    make(&fulls[1], 2 << 20, 8);
+    region = (uintptr_t)fulls[1].at / (2 << 20) * (2 << 20);
+    MUST(were_requested(region, region + (2 << 20)));
+    rattle_dealloc(fulls[0].at);
+    rattle_dealloc(fulls[1].at);
 }
 
 /* If a region is full and malloc refuses the next one, no block is cut: it would end beyond the region. A smaller one still has room. */
@@ -409,7 +416,7 @@ static void blocks_of_a_parent(void) {
 }
 
 static void refused(void) {
-    const size_t sizes[] = {1, 8, 5000, 1 << 20, 3 << 20};
+    const size_t sizes[] = {1, 8, 5000, 1 << 20, 9 << 20};
     for (size_t from = 0; from < 5; from++) {
         struct full full;
         make(&full, sizes[from], 8);

@@ -11,6 +11,7 @@
     row(more, NOTHING, (handle, told.handles, 1)) \
     row(get, WIDTH | REPLY, (handle, key, told.value, words, &told.reply)) \
     row(get_many, WIDTH, (handle, keys, 1, told.values, words, told.answers, 1)) \
+    row(prefetch, NOTHING, (handle, key)) \
     row(get_or_turn, WIDTH | REPLY, (handle, key, told.value, words, &told.reply)) \
     row(peek, WIDTH | TURN | REPLY, (handle, key, told.value, words, &told.reply)) \
     row(put, WIDTH | TURN | LIMIT | REPLY, (handle, key, value, words, &told.reply)) \

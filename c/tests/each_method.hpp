@@ -53,6 +53,8 @@ static std::vector<cefrodil::Handle<1>> handles;
     row(writing, entries, (list)) \
     row(writing, stamped_entries, (list))
 #define EACH_UNCHECKED_METHOD(row) \
+    row(handle, prefetch, (1)) \
+    row(writing, prefetch, (1)) \
     row(writing, put, (1, {1})) \
     row(writing, remove, (1))
 // .ci/calls: end

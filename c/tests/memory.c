@@ -194,6 +194,26 @@ static int gives_more(const cefrodil_shape *shape, size_t words, struct how how)
     return status == CEFRODIL_OK && allowed > 1;
 }
 
+static cefrodil_handle others[SPARE + 1];
+static uint32_t one_more, too_many_more;
+
+static void ask_meanwhile(void) {
+    one_more = cefrodil_more(&handles[1], others, 1);
+    too_many_more = cefrodil_more(&handles[1], others, SPARE + 1);
+}
+
+/* While a call for more handles takes its memory, the spare ones are away: a call by another handle is held, whether there are so many or not. */
+static int gives_one_call_at_once(const cefrodil_shape *shape, size_t words) {
+    int given = open_one(shape, words, in_shards) == CEFRODIL_OK;
+    in_turn = ask_meanwhile;
+    given = given && cefrodil_more(&handles[0], more, 1) == CEFRODIL_OK && in_turn == NULL;
+    given = given && one_more == CEFRODIL_HELD && too_many_more == CEFRODIL_HELD && cefrodil_more(&handles[1], others, 1) == CEFRODIL_OK;
+    cefrodil_close(&more[0]);
+    cefrodil_close(&others[0]);
+    close_all();
+    return given && kept == 0;
+}
+
 /* So many keys are put at once. */
 enum { BATCH = 40 };
 static uint64_t batch[BATCH], batch_values[BATCH * 8];
@@ -286,7 +306,7 @@ static const char *failure(const cefrodil_shape *shape, size_t words) {
     if (!holds(shape, words, loaded) || !holds(shape, words, loaded_in_shards)) {
         return "a holder";
     }
-    if (!gives_more(shape, words, loaded) || !gives_more(shape, words, loaded_in_shards)) {
+    if (!gives_more(shape, words, loaded) || !gives_more(shape, words, loaded_in_shards) || !gives_one_call_at_once(shape, words)) {
         return "more handles";
     }
     if (!batches(shape, words)) {

@@ -79,6 +79,9 @@ static void many_keys(uint32_t shards, size_t words) {
     }
     MUST(shards == 1 ? last == KEYS : last < KEYS / 2);
     counts(shards);
+    for (uint64_t key = 0; key < 2 * KEYS; key++) {
+        MUST(cefrodil_prefetch(&handles[key % 2], key) == CEFRODIL_OK);
+    }
     MUST(cefrodil_get_many(&handles[0], keys, KEYS, values, words * KEYS, answers, KEYS) == CEFRODIL_OK);
     for (size_t i = 0; i < KEYS; i++) {
         MUST(answers[i].status == CEFRODIL_OK && answers[i].since <= answers[i].at && answers[i].at <= last);

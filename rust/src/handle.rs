@@ -75,6 +75,32 @@ impl<const WORDS: usize> Handle<WORDS> {
         reply::many(&mut self.0, keys, replies);
     }
 
+    /// Loads the words that a lookup of the key will read, so that a lookup which follows waits less for them. It pays in caches that are
+    /// larger than the processor's. No answer depends on it.
+    ///
+    /// # Examples
+    ///
+    /// The words of the next key are loaded while the program works with this one:
+    ///
+    /// ```
+    /// # use cefrodil::{Cache, Shape};
+    /// # let mut handles = Cache::<1>::open(&Shape::for_items(100, 1)?, 1, 1)?;
+    /// # handles[0].try_put(8, &[80])?;
+    /// let (keys, mut sum) = ([7, 8, 9], 0);
+    /// for (n, &key) in keys.iter().enumerate() {
+    ///     if let Some(&next) = keys.get(n + 1) {
+    ///         handles[0].prefetch(next);
+    ///     }
+    ///     sum += handles[0].get(key).value().map_or(0, |value| value[0]);
+    /// }
+    /// assert_eq!(sum, 80);
+    /// # Ok::<(), Box<dyn std::error::Error>>(())
+    /// ```
+    #[inline]
+    pub fn prefetch(&mut self, key: u64) {
+        self.0.prefetch(key);
+    }
+
     /// Like [`get`](Handle::get). If that is busy, tries once for the turn. With the turn nothing disturbs it, so it is not busy. `Busy` if
     /// the try does not win either.
     #[inline]

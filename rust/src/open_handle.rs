@@ -103,6 +103,12 @@ impl OpenHandle {
         status
     }
 
+    pub fn prefetch(&mut self, key: u64) -> u32 {
+        let status = unsafe { raw::cefrodil_prefetch(&mut self.raw, key) };
+        self.counter.tried(status);
+        status
+    }
+
     #[inline]
     pub fn get_or_turn<const WORDS: usize>(&mut self, key: u64, value: &mut [u64; WORDS]) -> (u32, RawReply) {
         let mut reply = RawReply::default();

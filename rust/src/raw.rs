@@ -128,6 +128,7 @@ unsafe extern "C" {
         answers: *mut RawAnswer,
         answer_count: usize,
     ) -> u32;
+    pub fn cefrodil_prefetch(handle: *mut RawHandle, key: u64) -> u32;
     pub fn cefrodil_get_or_turn(handle: *mut RawHandle, key: u64, value: *mut u64, words: usize, reply: *mut RawReply) -> u32;
     pub fn cefrodil_get_or_turn_1(handle: *mut RawHandle, key: u64, value: *mut u64, reply: *mut RawReply) -> u32;
     pub fn cefrodil_get_or_turn_2(handle: *mut RawHandle, key: u64, value: *mut u64, reply: *mut RawReply) -> u32;

@@ -282,6 +282,12 @@ impl<const WORDS: usize> Writing<'_, WORDS> {
         self.len() == 0
     }
 
+    /// Loads the words that a lookup of the key will read, as [`Handle::prefetch`](crate::Handle::prefetch) does.
+    #[inline]
+    pub fn prefetch(&mut self, key: u64) {
+        self.handle().prefetch(key);
+    }
+
     /// The number of keys that the cache holds at most: the `items` of its shape, in all shards together.
     #[must_use]
     pub fn capacity(&mut self) -> usize {

@@ -24,6 +24,10 @@ MomentGives b b' old new status = Gives b b' ((status ≡ CLOSED) × (new ≡ ol
 abbrev pub CapacityGives : Option AnySide → Option AnySide → ℕ → ℕ → ℕ → Type 0
 CapacityGives b b' old new status = Gives b b' ((status ≡ CLOSED) × (new ≡ old)) (λ h h'. (h' ≡ h) × (status ≡ OK) × CapacityIs (width_of h) (role_in h) new)
 
+-- the handle is as it was
+abbrev pub PrefetchGives : Option AnySide → Option AnySide → ℕ → Type 0
+PrefetchGives b b' status = Gives b b' (status ≡ CLOSED) (λ h h'. (h' ≡ h) × (status ≡ OK))
+
 abbrev pub LenGives : Option AnySide → Option AnySide → ℕ → ℕ → ℕ → Type 0
 LenGives b b' old new status = Gives b b' ((status ≡ CLOSED) × (new ≡ old)) (λ h h'. (width_of h' ≡ width_of h) ×
     HasTold (Counts (width_of h) (role_in h) (role_in h')) (HasStoppedList (width_of h) desk.Held (role_in h) (role_in h')) old new status)

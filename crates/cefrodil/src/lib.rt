@@ -14,6 +14,7 @@ mod lookups;
 mod many;
 mod more;
 mod opening;
+mod prefetch;
 mod puts_by_width;
 pub mod raw_handle;
 mod shape;

@@ -1,7 +1,7 @@
 //! The words of a cache.
 ghost use Rattle.std.specs.Prelude.{◌≡◌};
 
-use mc_reader::touch_ahead;
+use mc_reader::{touch_ahead, touch_named, touch_slots};
 use mc_shared::Cells;
 use std::marker::Model;
 
@@ -43,5 +43,17 @@ impl<const V: usize> Cache<V> {
     /// then wait less. It changes nothing, and no answer depends on it.
     pub fn touch_ahead(&self, keys: &[u64]) {
         touch_ahead(&self.cells, keys);
+    }
+
+    /// Loads the slots of the key's two buckets.
+    #[inline(always)]
+    pub fn touch_slots(&self, key: u64) {
+        touch_slots(&self.cells, key);
+    }
+
+    /// Loads the item that the slots of the key's buckets seem to name.
+    #[inline(always)]
+    pub fn touch_named(&self, key: u64) {
+        touch_named(&self.cells, key);
     }
 }

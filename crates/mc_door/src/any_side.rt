@@ -114,6 +114,12 @@ impl AnySide {
 }
 
 impl AnySide {
+    /// Loads ahead the words that a lookup of the key will read. No answer depends on it.
+    #[inline(always)]
+    pub fn prefetch(&self, key: u64) {
+        with_side!(self, side => side.prefetch(key));
+    }
+
     /// How many keys the cache holds at most, shards all together.
     pub fn capacity(&self) -> u64
         ensures { CapacityIs (width_of self.now) (role_in self.now) result }

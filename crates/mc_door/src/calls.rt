@@ -172,6 +172,16 @@ impl<const V: usize> Side<V> {
         }
     }
 
+    /// Loads ahead the words that a lookup of the key will read: `Shards::prefetch`.
+    #[inline(always)]
+    pub fn prefetch(&self, key: u64) {
+        match &self.hand {
+            Hand::Pass(side) => side.shared.shards.prefetch(key),
+            Hand::Holder(side) => side.shared.shards.prefetch(key),
+            Hand::Nothing => {}
+        }
+    }
+
     /// How many keys the cache holds at most, shards all together: `Shards::capacity`.
     pub fn capacity(&self) -> u64
         ensures { CapacityIs V (role_of self.now) result }

@@ -21,6 +21,7 @@ use Rattle.mc_theory.specs.declared.act.Act.{Act}
 use Rattle.mc_theory.specs.declared.act.Act.TheVariants.{Open, Slot, Item, Moment, Close}
 use Rattle.mc_theory.specs.declared.act.Deed.TheVariants as deed
 use Rattle.mc_theory.proofs.Lists.Fronts.{lawful_none, lawful_push}
+use Rattle.mc_shared.specs.SeatPlays.{seats}
 use Rattle.mc_shared.specs.ExactFronts.{StandsAt}
 use Rattle.mc_shared.specs.Inside.Seats.{MayMake}
 use Rattle.mc_shared.specs.Views.{View, tally_for, writer_view, reader_view, new_writer_view, with_bit, layout_with}
@@ -35,10 +36,10 @@ use Rattle.mc_executions.proofs.RunningSteps.{each_is_a_step}
 use Rattle.mc_executions.proofs.Stages.{Stage, noted, after_act, after_reading, after_mark}
 use Rattle.mc_executions.proofs.TimedLookups.{lookups_are_timed}
 
-abbrev l : Layout
+abbrev pub l : Layout
 l = layout_with 1 Clock small
 
-is_shape : IsShape small
+pub is_shape : IsShape small
 unfolding count_trailing_zeros
 is_shape = record {
   buckets = (omega arith, omega arith, refl);
@@ -50,7 +51,7 @@ is_shape = record {
 }
 
 -- all words: seven slots stay empty, and the last word is of recency bits
-abbrev words : (at turn named value stamp : ℕ) → List ℕ
+abbrev pub words : (at turn named value stamp : ℕ) → List ℕ
 words at turn named value stamp = at ∷ turn ∷ named ∷ 0 ∷ 0 ∷ 0 ∷ 0 ∷ 0 ∷ 0 ∷ 0 ∷ 0 ∷ value ∷ stamp ∷ 0 ∷ []
 
 -- ---- each act is allowed
@@ -75,68 +76,68 @@ nothing_named at turn q i rest named =
     omega (arith, word)
 
 -- the acts of the put, as far as they are made
-abbrev keyed : List Made
+abbrev pub keyed : List Made
 keyed = put_opens ++ with_bit (Item 0 0 0) 0 ∷ []
 
-abbrev filled : List Made
+abbrev pub filled : List Made
 filled = keyed ++ with_bit (Item 0 1 7) 0 ∷ []
 
-abbrev stamped : List Made
+abbrev pub stamped : List Made
 stamped = filled ++ with_bit (Item 0 2 1) 0 ∷ []
 
-abbrev placed : List Made
+abbrev pub placed : List Made
 placed = stamped ++ with_bit (Slot first_slot 1) 0 ∷ []
 
-abbrev dated : List Made
+abbrev pub dated : List Made
 dated = placed ++ with_bit Moment 0 ∷ []
 
-may_open : IsAllowed small (state_of 1 small []) (Open 0 deed.Fill)
+pub may_open : IsAllowed small (state_of 1 small []) (Open 0 deed.Fill)
 unfolding state_of opening payload
 may_open = (omega arith, ((λ q i stands. nothing_named 0 0 q i (0 ∷ 0 ∷ 0 ∷ []) stands.names), (0, omega arith, λ q named. nothing_named 0 0 q 0 (0 ∷ 0 ∷ 0 ∷ []) named)))
 
-may_key : IsAllowed small (state_of 1 small put_opens) (Item 0 0 0)
+pub may_key : IsAllowed small (state_of 1 small put_opens) (Item 0 0 0)
 unfolding state_of opening mixed_key stripe_of payload version with_version
 may_key = (omega arith, (λ q named. nothing_named 0 1 q 0 (0 ∷ 0 ∷ 0 ∷ []) named), refl, refl)
 
-may_fill : IsAllowed small (state_of 1 small keyed) (Item 0 1 7)
+pub may_fill : IsAllowed small (state_of 1 small keyed) (Item 0 1 7)
 unfolding state_of opening mixed_key stripe_of payload version with_version with_item
 may_fill = (refl, refl, omega arith, omega arith, λ e. absurd (omega (arith, e)))
 
-may_stamp : IsAllowed small (state_of 1 small filled) (Item 0 2 1)
+pub may_stamp : IsAllowed small (state_of 1 small filled) (Item 0 2 1)
 unfolding state_of opening mixed_key stripe_of payload moment version with_version with_item
 may_stamp = (refl, refl, omega arith, omega arith, λ e. refl)
 
-may_place : IsAllowed small (state_of 1 small stamped) (Slot first_slot 1)
+pub may_place : IsAllowed small (state_of 1 small stamped) (Slot first_slot 1)
 unfolding state_of opening mixed_key tag_of stripe_of first_of slot_word payload version slot with_version with_item
 may_place = (refl, (omega arith, refl), inl refl, omega arith, refl)
 
-may_date : IsAllowed small (state_of 1 small placed) Moment
+pub may_date : IsAllowed small (state_of 1 small placed) Moment
 unfolding state_of opening
 may_date = tt
 
-may_close : IsAllowed small (state_of 1 small dated) Close
+pub may_close : IsAllowed small (state_of 1 small dated) Close
 unfolding state_of opening
 may_close = tt
 
-opens : IsLawful 1 small put_opens
+pub opens : IsLawful 1 small put_opens
 opens = lawful_push 1 small [] (with_bit (Open 0 deed.Fill) 0) (lawful_none 1 small) may_open
 
-keys : IsLawful 1 small keyed
+pub keys : IsLawful 1 small keyed
 keys = lawful_push 1 small put_opens (with_bit (Item 0 0 0) 0) opens may_key
 
-fills : IsLawful 1 small filled
+pub fills : IsLawful 1 small filled
 fills = lawful_push 1 small keyed (with_bit (Item 0 1 7) 0) keys may_fill
 
-stamps : IsLawful 1 small stamped
+pub stamps : IsLawful 1 small stamped
 stamps = lawful_push 1 small filled (with_bit (Item 0 2 1) 0) fills may_stamp
 
-places : IsLawful 1 small placed
+pub places : IsLawful 1 small placed
 places = lawful_push 1 small stamped (with_bit (Slot first_slot 1) 0) stamps may_place
 
-dates : IsLawful 1 small dated
+pub dates : IsLawful 1 small dated
 dates = lawful_push 1 small placed (with_bit Moment 0) places may_date
 
-may_make : (acts : List Made) (a : Act) → IsLawful 1 small acts → IsAllowed small (state_of 1 small acts) a → (state_of 1 small acts).version_steps ≤ 2 ^ 62 → MayMake l acts a
+pub may_make : (acts : List Made) (a : Act) → IsLawful 1 small acts → IsAllowed small (state_of 1 small acts) a → (state_of 1 small acts).version_steps ≤ 2 ^ 62 → MayMake l acts a
 may_make acts a lawful allowed few = record { shape = is_shape; lawful = lawful; allowed = allowed; few = few }
 
 -- ---- the steps up to the opening of the put: a reader is seated before it
@@ -147,7 +148,7 @@ begun =
     let run : IsExecution l states = (executions_grow l).begin (words 0 0 0 0 0) refl in
     let left : View = writer_view l [] (tally_for 1) in
     let new : View = reader_view l 0 [] [] in
-    let x = (each_is_a_step l).seats (states 0) 0 (new_writer_view l) (splits_new l 0 0) (run.ruled 0) refl in
+    let x = (each_is_a_step l).cuts seats (states 0) 0 (new_writer_view l) (splits_new l 0 0) (run.ruled 0) refl in
     let t : TableState = record { words = words 0 0 0 0 0; homes = []; views = left ∷ new ∷ [] } in
     let e = (executions_grow l).grow states 0 t run x.0 x.1 in
     record {
@@ -168,7 +169,7 @@ begun =
 opened : Stage l 2 (words 0 1 0 0 0) put_opens [] put_opens []
 unfolding state_of opening mixed_key stripe_of payload version recency_words
 opened =
-    noted (after_act l 1 (words 0 0 0 0 0) [] [] [] [] begun (Open 0 deed.Fill) 1 1 tt tt (λ z. refl) (may_make [] (Open 0 deed.Fill) (lawful_none 1 small) may_open (omega arith)) refl (omega arith))
+    noted (after_act l 1 (words 0 0 0 0 0) [] [] [] [] begun (Open 0 deed.Fill) 1 1 tt (may_make [] (Open 0 deed.Fill) (lawful_none 1 small) may_open (omega arith)) refl (omega arith))
 
 -- the reader reads the odd version
 refused : Stage l 3 (words 0 1 0 0 0) put_opens (take 1 (readings 0)) put_opens []
@@ -178,27 +179,27 @@ refused = after_reading l 2 (words 0 1 0 0 0) put_opens [] put_opens [] opened (
 -- the put goes on
 after_key : Stage l 4 (words 0 1 0 0 0) keyed (take 1 (readings 0)) put_opens []
 unfolding state_of opening mixed_key stripe_of payload version with_version
-after_key = after_act l 3 (words 0 1 0 0 0) put_opens (take 1 (readings 0)) put_opens [] refused (Item 0 0 0) 10 0 tt tt (λ z. refl) (may_make put_opens (Item 0 0 0) opens may_key (omega arith)) refl (omega arith)
+after_key = after_act l 3 (words 0 1 0 0 0) put_opens (take 1 (readings 0)) put_opens [] refused (Item 0 0 0) 10 0 tt (may_make put_opens (Item 0 0 0) opens may_key (omega arith)) refl (omega arith)
 
 after_fill : Stage l 5 (words 0 1 0 7 0) filled (take 1 (readings 0)) put_opens []
 unfolding state_of opening mixed_key stripe_of payload version with_version with_item
-after_fill = after_act l 4 (words 0 1 0 0 0) keyed (take 1 (readings 0)) put_opens [] after_key (Item 0 1 7) 11 7 tt tt (λ z. refl) (may_make keyed (Item 0 1 7) keys may_fill (omega arith)) refl (omega arith)
+after_fill = after_act l 4 (words 0 1 0 0 0) keyed (take 1 (readings 0)) put_opens [] after_key (Item 0 1 7) 11 7 tt (may_make keyed (Item 0 1 7) keys may_fill (omega arith)) refl (omega arith)
 
 after_stamp : Stage l 6 (words 0 1 0 7 1) stamped (take 1 (readings 0)) put_opens []
 unfolding state_of opening mixed_key stripe_of payload moment version with_version with_item
-after_stamp = after_act l 5 (words 0 1 0 7 0) filled (take 1 (readings 0)) put_opens [] after_fill (Item 0 2 1) 12 1 tt tt (λ z. refl) (may_make filled (Item 0 2 1) fills may_stamp (omega arith)) refl (omega arith)
+after_stamp = after_act l 5 (words 0 1 0 7 0) filled (take 1 (readings 0)) put_opens [] after_fill (Item 0 2 1) 12 1 tt (may_make filled (Item 0 2 1) fills may_stamp (omega arith)) refl (omega arith)
 
 after_place : Stage l 7 (words 0 1 1 7 1) placed (take 1 (readings 0)) put_opens []
 unfolding state_of opening mixed_key stripe_of payload version with_version with_item with_slot
-after_place = after_act l 6 (words 0 1 0 7 1) stamped (take 1 (readings 0)) put_opens [] after_stamp (Slot first_slot 1) 2 1 tt tt (λ z. refl) (may_make stamped (Slot first_slot 1) stamps may_place (omega arith)) refl (omega arith)
+after_place = after_act l 6 (words 0 1 0 7 1) stamped (take 1 (readings 0)) put_opens [] after_stamp (Slot first_slot 1) 2 1 tt (may_make stamped (Slot first_slot 1) stamps may_place (omega arith)) refl (omega arith)
 
 after_date : Stage l 8 (words 1 1 1 7 1) dated (take 1 (readings 0)) put_opens []
 unfolding state_of opening mixed_key stripe_of payload moment version with_version with_item with_slot
-after_date = after_act l 7 (words 0 1 1 7 1) placed (take 1 (readings 0)) put_opens [] after_place Moment 0 1 tt tt (λ z. refl) (may_make placed Moment places may_date (omega arith)) refl (omega arith)
+after_date = after_act l 7 (words 0 1 1 7 1) placed (take 1 (readings 0)) put_opens [] after_place Moment 0 1 tt (may_make placed Moment places may_date (omega arith)) refl (omega arith)
 
 after_close : Stage l 9 (words 1 2 1 7 1) put_whole (take 1 (readings 0)) put_opens []
 unfolding state_of opening mixed_key stripe_of payload moment version with_version with_item with_slot with_moment
-after_close = after_act l 8 (words 1 1 1 7 1) dated (take 1 (readings 0)) put_opens [] after_date Close 1 2 tt tt (λ z. refl) (may_make dated Close dates may_close (omega arith)) refl (omega arith)
+after_close = after_act l 8 (words 1 1 1 7 1) dated (take 1 (readings 0)) put_opens [] after_date Close 1 2 tt (may_make dated Close dates may_close (omega arith)) refl (omega arith)
 
 -- the reader tries again
 reads_next : (n : ℕ) (done : List Reading) (a : Access) (place x : ℕ) → place_read 1 small a ≡ Some place → place < 13 → ((f m : ℕ) → StandsAt a f m → f ≡ m) → get_or (words 1 2 1 7 1) place 0 ≡ x → x < 2 ^ 64

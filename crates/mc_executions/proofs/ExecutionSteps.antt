@@ -7,23 +7,24 @@ use Rattle.std.proofs.Common.{◌≡◌, ◌≢◌, ◌⊎◌, ⊎_elim, inl, in
 use Rattle.std.proofs.lemmas.Nat.Bits.{bit_at-lt}
 use mathlib.Core.Option.{some, some-injective}
 use lib.ListN.{get_elem?}
+use Rattle.atomic_table.specs.Table as table
 use Rattle.atomic_table.proofs.Lists.{set_else, set_here}
 use Rattle.mc_words.specs.Places.{recency_place}
 use Rattle.mc_words.specs.Recency.{recency_bit}
 use Rattle.mc_theory.specs.Lists.{Made}
 use Rattle.mc_theory.specs.Readings.{Reading}
-use Rattle.mc_theory.specs.declared.access.Access.{Access}
 use Rattle.mc_theory.specs.declared.act.Act.{Act}
 use Rattle.mc_theory.specs.declared.act.Act.TheVariants.{Hand}
 use Rattle.mc_shared.specs.ExactLaws.{AddsEntry}
-use Rattle.mc_shared.specs.Steps.{SeatView, IsStored, bit_of, item_bit, reading, mark_at, AddsAct, AddsActIfSet, AddsActIfClear, ClearsBit, FetchesWord, ReadsWord, AddsMark, AddsMarkIfSet, ComparesMoment}
+use Rattle.mc_shared.specs.SeatPlays.{SeatPlay, says, fetches, makes, marks_if_set, turns, turns_if_clear, reads, marks, notices, compares}
+use Rattle.mc_shared.specs.Steps.{SeatView, IsStored, IsAtBit, bit_of, item_of, item_bit, reading, mark_at, AddsAct, StoresAct, AddsActIfSet, AddsActIfClear, ClearsBit}
 use Rattle.mc_shared.specs.TableRule.{FitsRole, Ruled, bit_in, seats_of}
 use Rattle.mc_shared.specs.Views.{Note, Tally, Role, Spent, Writes, Reads, Both, View, IsWriters, view_as, writer_view, reader_view, acts_in, tally_in, acts_of, tally_of, number_of, front_of, done_of, done_in, with_note, with_bit, seated_in}
 use Rattle.mc_shared.specs.declared.layout.Layout.{Layout}
 use Rattle.mc_shared.proofs.Coherence.{total_set}
 use Rattle.mc_shared.proofs.EachStep.{got_below}
 use Rattle.mc_shared.proofs.ExactSteps.{seat_counts}
-use Rattle.mc_executions.specs.Executions.{TableState, IsPlayed, HasRecord}
+use Rattle.mc_executions.specs.Executions.{TableState, Says, IsPlayed, HasRecord}
 use Rattle.mc_executions.specs.TimeOrder.{LogIsOne}
 
 -- the writer's seat knows all acts and their tally, and stands where the rule says
@@ -79,55 +80,54 @@ bit_cases n i = let low = bit_at-lt n i in dite (ℕ_discrete (bit_at n i) 0) (�
 no_hand : (a : Act) (i : ℕ) → IsStored a → a ≡ Hand i → ⊥
 no_hand a i st e = subst IsStored e st
 
-abbrev item_in : Act → ℕ
-item_in (Hand i) = i
-item_in _ = 0
+module _ (l : Layout) (s t : TableState) (r' : Ruled l t) where
+  -- the seat's view after a play
+  seat_after : (play : Says) (p : IsPlayed play s t) → get_elem? t.views p.seat ≡ some p.w
+  seat_after play p = ap (λ (z : TableState). get_elem? z.views p.seat) p.next ∙ set_here s.views p.seat p.w (got_below s.views p.seat p.v p.mine)
 
-module _ (l : Layout) (s t : TableState) where
-  pub turn_act : (a : Act) (p : IsPlayed (AddsAct a) s t) → IsHonest l s (with_bit a (bit_of a (get_or s.words p.place 0))) → Turn l s p.v p.w
-  turn_act a p h = made (with_bit a (bit_of a (get_or s.words p.place 0))) p.told.0 (ap (λ (x : SeatView). x.0) p.told.1) h
+  -- a seat that writes has the table's layout
+  own_layout : (play : Says) (p : IsPlayed play s t) (acts : List Made) (tally : Tally) → p.w ≡ writer_view p.v.layout acts tally → p.v.layout ≡ l
+  own_layout play p acts tally e = (subst (λ (x : View). FitsRole l x.layout r'.log r'.tally r'.at p.seat x.role) e (r'.views p.seat p.w (seat_after play p))).0
 
-  pub turn_if_set : (a : Act) (p : IsPlayed (AddsActIfSet a) s t) → IsHonest l s (with_bit a (bit_of a (get_or s.words p.place 0))) → Turn l s p.v p.w
-  turn_if_set a p h = ⊎_elim
-      (λ zero. stays (ap (λ (x : SeatView). x.0) (p.told.1 zero)))
-      (λ one. let x = p.told.0 one in made (with_bit a (bit_of a (get_or s.words p.place 0))) x.0 (ap (λ (x : SeatView). x.0) x.1) h)
-      (bit_cases (get_or s.words p.place 0) (item_bit a))
-
-  pub turn_if_clear : (a : Act) (p : IsPlayed (AddsActIfClear a) s t) → IsHonest l s (with_bit a (bit_of a (get_or s.words p.place 0))) → Turn l s p.v p.w
-  turn_if_clear a p h = ⊎_elim
-      (λ zero. let x = p.told.0 zero in made (with_bit a (bit_of a (get_or s.words p.place 0))) x.0 (ap (λ (x : SeatView). x.0) x.1) h)
-      (λ one. stays (ap (λ (x : SeatView). x.0) (p.told.1 one)))
-      (bit_cases (get_or s.words p.place 0) (item_bit a))
-
-  pub turn_hand : (a : Act) (p : IsPlayed (ClearsBit a) s t) → IsHonest l s (with_bit a (bit_of a (get_or s.words p.place 0))) → Turn l s p.v p.w
-  turn_hand a p h = made (with_bit a (bit_of a (get_or s.words p.place 0))) p.told.1.0 (ap (λ (x : SeatView). x.0) p.told.1.1) h
-
-  pub turn_fetch : (p : IsPlayed FetchesWord s t) → Turn l s p.v p.w
-  turn_fetch p = stays (ap (λ (x : SeatView). x.0) p.told.0)
-
-  pub turn_compare : (p : IsPlayed ComparesMoment s t) → Turn l s p.v p.w
-  turn_compare p = stays (ap (λ (x : SeatView). x.0) p.told.0)
-
-  pub turn_read : (a : Access) (p : IsPlayed (ReadsWord a) s t) → Turn l s p.v p.w
-  turn_read a p = entered (front_of p.w) (reading a (get_or s.words p.place 0) (front_of p.w)) (ap (λ (x : SeatView). x.0) p.told.1 ∙ ap (λ (z : List Reading). reader_view p.v.layout (number_of p.v) (front_of p.w) z) p.told.2.adds)
-
-  pub turn_mark : (i : ℕ) (p : IsPlayed (AddsMark i) s t) → Turn l s p.v p.w
-  turn_mark i p = entered (front_of p.v) (mark_at i (front_of p.v)) (ap (λ (x : SeatView). x.0) p.told)
-
-  pub turn_notice : (i : ℕ) (p : IsPlayed (AddsMarkIfSet i) s t) → Turn l s p.v p.w
-  turn_notice i p = ⊎_elim
-      (λ zero. stays (ap (λ (x : SeatView). x.0) (p.told.1 zero)))
-      (λ one. entered (front_of p.v) (mark_at i (front_of p.v)) (ap (λ (x : SeatView). x.0) (p.told.0 one)))
-      (bit_cases (get_or s.words p.place 0) (recency_bit i))
-
-  -- no act that is stored is one of the hand, and the hand's has the bit of its item's place
-  pub stored_honest : (a : Act) (bit : ℕ) → IsStored a → IsHonest l s (with_bit a bit)
+  -- no act that is stored is one of the hand
+  stored_honest : (a : Act) (bit : ℕ) → IsStored a → IsHonest l s (with_bit a bit)
   stored_honest a bit st = λ i e. absurd (no_hand a i st e)
 
-  pub hand_honest : (i place : ℕ) → place ≡ recency_place l.width l.shape i → IsHonest l s (with_bit (Hand i) (bit_of (Hand i) (get_or s.words place 0)))
-  hand_honest i place at = λ k e.
-      let same : i ≡ k = ap item_in e in
-      ap (λ (n : ℕ). bit_at (get_or s.words n 0) (recency_bit i)) at ∙ ap (bit_in l s.words) same
+  -- and the hand's has the bit of its item's place
+  hand_honest : (a : Act) (place : ℕ) → place ≡ recency_place l.width l.shape (item_of a) → IsHonest l s (with_bit a (bit_of a (get_or s.words place 0)))
+  hand_honest a place at = λ k e.
+      ap (λ (b : Act). bit_of b (get_or s.words place 0)) e ∙ ap (λ (n : ℕ). bit_at (get_or s.words n 0) (recency_bit k)) (at ∙ ap (λ (b : Act). recency_place l.width l.shape (item_of b)) e)
+
+  -- an act that was made on the word of its item's bit
+  turn_act : (play : Says) (p : IsPlayed play s t) (a : Act) → IsAtBit a p.st (p.v, p.held) → AddsAct a p.st (p.v, p.held) (get_or s.words p.place 0) (p.w, table.carried_after p.held p.act) → Turn l s p.v p.w
+  turn_act play p a at told =
+      let e = ap (λ (x : SeatView). x.0) told.1 in
+      let layout = own_layout play p _ _ e in
+      made (with_bit a (bit_of a (get_or s.words p.place 0))) told.0 e (hand_honest a p.place (sym p.at ∙ (at ∙ (λ i. recency_place (layout i).width (layout i).shape (item_of a)))))
+
+  turn_stored : (play : Says) (p : IsPlayed play s t) (a : Act) → StoresAct a p.st (p.v, p.held) (get_or s.words p.place 0) (p.w, table.carried_after p.held p.act) → Turn l s p.v p.w
+  turn_stored play p a told = made (with_bit a (bit_of a (get_or s.words p.place 0))) told.1.0 (ap (λ (x : SeatView). x.0) told.1.1) (stored_honest a _ told.0)
+
+  -- what each play makes of the view
+  pub turn_of : (p : SeatPlay) (x : IsPlayed (says p) s t) → Turn l s x.v x.w
+  turn_of fetches x = stays (ap (λ (z : SeatView). z.0) x.told.0)
+  turn_of (makes a) x = turn_stored (StoresAct a) x a x.told
+  turn_of (marks_if_set a) x = ⊎_elim
+      (λ zero. stays (ap (λ (z : SeatView). z.0) (x.told.1 zero)))
+      (λ one. turn_stored (AddsActIfSet a) x a (x.told.0 one))
+      (bit_cases (get_or s.words x.place 0) (item_bit a))
+  turn_of (turns a) x = turn_act (ClearsBit a) x a x.told.0 x.told.2
+  turn_of (turns_if_clear a) x = ⊎_elim
+      (λ zero. turn_act (AddsActIfClear a) x a x.told.0 (x.told.1 zero))
+      (λ one. stays (ap (λ (z : SeatView). z.0) (x.told.2 one)))
+      (bit_cases (get_or s.words x.place 0) (item_bit a))
+  turn_of (reads a) x = entered (front_of x.w) (reading a (get_or s.words x.place 0) (front_of x.w)) (ap (λ (z : SeatView). z.0) x.told.1 ∙ ap (λ (z : List Reading). reader_view x.v.layout (number_of x.v) (front_of x.w) z) x.told.2.adds)
+  turn_of (marks i) x = entered (front_of x.v) (mark_at i (front_of x.v)) (ap (λ (z : SeatView). z.0) x.told)
+  turn_of (notices i) x = ⊎_elim
+      (λ zero. stays (ap (λ (z : SeatView). z.0) (x.told.1 zero)))
+      (λ one. entered (front_of x.v) (mark_at i (front_of x.v)) (ap (λ (z : SeatView). z.0) (x.told.0 one)))
+      (bit_cases (get_or s.words x.place 0) (recency_bit i))
+  turn_of compares x = stays (ap (λ (z : SeatView). z.0) x.told.0)
 
 -- ---- what a step does to the list of acts
 -- it leaves it, or adds one act, in the writer's view

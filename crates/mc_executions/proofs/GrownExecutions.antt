@@ -6,6 +6,7 @@ use lib.ListN.{get_elem?}
 use Rattle.atomic_table.specs.Table.{step, stepped}
 use Rattle.atomic_table.proofs.Lists.{set_here, at_last}
 use Rattle.mc_theory.specs.Readings.{Reading}
+use Rattle.mc_shared.specs.SeatPlays.{reads, seats}
 use Rattle.mc_shared.specs.Steps.{SeatView, reading}
 use Rattle.mc_shared.specs.Views.{tally_for, View, writer_view, reader_view, front_of}
 use Rattle.mc_shared.proofs.CutSeats.{splits_new}
@@ -39,10 +40,10 @@ grown_ruled l zero states t ruled new (suc k) = new
 grown_ruled l (suc n) states t ruled new zero = ruled 0
 grown_ruled l (suc n) states t ruled new (suc k) = grown_ruled l n (λ m. states (suc m)) t (λ m. ruled (suc m)) new k
 
-grown_steps : (l : Layout) (n : ℕ) (states : ℕ → TableState) (t : TableState) → ((k : ℕ) → IsStep l (states k) (states (suc k))) → IsStep l (states n) t → (k : ℕ) → IsStep l (grown states n t k) (grown states n t (suc k))
+grown_steps : (l : Layout) (n : ℕ) (states : ℕ → TableState) (t : TableState) → ((k : ℕ) → IsStep (states k) (states (suc k))) → IsStep (states n) t → (k : ℕ) → IsStep (grown states n t k) (grown states n t (suc k))
 grown_steps l zero states t steps new zero = new
 grown_steps l zero states t steps new (suc k) = touches refl
-grown_steps l (suc n) states t steps new zero = subst (IsStep l (states 0)) (sym (first_stays (λ m. states (suc m)) n t)) (steps 0)
+grown_steps l (suc n) states t steps new zero = subst (IsStep (states 0)) (sym (first_stays (λ m. states (suc m)) n t)) (steps 0)
 grown_steps l (suc n) states t steps new (suc k) = grown_steps l n (λ m. states (suc m)) t (λ m. steps (suc m)) new k
 
 pub executions_grow : AllExecutionsGrow
@@ -68,7 +69,7 @@ readers_may_come l = record {
       let new : View = reader_view l readers [] [] in
       let views : List View = set (states n).views seat left ++ new ∷ [] in
       let t : TableState = record { words = (states n).words; homes = (states n).homes; views = views } in
-      let x = (each_is_a_step l).seats (states n) seat v (splits_new l seat readers) (run.ruled n) mine in
+      let x = (each_is_a_step l).cuts seats (states n) seat v (splits_new l seat readers) (run.ruled n) mine in
       let g = (executions_grow l).grow states n t run x.0 x.1 in (
         grown states n t,
         g.0,
@@ -83,7 +84,7 @@ readers_may_come l = record {
       let allows = reads_one l seat (length s.homes) [] number front done a place st where_is refl below in
       let next = allows s (run.ruled n) refl mine small in
       let t : TableState = stepped s place (get_or s.words place 0) seat [] next.0 next.1 in
-      let x = (each_is_a_step l).reads a s seat (length s.homes) place v [] st (λ w. w) refl tt allows (run.ruled n) refl mine small in
+      let x = (each_is_a_step l).plays (reads a) s seat (length s.homes) place v [] st (λ w. w) refl allows (run.ruled n) refl mine small in
       let g = (executions_grow l).grow states n t run x.0 x.1 in
       let e : Reading = reading a (get_or s.words place 0) (front_of next.0) in
       let w : View = reader_view l number (front_of next.0) (done ++ e ∷ []) in

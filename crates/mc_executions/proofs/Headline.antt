@@ -3,6 +3,7 @@ use Rattle.std.proofs.Common.{ℕ}
 use Rattle.mc_executions.specs.Headline.{Headline}
 use Rattle.mc_executions.proofs.ActingWriters.{writers_may_act}
 use Rattle.mc_executions.proofs.ClearVictims.{victims_were_clear}
+use Rattle.mc_executions.proofs.EvictionExample.{evicted_then_met}
 use Rattle.mc_executions.proofs.Example.{put_beside_get}
 use Rattle.mc_executions.proofs.Fallbacks.{fallbacks_are_timed}
 use Rattle.mc_executions.proofs.GrownExecutions.{executions_grow, readers_may_come}
@@ -23,5 +24,5 @@ headline V = record {
   in_order = (moments_keep_order V, writes_are_seen V);
   every_victim = victims_were_clear V;
   each_atomic_step = each_is_a_step;
-  an_example = put_beside_get;
+  examples = (put_beside_get, evicted_then_met);
 }

@@ -46,7 +46,7 @@ pub steps_rise : (steps : ℕ → ℕ → ℕ) (s : ℕ) → AreStepsOf steps �
 steps_rise steps s are i j le = let here : i + (j - i) ≡ j = omega (arith, le) in subst (λ (n : ℕ). steps i s ≤ steps n s) here (rise steps s are (j - i) i)
 
 -- a reply that is true within the key's shard is what the one map held
-between_shards : (V : ℕ) (policy : Policy) (of : Sharded) (k : ℕ) (Before After : TableState → Type 0) (reply : Reply V) (all : Together V policy of) →
+pub between_shards : (V : ℕ) (policy : Policy) (of : Sharded) (k : ℕ) (Before After : TableState → Type 0) (reply : Reply V) (all : Together V policy of) →
     ((i j : ℕ) → i ≤ j → Before (all.states (shard_in of k) i) → After (all.states (shard_in of k) j) → IsTimedWithin V of.shape (all.states (shard_in of k)) (all.runs (shard_in of k)) i j k reply) →
     (i j : ℕ) → i ≤ j → Before (all.states (shard_in of k) (all.steps i (shard_in of k))) → After (all.states (shard_in of k) (all.steps j (shard_in of k))) →
     (n : ℕ) × (i ≤ n) × (n ≤ j) × Tells of.shape.mix (all.histories n) k reply

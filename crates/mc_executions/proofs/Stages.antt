@@ -16,11 +16,13 @@ use Rattle.mc_theory.specs.declared.act.Act.{Act}
 use Rattle.mc_shared.specs.ExactFronts.{StandsAt}
 use Rattle.mc_shared.specs.Inside.Seats.{MayMake}
 use Rattle.mc_shared.specs.Inside.Steps.{WritesAt, IsOffBits, only}
-use Rattle.mc_shared.specs.Steps.{SeatView, IsStored, bit_of, reading, mark_at}
+use Rattle.mc_shared.specs.SeatPlays.{makes, marks, reads}
+use Rattle.mc_shared.specs.Steps.{SeatView, reading, mark_at}
 use Rattle.mc_shared.specs.TableRule.{Ruled}
 use Rattle.mc_shared.specs.Views.{Tally, View, writer_view, reader_view, front_of, with_bit, with_note}
 use Rattle.mc_shared.specs.declared.layout.Layout.{Layout}
-use Rattle.mc_shared.proofs.EachStep.{got_below, makes, reads_one, marks_one}
+use Rattle.mc_shared.proofs.EachStep.{got_below, stores_as, reads_one, marks_one}
+use Rattle.mc_shared.proofs.SeatSteps.{off_stored, stored_bit}
 use Rattle.mc_shared.proofs.ExactReadings.{readings_are_newest, reads_are_entries}
 use Rattle.mc_shared.proofs.RecencySteps.{store_bits, store_past}
 use Rattle.mc_executions.specs.Executions.{TableState, IsExecution, IsStep, HasRecord, HasActs}
@@ -39,7 +41,7 @@ no_slots (chain a b) v =
     let y = no_slots b (subst (λ (z : List (Option (Unit {0})) × List (ℕ × Unit {0})). Valid z.0 z.1 b) (λ i. (x.0 i, x.1 i)) v.1) in
     ((λ i. homes_after (x.0 i) (x.1 i) b) ∙ y.0, (λ i. carried_after (x.1 i) b) ∙ y.1)
 
-still_none : (homes : List (Option (Unit {0}))) (a : TableAct (Unit {0})) → homes ≡ [] → Valid homes [] a → homes_after homes [] a ≡ []
+pub still_none : (homes : List (Option (Unit {0}))) (a : TableAct (Unit {0})) → homes ≡ [] → Valid homes [] a → homes_after homes [] a ≡ []
 still_none homes a e v = ap (λ (z : List (Option (Unit {0}))). homes_after z [] a) e ∙ (no_slots a (subst (λ (z : List (Option (Unit {0}))). Valid z [] a) e v)).0
 
 -- An execution that has come to state n. The writer, on seat 0, has made these acts, and reader 0, on seat 1, has this record. In an earlier
@@ -79,7 +81,7 @@ module _ (l : Layout) (n : ℕ) (ws : List ℕ) (acts : List Made) (done : List 
   abbrev s : TableState
   s = g.states n
 
-  grows_to : (t : TableState) → IsStep l s t → Ruled l t → (ws' : List ℕ) → t.words ≡ ws' → t.homes ≡ [] → (acts' : List Made) (done' : List Reading) (tally : Tally) (front : List Made)
+  grows_to : (t : TableState) → IsStep s t → Ruled l t → (ws' : List ℕ) → t.words ≡ ws' → t.homes ≡ [] → (acts' : List Made) (done' : List Reading) (tally : Tally) (front : List Made)
       → get_elem? t.views 0 ≡ some (writer_view l acts' tally) → get_elem? t.views 1 ≡ some (reader_view l 0 front done') → Stage l (suc n) ws' acts' done' acts0 done0
   grows_to t is rule ws' words homes acts' done' tally front writer reader =
       let e = (executions_grow l).grow g.states n t g.run is rule in
@@ -101,20 +103,20 @@ module _ (l : Layout) (n : ℕ) (ws : List ℕ) (acts : List Made) (done : List 
       }
 
   -- the writer stores the word of an act
-  pub after_act : (a : Act) (place x : ℕ) → IsStored a → IsOffBits a → ((z : ℕ) → bit_of a z ≡ 0) → MayMake l acts a → WritesAt l acts a place x → get_or ws place 0 < 2 ^ 64 → Stage l (suc n) (set ws place x) (acts ++ with_bit a 0 ∷ []) done acts0 done0
-  after_act a place x stored off zero may writes small =
+  pub after_act : (a : Act) (place x : ℕ) → IsOffBits a → MayMake l acts a → WritesAt l acts a place x → get_or ws place 0 < 2 ^ 64 → Stage l (suc n) (set ws place x) (acts ++ with_bit a 0 ∷ []) done acts0 done0
+  after_act a place x off may writes small =
       let rule = g.run.ruled n in
       let v : View = writer_view l acts g.tally in
       let st = step 0 place x 0 none in
-      let allows = makes l 0 0 [] acts g.tally a place x (λ z. x) (λ z. z) st may writes (λ z. refl) (store_bits l acts a place x (λ z. z) off may writes) (store_past l acts a place x off may writes) in
+      let allows = stores_as l l refl 0 0 (v, []) refl a place x (λ z. x) (λ z. z) st (off_stored a off) may writes (λ z. refl) (store_bits l acts a place x (λ z. z) off may writes) (store_past l acts a place x off may writes) in
       let low : get_or s.words place 0 < 18446744073709551616 = subst (λ (z : List ℕ). get_or z place 0 < 18446744073709551616) (sym g.words) small in
       let fits = ap length g.homes in
       let next = allows s rule fits g.writer low in
       let t : TableState = stepped s place x 0 [] next.0 next.1 in
-      let y = (each_is_a_step l).makes a stored s 0 0 place v [] st (λ z. x) refl tt allows rule fits g.writer low in
-      let told = next.4 in
+      let y = (each_is_a_step l).plays (makes a) s 0 0 place v [] st (λ z. x) refl allows rule fits g.writer low in
+      let told = next.4.1 in
       let view : next.0 ≡ writer_view l (acts ++ with_bit a 0 ∷ []) (with_note g.tally told.0) =
-      ap (λ (z : SeatView). z.0) told.1 ∙ ap (λ (b : ℕ). writer_view l (acts ++ with_bit a b ∷ []) (with_note g.tally told.0)) (zero (get_or s.words place 0)) in
+      ap (λ (z : SeatView). z.0) told.1 ∙ ap (λ (b : ℕ). writer_view l (acts ++ with_bit a b ∷ []) (with_note g.tally told.0)) (stored_bit a (get_or s.words place 0) off) in
       grows_to t y.0 y.1 (set ws place x) (ap (λ (z : List ℕ). set z place x) g.words) (still_none s.homes next.1 g.homes next.2) (acts ++ with_bit a 0 ∷ []) done (with_note g.tally told.0) g.front
       (set_here s.views 0 next.0 (got_below s.views 0 v g.writer) ∙ ap some view)
       (set_else s.views 0 1 next.0 (omega arith) ∙ g.reader)
@@ -132,7 +134,7 @@ module _ (l : Layout) (n : ℕ) (ws : List ℕ) (acts : List Made) (done : List 
       let fits = ap length g.homes in
       let next = allows s rule fits g.reader low in
       let t : TableState = stepped s place (get_or s.words place 0) 1 [] next.0 next.1 in
-      let y = (each_is_a_step l).reads a s 1 0 place v [] st (λ z. z) refl tt allows rule fits g.reader low in
+      let y = (each_is_a_step l).plays (reads a) s 1 0 place v [] st (λ z. z) refl allows rule fits g.reader low in
       let told = next.4 in
       let entry = reads_are_entries l s 1 0 place 0 g.front done [] a st allows rule fits g.reader low in
       let log = (log_is l s rule 0 (writer_view l acts g.tally) g.writer tt).0 in
@@ -159,7 +161,7 @@ module _ (l : Layout) (n : ℕ) (ws : List ℕ) (acts : List Made) (done : List 
       let next = allows s rule fits g.reader low in
       let x : ℕ = bit_or (get_or s.words place 0) (only i) in
       let t : TableState = stepped s place x 1 [] next.0 next.1 in
-      let y = (each_is_a_step l).marks i s 1 0 place v [] st (λ z. bit_or z (only i)) refl tt allows rule fits g.reader low in
+      let y = (each_is_a_step l).plays (marks i) s 1 0 place v [] st (λ z. bit_or z (only i)) refl allows rule fits g.reader low in
       let view : next.0 ≡ reader_view l 0 g.front (done ++ mark_at i g.front ∷ []) = ap (λ (z : SeatView). z.0) next.4 in (
         t.words,
         length g.front,

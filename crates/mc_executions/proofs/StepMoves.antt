@@ -2,13 +2,12 @@
 use Rattle.std.proofs.Common.{◌≡◌, set, ap, sym, ◌∙◌, subst, ℕ, arith}
 use mathlib.Core.Option.{some}
 use lib.ListN.{get_elem?}
-use Rattle.mc_theory.specs.declared.act.Act.TheVariants.{Hand}
-use Rattle.mc_shared.specs.Steps.{AddsAct, AddsActIfSet, AddsActIfClear, ClearsBit, FetchesWord, ReadsWord, AddsMark, AddsMarkIfSet, ComparesMoment}
+use Rattle.mc_shared.specs.SeatPlays.{says, seats, parts}
 use Rattle.mc_shared.specs.TableRule.{Ruled}
 use Rattle.mc_shared.specs.Views.{Tally, View}
 use Rattle.mc_shared.specs.declared.layout.Layout.{Layout}
-use Rattle.mc_executions.specs.Executions.{TableState, Says, IsPlayed, IsStep, touches, fetches, makes, marks_if_set, turns, turns_if_clear, reads, marks, notices, seats, joins, compares, parts, HasRecord}
-use Rattle.mc_executions.proofs.ExecutionSteps.{Turn, log_is, rests, keeps, readers_turn, log_turn, record_turn, turn_act, turn_if_set, turn_if_clear, turn_hand, turn_fetch, turn_compare, turn_read, turn_mark, turn_notice, stored_honest, hand_honest}
+use Rattle.mc_executions.specs.Executions.{TableState, Says, IsPlayed, IsStep, touches, plays, cuts, joins, HasRecord}
+use Rattle.mc_executions.proofs.ExecutionSteps.{Turn, log_is, rests, keeps, readers_turn, log_turn, record_turn, turn_of}
 use Rattle.mc_executions.proofs.SeatMoves.{Moves, moves_seated, moves_parted, moves_joined}
 
 module _ (l : Layout) (s t : TableState) (r : Ruled l s) (r' : Ruled l t) where
@@ -28,17 +27,9 @@ module _ (l : Layout) (s t : TableState) (r : Ruled l s) (r' : Ruled l t) where
   moves_by : (play : Says) (p : IsPlayed play s t) → Turn l s p.v p.w → Moves l s t r r'
   moves_by play p turn = moves_played p.seat p.v p.w p.mine (ap (λ (z : TableState). z.views) p.next) turn
 
-  pub moves : IsStep l s t → Moves l s t r r'
+  pub moves : IsStep s t → Moves l s t r r'
   moves (touches e) = moves_touched e
-  moves (fetches p) = moves_by FetchesWord p (turn_fetch l s t p)
-  moves (makes a st p) = moves_by (AddsAct a) p (turn_act l s t a p (stored_honest l s t a _ st))
-  moves (marks_if_set a st p) = moves_by (AddsActIfSet a) p (turn_if_set l s t a p (stored_honest l s t a _ st))
-  moves (turns i p at) = moves_by (ClearsBit (Hand i)) p (turn_hand l s t (Hand i) p (hand_honest l s t i p.place at))
-  moves (turns_if_clear i p at) = moves_by (AddsActIfClear (Hand i)) p (turn_if_clear l s t (Hand i) p (hand_honest l s t i p.place at))
-  moves (reads a p) = moves_by (ReadsWord a) p (turn_read l s t a p)
-  moves (marks i p) = moves_by (AddsMark i) p (turn_mark l s t i p)
-  moves (notices i p) = moves_by (AddsMarkIfSet i) p (turn_notice l s t i p)
-  moves (seats p) = moves_seated l s t r r' p
-  moves (joins p) = moves_joined l s t r r' p
-  moves (compares p) = moves_by ComparesMoment p (turn_compare l s t p)
-  moves (parts p) = moves_parted l s t r r' p
+  moves (plays p x) = moves_by (says p) x (turn_of l s t r' p x)
+  moves (cuts seats x) = moves_seated l s t r r' x
+  moves (cuts parts x) = moves_parted l s t r r' x
+  moves (joins x) = moves_joined l s t r r' x

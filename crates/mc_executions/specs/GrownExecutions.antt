@@ -3,16 +3,17 @@ use Rattle.std.specs.Prelude.{◌≡◌, ℕ, zero, suc, ◌^◌, ◌<◌, ◌�
 use mathlib.Core.Option.{some}
 use lib.ListN.{get_elem?}
 use Rattle.atomic_table.specs.Table as table
-use Rattle.mc_words.specs.Places.{all_words, word_count}
+use Rattle.mc_words.specs.Places.{all_words, recency_place, word_count}
 use Rattle.mc_words.specs.Shapes.{IsShape}
 use Rattle.mc_theory.specs.Lists.{Made}
 use Rattle.mc_theory.specs.Readings.{Reading}
 use Rattle.mc_theory.specs.Acts.{IsAllowed}
 use Rattle.mc_theory.specs.Writes.{place_read, write_of}
 use Rattle.mc_theory.specs.declared.access.Access.{Access}
-use Rattle.mc_shared.specs.TableRule.{Ruled}
+use Rattle.mc_shared.specs.TableRule.{Ruled, bit_in}
 use Rattle.mc_shared.specs.Views.{Tally, layout_state, tally_for, with_bit, writer_view, reader_view, new_writer_view}
 use Rattle.mc_theory.specs.declared.act.Act.{Act}
+use Rattle.mc_theory.specs.declared.act.Act.TheVariants.{Hand, Mark}
 use Rattle.mc_shared.specs.declared.layout.Layout.{Layout}
 use Rattle.mc_executions.specs.Executions.{TableState, IsStep, IsExecution, HasRecord, HasActs}
 
@@ -27,7 +28,7 @@ grown states (suc n) t (suc k) = grown (λ m. states (suc m)) n t k
 -- opening on begins an execution
 pub record ExecutionsGrow (l : Layout) : Type 0 where
   pub begin : (words : List ℕ) → words ≡ replicate (all_words l.width l.shape) 0 → IsExecution l (λ n. table.opening words [] (new_writer_view l))
-  pub grow : (states : ℕ → TableState) (n : ℕ) (t : TableState) → IsExecution l states → IsStep l (states n) t → Ruled l t →
+  pub grow : (states : ℕ → TableState) (n : ℕ) (t : TableState) → IsExecution l states → IsStep (states n) t → Ruled l t →
       IsExecution l (grown states n t) × ((k : ℕ) → k ≤ n → grown states n t k ≡ states k) × ((k : ℕ) → n < k → grown states n t k ≡ t)
 
 abbrev pub AllExecutionsGrow : Type 0
@@ -45,13 +46,22 @@ pub record ReadersMayCome (l : Layout) : Type 0 where
 abbrev pub AllReadersMayCome : Type 0
 AllReadersMayCome = (l : Layout) → ReadersMayCome l
 
--- in particular the writer may make any act next that is allowed in its state and that writes a word before the recency words: each but marks
--- and the hand's readings
+-- The writer's record has one act more after the next step, and what was before stays
+abbrev pub ActsNext : Layout → (ℕ → TableState) → ℕ → List Made → Made → Type 0
+ActsNext l states n acts made = (states' : ℕ → TableState) × IsExecution l states' × ((k : ℕ) → k ≤ n → states' k ≡ states k) × HasActs (states' (suc n)) (acts ++ made ∷ [])
+
+-- in particular the writer may make any act next that is allowed in its state: one that writes a word before the recency words, a mark, or a
+-- reading of the hand, which tells the bit that is there
 pub record WritersMayAct (l : Layout) : Type 0 where
   pub acts : (states : ℕ → TableState) (n seat place x : ℕ) (acts : List Made) (tally : Tally) (a : Act) → IsExecution l states → get_elem? (states n).views seat ≡ some (writer_view l acts tally) →
       IsShape l.shape → IsAllowed l.shape (layout_state l acts) a → (layout_state l acts).version_steps ≤ 2 ^ 62 →
-      write_of l.width l.shape (layout_state l acts).words (layout_state l acts).phase a ≡ Some (place, x) → slice_index (states n).words place < 2 ^ 64 →
-      (states' : ℕ → TableState) × IsExecution l states' × ((k : ℕ) → k ≤ n → states' k ≡ states k) × HasActs (states' (suc n)) (acts ++ with_bit a 0 ∷ [])
+      write_of l.width l.shape (layout_state l acts).words (layout_state l acts).phase a ≡ Some (place, x) → slice_index (states n).words place < 2 ^ 64 → ActsNext l states n acts (with_bit a 0)
+  pub marks : (states : ℕ → TableState) (n seat i : ℕ) (acts : List Made) (tally : Tally) → IsExecution l states → get_elem? (states n).views seat ≡ some (writer_view l acts tally) →
+      IsShape l.shape → IsAllowed l.shape (layout_state l acts) (Mark i) → (layout_state l acts).version_steps ≤ 2 ^ 62 →
+      slice_index (states n).words (recency_place l.width l.shape i) < 2 ^ 64 → ActsNext l states n acts (with_bit (Mark i) 0)
+  pub hands : (states : ℕ → TableState) (n seat i : ℕ) (acts : List Made) (tally : Tally) → IsExecution l states → get_elem? (states n).views seat ≡ some (writer_view l acts tally) →
+      IsShape l.shape → IsAllowed l.shape (layout_state l acts) (Hand i) → (layout_state l acts).version_steps ≤ 2 ^ 62 →
+      slice_index (states n).words (recency_place l.width l.shape i) < 2 ^ 64 → ActsNext l states n acts (with_bit (Hand i) (bit_in l (states n).words i))
 
 abbrev pub AllWritersMayAct : Type 0
 AllWritersMayAct = (l : Layout) → WritersMayAct l

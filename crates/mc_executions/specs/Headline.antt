@@ -3,6 +3,7 @@
 -- hand read it; each atomic step of the running cache is one of these steps.
 use Rattle.std.specs.Prelude.{ℕ}
 use Rattle.mc_executions.specs.ClearVictims.{VictimsWereClear}
+use Rattle.mc_executions.specs.EvictionExample.{EvictedThenMet}
 use Rattle.mc_executions.specs.Example.{PutBesideGet}
 use Rattle.mc_executions.specs.GrownExecutions.{AllExecutionsGrow, AllReadersMayCome, AllWritersMayAct}
 use Rattle.mc_executions.specs.Linearizable.{CallsAreLinearizable}
@@ -28,5 +29,5 @@ pub record Headline (V : ℕ) : Type 0 where
   pub in_order : MomentsKeepOrder V × WritesAreSeen V
   pub every_victim : VictimsWereClear V
   pub each_atomic_step : EachIsAStep
-  -- there is an execution with a put and a lookup of its key that overlap
-  pub an_example : PutBesideGet
+  -- there is an execution with a put and a lookup of its key that overlap, and one with an eviction, two readers and a meeting
+  pub examples : PutBesideGet × EvictedThenMet

@@ -1,10 +1,13 @@
 -- The same for the calls from C.
-use Rattle.std.specs.Prelude.{◌≡◌, ℕ, List, length}
+use Rattle.std.specs.Prelude.{◌≡◌, ℕ, ◌^◌, ◌<◌, List, length}
 use Rattle.mc_words.specs.declared.history.Reply.{Reply}
+use Rattle.mc_door.specs.AnySides.{role_in, width_of}
 use Rattle.mc_door.specs.Looks.{reply_of}
+use Rattle.mc_door.specs.Means.{GetOrTurnTells, GetTells}
 use Rattle.mc_door.specs.Roles.{Role, Tries, Holds}
 use Rattle.mc_door.specs.Tellings.{lookup_told}
 use Rattle.mc_door.specs.Tells.{HasTold, Tells}
+use Rattle.mc_door.specs.declared.any_side.AnySide.{AnySide}
 use Rattle.mc_door.specs.declared.outcome.Outcome.{Outcome}
 use Rattle.mc_executions.specs.RunningShards.{HolderIsTimed, PassIsTimed}
 
@@ -17,3 +20,11 @@ IsTimedBy V _ _ k reply = ⊥
 -- What was returned is the answer of such a lookup, with its value in these words. Or the value has another width, and nothing has changed
 abbrev pub TellsTimed : (V : ℕ) → Role → Role → Type 0 → ℕ → List ℕ → List ℕ → Outcome → Type 0
 TellsTimed V role role' Same k old new told = Tells V (length old) (Same × (new ≡ old)) (HasTold lookup_told (λ made. IsTimedBy V role role' k (reply_of V new made)) told) told
+
+-- Whatever returns what `GetTells` or `GetOrTurnTells` says by a handle for C, as each export's contract has it, returns such an answer
+abbrev pub AnswersAreTimed : Type 0
+AnswersAreTimed =
+    (side side' : AnySide) (k : ℕ) (old new : List ℕ) (told : Outcome) → k < 2 ^ 64 →
+    let V = width_of side in
+    (GetTells V (role_in side) (role_in side') (side' ≡ side) k old new told → TellsTimed V (role_in side) (role_in side') (side' ≡ side) k old new told) ×
+    (GetOrTurnTells V (role_in side) (role_in side') (side' ≡ side) k old new told → TellsTimed V (role_in side) (role_in side') (side' ≡ side) k old new told)

@@ -36,6 +36,12 @@ TellsBetween V of k Before After reply =
 abbrev pub PassIsTimed : (V : ℕ) → Sharded → ℕ → List ReaderRecord → List ReaderRecord → Reply V → Type 0
 PassIsTimed V of k old new reply = ChangesAt (shard_in of k) old new (λ r r'. TellsBetween V of k (HasReader r) (HasReader r') reply)
 
+-- lookups of many keys by a pass: each reply is what the one map held at a moment of the call
+abbrev pub PassManyAreTimed : (V : ℕ) → Sharded → List ℕ → List ReaderRecord → List ReaderRecord → List (Reply V) → Type 0
+PassManyAreTimed V of keys old new replies =
+    (n k : ℕ) (reply : Reply V) (r r' : ReaderRecord) → slice_get keys n ≡ Some k → slice_get replies n ≡ Some reply →
+    slice_get old (shard_in of k) ≡ Some r → slice_get new (shard_in of k) ≡ Some r' → TellsBetween V of k (HasReader r) (HasReader r') reply
+
 -- a lookup by a holder: the same of the writer of the key's shard
 abbrev pub HolderIsTimed : (V : ℕ) → Sharded → ℕ → Holding → Holding → Reply V → Type 0
 HolderIsTimed V of k old new reply = ChangesAt (shard_in of k) old.writers new.writers (λ w w'. TellsBetween V of k (λ s. HasActs s w.acts) (λ s. HasActs s w'.acts) reply)

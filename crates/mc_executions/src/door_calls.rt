@@ -1,5 +1,5 @@
-//! The lookups that the exports of the C library make, and when their answers are true. The contract of `cefrodil_get` and of its like says
-//! that what they return is told by these: `GetTells`, `GetOrTurnTells`.
+//! The lookups that the exports of the C library make, and when their answers are true. The contract of `cefrodil_get` and of its like says of
+//! what they return the same as these calls' contracts: `GetTells`, `GetOrTurnTells` (`laws::answers_are_timed`).
 ghost use Rattle.std.specs.Prelude.{◌≡◌};
 ghost use Rattle.mc_door.specs.AnySides.{role_in, width_of};
 ghost use Rattle.mc_executions.specs.RunningDoor.{TellsTimed};

@@ -6,7 +6,9 @@ ghost use Rattle.mc_executions.specs.ShardedTime.{ShardsAreTimed};
 ghost use Rattle.mc_executions.specs.TimeOrder.{MomentsKeepOrder, WritesAreSeen, ChangesAreSteps, LogIsOne, RecordIsOne, RecordsPass};
 ghost use Rattle.mc_executions.specs.ClearVictims.{VictimsWereClear};
 ghost use Rattle.mc_executions.specs.Linearizable.{CallsAreLinearizable};
+ghost use Rattle.mc_executions.specs.RunningDoor.{AnswersAreTimed};
 ghost use Rattle.mc_executions.specs.RunningSteps.{EachIsAStep};
+ghost use Rattle.mc_executions.specs.EvictionExample.{EvictedThenMet};
 ghost use Rattle.mc_executions.specs.Example.{PutBesideGet};
 
 /// For every order of a lawful writer's and any readers' atomic steps, each completed lookup answers what the map of the writer's changes held
@@ -30,6 +32,12 @@ pub fn readers_may_come()
 /// the put once, and finds the new value, which the map held between two of its steps.
 pub fn put_beside_get()
     ensures { PutBesideGet }
+{}
+
+/// There is an execution with two readers in which a key is put and evicted. One reader meets the writer then, and its lookup beside the writer
+/// is told that the key is gone.
+pub fn evicted_then_met()
+    ensures { EvictedThenMet }
 {}
 
 /// In every execution each lookup of each reader is true at a moment between the step that entered its first entry and the step that
@@ -66,6 +74,12 @@ pub fn fallbacks_are_timed<const V: usize>()
 /// A lookup of shards answers what the one map of all shards held at a moment between two steps of the key's shard.
 pub fn shards_are_timed<const V: usize>()
     ensures { ShardsAreTimed V }
+{}
+
+/// What `cefrodil_get`, `cefrodil_get_or_turn` and their like ensure (`GetTells`, `GetOrTurnTells`) makes the answer that they tell true at a
+/// moment between call and return.
+pub fn answers_are_timed()
+    ensures { AnswersAreTimed }
 {}
 
 /// Lookups of any two readers keep the order of time: if one's last step comes no later than the other's first, so does its moment.

@@ -1,6 +1,6 @@
 //! The calls of shards, and when their answers are true, in every order of the steps of all shards.
-ghost use Rattle.std.specs.Prelude.{◌≡◌};
-ghost use Rattle.mc_executions.specs.RunningShards.{HeldCallIsTimed, HeldPeekIsTimed, HolderIsTimed, PassIsTimed};
+ghost use Rattle.std.specs.Prelude.{◌≡◌, length};
+ghost use Rattle.mc_executions.specs.RunningShards.{HeldCallIsTimed, HeldPeekIsTimed, HolderIsTimed, PassIsTimed, PassManyAreTimed};
 ghost use Rattle.mc_shards.specs.Holding.{IsHolderOf};
 ghost use Rattle.mc_shards.specs.Sharded.{ArePassOf};
 
@@ -27,6 +27,20 @@ pub fn pass_get_or_desk<const V: usize>(
     ensures timed { PassIsTimed V shards.now key pass.old pass.new result }
 {
     pass.get_or_desk(shards, key)
+}
+
+/// `Pass::get_many`: each reply is what the one map held of its key at a moment between call and return.
+pub fn pass_get_many<const V: usize>(
+    shards: &Shards<V>,
+    pass: &mut Pass<V>,
+    keys: &[u64],
+    replies: &mut [Reply<V>],
+)
+    requires of { ArePassOf shards.now pass.old }
+    requires many { length replies.old ≡ length keys.now }
+    ensures timed { PassManyAreTimed V shards.now keys.now pass.old pass.new replies.new }
+{
+    pass.get_many(shards, keys, replies);
 }
 
 /// `Holder::get`: its reply is what the one map holds of the key at a moment of the call.

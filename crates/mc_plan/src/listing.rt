@@ -138,7 +138,7 @@ fn start_insert<const V: usize, P: Peek>(
     let Some(room) = books.room::<V, P>(peek, parts) else {
         return Start::Planned(Err(PutError::NoPath));
     };
-    match books.insert::<V, P>(peek, key, room, at) {
+    match books.insert::<V, P>(peek, key, parts.mixed, room, at) {
         Some(storing) => {
             add_storing(books, plan, key, value, storing);
             Start::Planned(Ok(books.told(storing, None)))
@@ -239,7 +239,8 @@ pub(crate) fn finish_put<const V: usize, P: Peek>(
     ensures shape { books.new.checked ≡ books.old.checked }
     ensures kept { peek.new ≡ peek.old }
 {
-    let taken = books.finish::<V, P>(peek, &waiting)?;
+    let mixed = books.checked.mixed(waiting.key);
+    let taken = books.finish::<V, P>(peek, &waiting, mixed)?;
     add_replacement(books, plan, waiting.key, &waiting.value, taken);
     Ok(books.told(taken.storing, Some(taken.victim.key)))
 }

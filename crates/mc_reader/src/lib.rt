@@ -18,6 +18,6 @@ mod places;
 mod running_lookup;
 mod touches;
 
-pub use many_lookups::{get_many, touch_ahead};
+pub use many_lookups::{get_many, pays_ahead, touch_ahead};
 pub use running_lookup::get;
-pub use touches::GROUP;
+pub use touches::{GROUP, touch_named, touch_slots};

@@ -8,9 +8,9 @@ use crate::touches::{GROUP, touch_group};
 use mc_shared::{Cells, ReaderSeat};
 use mc_words::Reply;
 
-/// From this many buckets on, words are touched ahead. In smaller tables most words are in the processor's caches, and touching them costs
+/// From this many buckets on, those of all shards together, words are touched ahead. In smaller tables most words are in the processor's caches, and touching them costs
 /// more than it saves.
-const LARGE: u32 = 131_072;
+const LARGE: u64 = 131_072;
 
 /// From this many keys on, a group of them is touched ahead. With fewer keys, too few loads are under way at once.
 const LEAST: usize = 8;
@@ -33,9 +33,9 @@ pub fn get_many<const V: usize>(
         (length (state_of V cells.now.layout.shape seat.new.front).history) keys.now replies.new }
 {
     let checked = cells.checked();
-    let large = checked.shape().buckets >= LARGE;
+    let buckets = u64::from(checked.shape().buckets);
     for i in 0..keys.len() {
-        if large && i % GROUP == 0 && keys.len() - i >= LEAST {
+        if i % GROUP == 0 && pays_ahead(buckets, keys.len() - i) {
             touch_group(cells, &keys[i..keys.len().min(i + GROUP)]);
         }
         replies[i] = get(cells, seat, keys[i]);
@@ -43,10 +43,16 @@ pub fn get_many<const V: usize>(
     seat.known();
 }
 
+/// Whether it pays to touch the words of so many keys ahead, in tables that have so many buckets together.
+#[inline(always)]
+pub fn pays_ahead(buckets: u64, keys: usize) -> bool {
+    buckets >= LARGE && keys >= LEAST
+}
+
 /// Touches what lookups of the first of these keys will read, of `GROUP` keys at most, if `get_many` does so: in a large table, for
 /// enough keys. It changes nothing, and no answer depends on it.
 pub fn touch_ahead<const V: usize>(cells: &Cells<V>, keys: &[u64]) {
-    if cells.checked().shape().buckets >= LARGE && keys.len() >= LEAST {
+    if pays_ahead(u64::from(cells.checked().shape().buckets), keys.len()) {
         touch_group(cells, &keys[..keys.len().min(GROUP)]);
     }
 }

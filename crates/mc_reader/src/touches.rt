@@ -119,6 +119,22 @@ fn touch_item<const V: usize>(cells: &Cells<V>, checked: &Checked, i: u32)
     touch(cells, last);
 }
 
+/// Touches the slots of the key's two buckets.
+#[inline(always)]
+pub fn touch_slots<const V: usize>(cells: &Cells<V>, key: u64) {
+    let aim = aim_at::<V>(cells.checked(), key);
+    touch_row(cells, aim.first);
+    touch_row(cells, aim.second);
+}
+
+/// Touches the item that the slots of the key's buckets seem to name.
+#[inline(always)]
+pub fn touch_named<const V: usize>(cells: &Cells<V>, key: u64) {
+    let checked = cells.checked();
+    let item = guess(cells, aim_at::<V>(checked, key), checked.shape().items);
+    touch_item(cells, checked, item);
+}
+
 /// Touches what the lookups of these keys will read: the slots of their buckets, and then the items that these seem to name.
 /// Condition: the keys are at most as many as a group.
 #[inline(never)]

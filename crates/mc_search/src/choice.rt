@@ -125,6 +125,7 @@ impl Choice {
     }
 
     /// Hands an item in use from a key that gives way, which is noted if the item is new, to a new key. Both keys are mixed.
+    #[inline(always)]
     pub(crate) fn hand_on(&mut self, item: u32, old: u64, new: u64)
         requires kept { IsChoice self.old }
         requires in_use { IsInUse self.old item }
@@ -146,6 +147,7 @@ impl Choice {
     }
 
     /// The item whose bit is to be read next.
+    #[inline(always)]
     pub(crate) fn next(&self) -> Option<u32>
         requires { IsChoice self.now }
         ensures { MatchOption result ((j : ℕ) → IsInUse self.now j → ⊥) (IsInUse self.now) }

@@ -16,7 +16,8 @@ use Rattle.mc_shared.specs.Records.{ReaderRecord}
 use Rattle.mc_cache.specs.Plain.{seen}
 use Rattle.mc_shards.proofs.Dealt.{as_many}
 use Rattle.mc_shards.specs.Plain.{AllBegin, HasAnswered, history_of, seens}
-use Rattle.mc_shards.specs.Sharded.{ArePassOf, ChangesAt, Sharded, shard_in}
+use Rattle.mc_reader.specs.Records.{HasLooked}
+use Rattle.mc_shards.specs.Sharded.{ArePassOf, ChangesAt, HaveLookedAt, Sharded, shard_in}
 use Rattle.std.proofs.lemmas.Option.{slice_get_within}
 
 begins_then : {V : ℕ} (h h' h'' : List (Change V)) → Begins h h' → Begins h' h'' → Begins h h''
@@ -76,6 +77,13 @@ answered_later V h h' h'' k r b a = record {
   true = a.true;
   between = between_later (length h) (length h') (length h'') r (long_of h h' b) a.between;
 }
+
+-- one lookup more
+pub looked_more : (V : ℕ) (of : Sharded) (ks : List ℕ) (k : ℕ) (old mid new : List ReaderRecord) (rs : List (Reply V)) (r : Reply V) → HaveLookedAt V of ks old mid rs → ChangesAt (shard_in of k) mid new (λ a b. HasLooked V of.shape k a b r) → HaveLookedAt V of (ks ++ k ∷ []) old new (rs ++ r ∷ [])
+looked_more V of [] k old mid new [] r h one = (new, subst (λ (x : List ReaderRecord). ChangesAt (shard_in of k) x new (λ a b. HasLooked V of.shape k a b r)) h one, refl)
+looked_more V of (x ∷ ks) k old mid new (y ∷ rs) r h one = (h.0, h.1, looked_more V of ks k h.0 mid new rs r h.2 one)
+looked_more V of [] k old mid new (y ∷ rs) r h one = absurd h
+looked_more V of (x ∷ ks) k old mid new [] r h one = absurd h
 
 -- one lookup, of the one map
 pub all_begin_lookup : (V : ℕ) (n : ℕ) (hs hs' : Histories V) (k : ℕ) (r : Reply V) → ChangesAt n hs hs' (λ h h'. HasAnswered V h h' k r) → AllBegin hs hs'

@@ -1,7 +1,9 @@
 -- What clauses see of shards, and of a pass: a list of the records of its readers, one of each shard.
-use Rattle.std.specs.Prelude.{ℕ, ◌≡◌, List, Some, length, map, slice_get, slice_set}
+use Rattle.std.specs.Prelude.{ℕ, ◌≡◌, List, [], ◌∷◌, Some, length, map, slice_get, slice_set}
 use Rattle.mc_words.specs.Keys.{shard_of}
+use Rattle.mc_words.specs.declared.history.Reply.{Reply}
 use Rattle.mc_words.specs.declared.shape.Shape.{Shape}
+use Rattle.mc_reader.specs.Records.{HasLooked}
 use Rattle.mc_shared.specs.Records.{Opening, ReaderRecord}
 use Rattle.mc_shards.specs.Lending.{Lock}
 
@@ -26,3 +28,10 @@ pub record ChangesAt {A : Type 0} (n : ℕ) (xs ys : List A) (Goes : A → A →
   pub was : slice_get xs n ≡ Some before
   pub is : ys ≡ slice_set xs n after
   pub goes : Goes before after
+
+-- these keys were looked up in their order, each by the record of its shard, with these replies, and nothing else changed
+abbrev pub HaveLookedAt : (V : ℕ) → Sharded → List ℕ → List ReaderRecord → List ReaderRecord → List (Reply V) → Type 0
+HaveLookedAt V of [] old new [] = new ≡ old
+HaveLookedAt V of (k ∷ ks) old new (r ∷ rs) = (mid : List ReaderRecord) × ChangesAt (shard_in of k) old mid (λ a b. HasLooked V of.shape k a b r) × HaveLookedAt V of ks mid new rs
+HaveLookedAt V of [] old new (r ∷ rs) = ⊥
+HaveLookedAt V of (k ∷ ks) old new [] = ⊥

@@ -6,7 +6,7 @@ ghost use Rattle.mc_cache.specs.Turns.{HasLookedOrMet, HasTriedTo, HasTriedToPee
 ghost use Rattle.mc_cache.specs.Failing.{TurnFails, versions_seen};
 ghost use Rattle.mc_cache.specs.Plain.{seen};
 ghost use Rattle.mc_shards.specs.Plain.{AllAnswered, AllBegin, HasAnswered, PeekMeans, TurnMeans, seens};
-ghost use Rattle.mc_shards.specs.Sharded.{ArePassOf, ChangesAt, shard_in};
+ghost use Rattle.mc_shards.specs.Sharded.{ArePassOf, ChangesAt, HaveLookedAt, shard_in};
 
 use crate::lending::Turn;
 use crate::shards::Shards;
@@ -170,6 +170,7 @@ impl<const V: usize> Pass<V> {
         requires of { ArePassOf shards.now self.old }
         requires many { length replies.old ≡ length keys.now }
         ensures of { ArePassOf shards.now self.new }
+        ensures looked { HaveLookedAt V shards.now keys.now self.old self.new replies.new }
         ensures plain { AllBegin (seens V self.old) (seens V self.new) × AllAnswered V shards.now.shape.mix (seens V self.old) (seens V self.new) keys.now replies.new }
     {
         for n in 0..keys.len() {

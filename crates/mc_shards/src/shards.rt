@@ -4,7 +4,8 @@ ghost use Rattle.mc_shards.specs.Lending.{table_of};
 ghost use Rattle.mc_shards.specs.Sharded.{shard_in};
 
 use crate::lender::Lender;
-use mc_cache::{Cache, Shape};
+use mc_cache::{Cache, GROUP, Shape};
+use mc_reader::pays_ahead;
 use std::marker::Model;
 
 /// A cache of shards: caches of one shape, each with its writer, which is lent for a turn. Lend it to every thread. In contracts it is the tables that
@@ -77,11 +78,37 @@ impl<const V: usize> Shards<V> {
         self.shape.mix.shard(key, self.count()) as usize
     }
 
-    /// Loads ahead the words that lookups of the first of these keys will read, of `GROUP` keys at most: `Cache::touch_ahead`. Where there are
-    /// several shards it does nothing: they are seldom large enough for it to pay.
+    /// Loads ahead the words that lookups of the first of these keys will read, of `GROUP` keys at most, where the shards together are large
+    /// enough for it to pay. It changes nothing, and no answer depends on it.
     pub fn touch_ahead(&self, keys: &[u64]) {
         if self.is_single() {
             self.cache(0).touch_ahead(keys);
+            return;
+        }
+        let buckets = u64::from(self.shape.buckets) * u64::from(self.count());
+        if pays_ahead(buckets, keys.len()) {
+            self.touch_each(&keys[..keys.len().min(GROUP)]);
+        }
+    }
+
+    /// Loads ahead the words that a lookup of this key will read. It changes nothing, and no answer depends on it.
+    #[inline(always)]
+    pub fn prefetch(&self, key: u64) {
+        self.cache(self.shard_of(key)).touch_named(key);
+    }
+
+    // The slots of all the keys first, and then the items that they name: so the processor waits for many words at once.
+    #[inline(never)]
+    fn touch_each(&self, keys: &[u64]) {
+        self.touch_slots(keys);
+        for &key in keys {
+            self.prefetch(key);
+        }
+    }
+
+    fn touch_slots(&self, keys: &[u64]) {
+        for &key in keys {
+            self.cache(self.shard_of(key)).touch_slots(key);
         }
     }
 

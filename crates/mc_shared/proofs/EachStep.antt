@@ -35,7 +35,7 @@ use Rattle.mc_shared.specs.RecencyTrace.{Trace, new_trace, trace_after, trace_of
 use Rattle.mc_shared.specs.Views.{Note, Tally, new_tally, with_reader, with_note, seated_in, Role, Spent, Writes, Reads, Both, View, IsWriters, view_as, writer_view, reader_view, new_writer_view, acts_of, tally_of, number_of, front_of, done_of, layout_state, with_bit, IsFrontOf}
 use Rattle.mc_shared.specs.ExactFronts.{IsExact}
 use Rattle.mc_shared.specs.TableRule.{word_after, IsRecord, FitsRole, Fits, AllFit, HasWriter, seats_of, marks_of, bit_in, Ruled}
-use Rattle.mc_shared.specs.Steps.{SeatView, bit_of, item_bit, AddsAct, ClearsBit, AddsActIfSet, AddsActIfClear, FetchesWord, reading, ReadsWord, mark_at, AddsMark, AddsMarkIfSet, ComparesMoment}
+use Rattle.mc_shared.specs.Steps.{SeatView, IsStored, bit_of, item_of, item_bit, AddsAct, StoresAct, ClearsBit, AddsActIfSet, AddsActIfClear, FetchesWord, reading, ReadsWord, mark_at, AddsMark, AddsMarkIfSet, ComparesMoment}
 use Rattle.mc_shared.specs.Inside.Steps.{WritesAt, only, all_but}
 use Rattle.mc_shared.specs.Inside.Seats.{MayMake}
 use Rattle.mc_shared.proofs.WrittenPlaces.{act_names_in, place_below, word_written}
@@ -208,21 +208,21 @@ module _ (l : Layout) (id slots : ℕ) (c : List (ℕ × Unit {0})) where
       dite (ℕ_discrete (bit_at w (recency_bit i)) 1)
       (λ (e : bit_at w (recency_bit i) ≡ 1).
       let m = makes acts tally (Mark i) n (only i) (λ z. bit_or z (only i)) (λ z. z) st may (refl, refl) (λ low. absurd (omega arith)) (touch_bits l i) (spared_past l i (λ z. bit_or z (only i)) (act_names_in l acts (Mark i) may) (or_spares (recency_bit i) (bit_low i))) s r long at fits in
-      (m.0, m.1, m.2, subst (λ (x : ℕ). Ruled l (stepped s n x id c m.0 m.1)) (or_same (recency_bit i) w e) m.3, ((λ _. m.4), (λ z. absurd (omega (arith, e, z))))))
+      (m.0, m.1, m.2, subst (λ (x : ℕ). Ruled l (stepped s n x id c m.0 m.1)) (or_same (recency_bit i) w e) m.3, ((λ _. (tt, m.4)), (λ z. absurd (omega (arith, e, z))))))
       (λ ne. (v, keeps, tt, unmoved s r n v v at (λ k. refl) (λ a. refl) (λ z. z) (r.views id v at), ((λ z. absurd (ne z)), (λ _. refl))))
 
   -- a load of the word that holds the bit at the hand. If it finds the bit clear, it is the very step that clears it
-  pub passes : (acts : List Made) (tally : Tally) (i : ℕ) (st : Step (Unit {0})) → MayMake l acts (Hand i)
+  pub passes : (acts : List Made) (tally : Tally) (i : ℕ) (st : Step (Unit {0})) → MayMake l acts (Hand i) → st.word ≡ recency_place l.width l.shape i
       → Allows (Ruled l) slots id (writer_view l acts tally, c) (recency_place l.width l.shape i) (λ w. w) (AddsActIfClear (Hand i) st (writer_view l acts tally, c))
-  passes acts tally i st may s r long at fits =
+  passes acts tally i st may here s r long at fits =
       let v : View = writer_view l acts tally in
       let n : ℕ = recency_place l.width l.shape i in
       let w : ℕ = get_or s.words n 0 in
       dite (ℕ_discrete (bit_at w (recency_bit i)) 0)
       (λ (e : bit_at w (recency_bit i) ≡ 0).
       let m = makes acts tally (Hand i) n (all_but i) (λ z. bit_and z (all_but i)) (λ z. z) st may (refl, refl) (λ low. absurd (omega arith)) (hand_bits l i) (spared_past l i (λ z. bit_and z (all_but i)) (act_names_in l acts (Hand i) may) (and_spares (recency_bit i) (bit_low i))) s r long at fits in
-      (m.0, m.1, m.2, subst (λ (x : ℕ). Ruled l (stepped s n x id c m.0 m.1)) (and_same (recency_bit i) w (bit_low i) fits e) m.3, ((λ _. m.4), (λ z. absurd (omega (arith, e, z))))))
-      (λ ne. (v, keeps, tt, unmoved s r n v v at (λ k. refl) (λ a. refl) (λ z. z) (r.views id v at), ((λ z. absurd (ne z)), (λ _. refl))))
+      (m.0, m.1, m.2, subst (λ (x : ℕ). Ruled l (stepped s n x id c m.0 m.1)) (and_same (recency_bit i) w (bit_low i) fits e) m.3, (here, (λ _. m.4), (λ z. absurd (omega (arith, e, z))))))
+      (λ ne. (v, keeps, tt, unmoved s r n v v at (λ k. refl) (λ a. refl) (λ z. z) (r.views id v at), (here, (λ z. absurd (ne z)), (λ _. refl))))
 
   pub looks : (acts : List Made) (tally : Tally) (n : ℕ) (st : Step (Unit {0})) → st.word ≡ n → n < word_count l.width l.shape → Allows (Ruled l) slots id (writer_view l acts tally, c) n (λ r. r) (FetchesWord st (writer_view l acts tally, c))
   looks acts tally n st is below s r long at fits =
@@ -329,6 +329,12 @@ module _ (key l : Layout) (key-is : key ≡ l) (id slots : ℕ) (me : SeatView) 
   makes_as is a n x f g st may w writes bit past = subst (λ (k : Layout). Allows (Ruled k) slots id me n f (λ r. AddsAct a st me (g r))) (sym key-is)
       (subst (λ (z : SeatView). Allows (Ruled l) slots id z n f (λ r. AddsAct a st z (g r))) (sym is) (makes l id slots [] (acts_of me.0) (tally_of me.0) a n x f g st may w writes bit past))
 
+  pub stores_as : me ≡ (writer_view l (acts_of me.0) (tally_of me.0), []) → (a : Act) (n x : ℕ) (f g : ℕ → ℕ) (st : Step (Unit {0})) → IsStored a → MayMake l (acts_of me.0) a → WritesAt l (acts_of me.0) a n x
+      → (n < word_count l.width l.shape → f (word_after l (acts_of me.0) n) ≡ x) → StepBits l a n f g → StepPast l n f → Allows (Ruled key) slots id me n f (λ r. StoresAct a st me (g r))
+  stores_as is a n x f g st stored may w writes bit past s r long at fits =
+      let y = makes_as is a n x f g st may w writes bit past s r long at fits in
+      (y.0, y.1, y.2, y.3, (stored, y.4))
+
   -- the hand, and the writer's mark
   pub hands_as : me ≡ (writer_view l (acts_of me.0) (tally_of me.0), []) → (a : Act) (i n m : ℕ) → a ≡ Hand i → MayMake l (acts_of me.0) (Hand i) → m ≡ all_but i → n ≡ recency_place l.width l.shape i → Allows (Ruled key) slots id me n (λ w. bit_and w m) (ClearsBit a (step slots n m 0 none) me)
   hands_as is a i n m act may mask here s r long at fits =
@@ -338,12 +344,13 @@ module _ (key l : Layout) (key-is : key ≡ l) (id slots : ℕ) (me : SeatView) 
       (λ low. absurd (omega arith)) (hand_bits l i) (spared_past l i (λ w. bit_and w (all_but i)) (act_names_in l (acts_of me.0) (Hand i) may) (and_spares (recency_bit i) (bit_low i))))
       in
       let x = whole s r long at fits in
-      (x.0, x.1, x.2, x.3, (mask ∙ ap (λ (b : Act). 2 ^ 64 - 1 - 2 ^ item_bit b) (sym act), x.4))
+      let layout : l ≡ me.0.layout = ap (λ (m : SeatView). m.0.layout) (sym is) in
+      (x.0, x.1, x.2, x.3, (here ∙ (λ j. recency_place (layout j).width (layout j).shape (item_of (sym act j))), mask ∙ ap (λ (b : Act). 2 ^ 64 - 1 - 2 ^ item_bit b) (sym act), x.4))
 
-  pub touches_as : me ≡ (writer_view l (acts_of me.0) (tally_of me.0), []) → (a : Act) (i n m : ℕ) → a ≡ Mark i → MayMake l (acts_of me.0) (Mark i) → m ≡ only i → n ≡ recency_place l.width l.shape i → Allows (Ruled key) slots id me n (λ w. bit_or w m) (AddsAct a (step slots n m 0 none) me)
+  pub touches_as : me ≡ (writer_view l (acts_of me.0) (tally_of me.0), []) → (a : Act) (i n m : ℕ) → a ≡ Mark i → MayMake l (acts_of me.0) (Mark i) → m ≡ only i → n ≡ recency_place l.width l.shape i → Allows (Ruled key) slots id me n (λ w. bit_or w m) (StoresAct a (step slots n m 0 none) me)
   touches_as is a i n m act may mask here =
-      subst (λ (y : Act × ℕ × ℕ). Allows (Ruled key) slots id me y.1 (λ w. bit_or w y.2) (AddsAct y.0 (step slots y.1 y.2 0 none) me)) (λ j. (sym act j, sym here j, sym mask j))
-      (makes_as is (Mark i) (recency_place l.width l.shape i) (only i) (λ w. bit_or w (only i)) (λ w. w) (step slots (recency_place l.width l.shape i) (only i) 0 none) may (refl, refl)
+      subst (λ (y : Act × ℕ × ℕ). Allows (Ruled key) slots id me y.1 (λ w. bit_or w y.2) (StoresAct y.0 (step slots y.1 y.2 0 none) me)) (λ j. (sym act j, sym here j, sym mask j))
+      (stores_as is (Mark i) (recency_place l.width l.shape i) (only i) (λ w. bit_or w (only i)) (λ w. w) (step slots (recency_place l.width l.shape i) (only i) 0 none) tt may (refl, refl)
       (λ low. absurd (omega arith)) (touch_bits l i) (spared_past l i (λ w. bit_or w (only i)) (act_names_in l (acts_of me.0) (Mark i) may) (or_spares (recency_bit i) (bit_low i))))
 
   pub remarks_as : me ≡ (writer_view l (acts_of me.0) (tally_of me.0), []) → (a : Act) (i n : ℕ) (st : Step (Unit {0})) → a ≡ Mark i → MayMake l (acts_of me.0) (Mark i) → n ≡ recency_place l.width l.shape i → Allows (Ruled key) slots id me n (λ w. w) (AddsActIfSet a st me)
@@ -351,10 +358,10 @@ module _ (key l : Layout) (key-is : key ≡ l) (id slots : ℕ) (me : SeatView) 
       (subst (λ (k : Layout). Allows (Ruled k) slots id me (recency_place l.width l.shape i) (λ w. w) (AddsActIfSet (Mark i) st me)) (sym key-is)
       (subst (λ (z : SeatView). Allows (Ruled l) slots id z (recency_place l.width l.shape i) (λ w. w) (AddsActIfSet (Mark i) st z)) (sym is) (remarks l id slots [] (acts_of me.0) (tally_of me.0) i st may)))
 
-  pub passes_as : me ≡ (writer_view l (acts_of me.0) (tally_of me.0), []) → (a : Act) (i n : ℕ) (st : Step (Unit {0})) → a ≡ Hand i → MayMake l (acts_of me.0) (Hand i) → n ≡ recency_place l.width l.shape i → Allows (Ruled key) slots id me n (λ w. w) (AddsActIfClear a st me)
-  passes_as is a i n st act may here = subst (λ (y : Act × ℕ). Allows (Ruled key) slots id me y.1 (λ w. w) (AddsActIfClear y.0 st me)) (λ j. (sym act j, sym here j))
+  pub passes_as : me ≡ (writer_view l (acts_of me.0) (tally_of me.0), []) → (a : Act) (i n : ℕ) (st : Step (Unit {0})) → a ≡ Hand i → MayMake l (acts_of me.0) (Hand i) → st.word ≡ n → n ≡ recency_place l.width l.shape i → Allows (Ruled key) slots id me n (λ w. w) (AddsActIfClear a st me)
+  passes_as is a i n st act may word here = subst (λ (y : Act × ℕ). Allows (Ruled key) slots id me y.1 (λ w. w) (AddsActIfClear y.0 st me)) (λ j. (sym act j, sym here j))
       (subst (λ (k : Layout). Allows (Ruled k) slots id me (recency_place l.width l.shape i) (λ w. w) (AddsActIfClear (Hand i) st me)) (sym key-is)
-      (subst (λ (z : SeatView). Allows (Ruled l) slots id z (recency_place l.width l.shape i) (λ w. w) (AddsActIfClear (Hand i) st z)) (sym is) (passes l id slots [] (acts_of me.0) (tally_of me.0) i st may)))
+      (subst (λ (z : SeatView). Allows (Ruled l) slots id z (recency_place l.width l.shape i) (λ w. w) (AddsActIfClear (Hand i) st z)) (sym is) (passes l id slots [] (acts_of me.0) (tally_of me.0) i st may (word ∙ here))))
 
   pub looks_as : me ≡ (writer_view l (acts_of me.0) (tally_of me.0), []) → (n : ℕ) → n < word_count l.width l.shape → Allows (Ruled key) slots id me n (λ r. r) (FetchesWord (step slots n 0 0 none) me)
   looks_as is n below = subst (λ (k : Layout). Allows (Ruled k) slots id me n (λ r. r) (FetchesWord (step slots n 0 0 none) me)) (sym key-is)

@@ -94,15 +94,15 @@ hands_are_entries = record {
           after = next.3;
           seat = seat;
           tally = tally;
-          note = next.4.1.0;
+          note = next.4.2.0;
           knows = mine;
-          step = ap (λ (me : SeatView). set s.views seat me.0) next.4.1.1;
+          step = ap (λ (me : SeatView). set s.views seat me.0) next.4.2.1;
         },
-        λ below. cleared_by l s rule i keeps below next.4.0,
+        λ below. cleared_by l s rule i keeps below next.4.1,
       );
   seen = λ l s seat slots acts tally held i st allows rule fits mine small zero.
       let next = allows s rule fits mine small in
-      let made = next.4.0 zero in record {
+      let made = next.4.1 zero in record {
         before = rule;
         after = next.3;
         seat = seat;

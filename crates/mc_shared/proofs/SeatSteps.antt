@@ -17,7 +17,7 @@ use Rattle.mc_shared.specs.declared.layout.Layout.{Layout}
 use Rattle.mc_shared.specs.Records.{Opening, WriterRecord, writer_record, HasActed}
 use Rattle.mc_shared.specs.Inside.Seats.{opening_of}
 use Rattle.mc_shared.specs.Views.{Note, writer_view, acts_of, tally_of, with_note, layout_state, with_bit, layout_with}
-use Rattle.mc_shared.specs.Steps.{SeatView, bit_of}
+use Rattle.mc_shared.specs.Steps.{SeatView, IsStored, bit_of}
 use Rattle.mc_shared.specs.Inside.Steps.{WritesAt, IsOffBits, IsPlain, AddsNote}
 use Rattle.mc_shared.specs.Inside.Seats.{MayMake}
 use Rattle.mc_shared.specs.Running.{RunsIn, IsRunning}
@@ -31,7 +31,7 @@ use Rattle.mc_shared.proofs.WriterSeats.{may_make, has_plain, after_made}
 use Rattle.mc_shared.proofs.RunningVersion.{close_writes, opened_acted}
 
 -- an act that is stored read no bit
-stored_bit : (a : Act) (x : ℕ) → IsOffBits a → bit_of a x ≡ 0
+pub stored_bit : (a : Act) (x : ℕ) → IsOffBits a → bit_of a x ≡ 0
 stored_bit (Open k d) x is = refl
 stored_bit (Slot p y) x is = refl
 stored_bit (Item i j y) x is = refl
@@ -39,6 +39,15 @@ stored_bit Moment x is = refl
 stored_bit Close x is = refl
 stored_bit (Hand i) x is = absurd is
 stored_bit (Mark i) x is = absurd is
+
+pub off_stored : (a : Act) → IsOffBits a → IsStored a
+off_stored (Open k d) is = tt
+off_stored (Slot p y) is = tt
+off_stored (Item i j y) is = tt
+off_stored Moment is = tt
+off_stored Close is = tt
+off_stored (Hand i) is = absurd is
+off_stored (Mark i) is = absurd is
 
 -- the act is noted with some note
 abbrev pub Noted : Act → SeatView → ℕ → SeatView → Type 0

@@ -4,6 +4,7 @@ pub mod ExactFronts
 pub mod TableRule
 pub mod ExactLaws
 pub mod Steps
+pub mod SeatPlays
 pub mod SeatFacts
 pub mod Records
 pub mod Running

@@ -2,6 +2,7 @@
 use Rattle.std.specs.Prelude.{◌≡◌, ℕ, ◌-◌, ◌^◌, List, [], ◌∷◌, ◌++◌, length, Some}
 use Rattle.std.specs.Int.{bit_at}
 use Rattle.atomic_table.specs.Table.{Me, Step}
+use Rattle.mc_words.specs.Places.{recency_place}
 use Rattle.mc_words.specs.Recency.{recency_bit}
 use Rattle.mc_theory.specs.Lists.{Made}
 use Rattle.mc_theory.specs.Readings.{Reading}
@@ -34,23 +35,36 @@ bit_of _ found = 0
 abbrev pub AddsAct : Act → Step (Unit {0}) → SeatView → ℕ → SeatView → Type 0
 AddsAct a st me found me' = (note : Note) × (me' ≡ (writer_view me.0.layout (acts_of me.0 ++ with_bit a (bit_of a found) ∷ []) (with_note (tally_of me.0) note), me.1))
 
--- the number of the bit that a mark sets and the hand clears
+-- and none of the hand is added so
+abbrev pub StoresAct : Act → Step (Unit {0}) → SeatView → ℕ → SeatView → Type 0
+StoresAct a st me found me' = IsStored a × AddsAct a st me found me'
+
+-- the item of a mark or of the hand, and the number of the bit that a mark sets and the hand clears
+abbrev pub item_of : Act → ℕ
+item_of (Mark i) = i
+item_of (Hand i) = i
+item_of _ = 0
+
 abbrev pub item_bit : Act → ℕ
 item_bit (Mark i) = recency_bit i
 item_bit (Hand i) = recency_bit i
 item_bit _ = 0
 
+-- the step is on the word that has this bit
+abbrev pub IsAtBit : Act → Step (Unit {0}) → SeatView → Type 0
+IsAtBit a st me = st.word ≡ recency_place me.0.layout.width me.0.layout.shape (item_of a)
+
 -- the hand's step keeps all bits of the word but its item's: so many an `and` has as its operand
 abbrev pub ClearsBit : Act → Step (Unit {0}) → SeatView → ℕ → SeatView → Type 0
-ClearsBit a st me found me' = (st.first ≡ 2 ^ 64 - 1 - 2 ^ item_bit a) × AddsAct a st me found me'
+ClearsBit a st me found me' = IsAtBit a st me × (st.first ≡ 2 ^ 64 - 1 - 2 ^ item_bit a) × AddsAct a st me found me'
 
 -- a load that finds the bit of its item set is that mark, and one that finds it clear adds nothing
 abbrev pub AddsActIfSet : Act → Step (Unit {0}) → SeatView → ℕ → SeatView → Type 0
-AddsActIfSet a st me found me' = (bit_at found (item_bit a) ≡ 1 → AddsAct a st me found me') × (bit_at found (item_bit a) ≡ 0 → me' ≡ me)
+AddsActIfSet a st me found me' = (bit_at found (item_bit a) ≡ 1 → StoresAct a st me found me') × (bit_at found (item_bit a) ≡ 0 → me' ≡ me)
 
 -- a load that finds the bit of its item clear is that reading of the hand, and one that finds it set adds nothing
 abbrev pub AddsActIfClear : Act → Step (Unit {0}) → SeatView → ℕ → SeatView → Type 0
-AddsActIfClear a st me found me' = (bit_at found (item_bit a) ≡ 0 → AddsAct a st me found me') × (bit_at found (item_bit a) ≡ 1 → me' ≡ me)
+AddsActIfClear a st me found me' = IsAtBit a st me × (bit_at found (item_bit a) ≡ 0 → AddsAct a st me found me') × (bit_at found (item_bit a) ≡ 1 → me' ≡ me)
 
 -- nothing changes, and what is found is the word of the place in the writer's state
 abbrev pub FetchesWord : Step (Unit {0}) → SeatView → ℕ → SeatView → Type 0

@@ -7,7 +7,7 @@ ghost use Rattle.mc_shared.specs.ExactFronts.{InOneOrder};
 ghost use Rattle.mc_shared.specs.Records.{reader_record};
 ghost use Rattle.mc_shared.specs.Inside.Seats.{opening_of};
 
-use crate::plays::{Compares, Known, Meeting};
+use crate::plays::{Compares, Known, Parting};
 use crate::ruled_words::RuledWords;
 use crate::seats::{ReaderSeat, WriterSeat};
 use atomic_table::{Badge, Seat};
@@ -34,9 +34,9 @@ fn catch_on_seats(
     ensures order { InOneOrder (acts_of seat.old.me.0) (tally_of seat.old.me.0).notes (number_of other.me.0) (done_of other.me.0) }
     ensures word { result.0 ≡ word_after ruled.now.layout (acts_of seat.old.me.0) 0 }
 {
-    ruled.table.shared.join_seat::<Meeting>(seat, other);
-    let word = ruled.table.shared.load::<Compares>(seat, 0);
-    let parted = ruled.table.shared.split_seat::<Meeting>(seat);
+    ruled.join(seat, other);
+    let word = ruled.load::<Compares>(seat, 0);
+    let parted = ruled.split::<Parting>(seat);
     (word, parted)
 }
 

@@ -9,7 +9,7 @@ ghost use Rattle.mc_shared.specs.Views.{layout_of};
 ghost use Rattle.mc_shared.specs.Records.{writer_record, new_readers, IsNewReader};
 
 use crate::layout::Layout;
-use crate::opening::{close_words, open_words};
+use crate::opening::open_words;
 use crate::ruled_words::RuledWords;
 use crate::seats::{ReaderSeat, WriterSeat};
 use crate::words::Words;
@@ -126,5 +126,5 @@ pub fn close<const V: usize>(cells: Cells<V>, writer: WriterSeat, readers: Vec<R
         slice_index result n ≡ slice_index (state_of V cells.entry.layout.shape writer.acts).words n }
 {
     let Cells { ruled, .. } = cells;
-    close_words(ruled, writer, readers)
+    ruled.close(writer, readers)
 }

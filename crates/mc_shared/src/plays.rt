@@ -1,4 +1,4 @@
-//! What seats know, the rule of a table, and what each kind of step ensures.
+//! What seats know, the rule of a table, and the names of what is played on a seat.
 use crate::layout::Layout;
 use atomic_table::{Join, Play, Split, TableRule};
 use std::marker::{Brand, Model, PhantomData};
@@ -65,114 +65,159 @@ impl NamesItem for Brand {
     ghost item = { 0 };
 }
 
-/// A step of the writer that makes the act.
-pub struct Makes<J> {
-    of: PhantomData<J>,
+/// Names what is played on a seat.
+pub(crate) trait NamesPlay {
+    ghost use Rattle.mc_shared.specs.SeatPlays.{SeatPlay};
+
+    ghost play: { SeatPlay };
 }
 
-impl<J: NamesAct> Play<(), Known> for Makes<J> {
-    ghost use Rattle.mc_shared.specs.Steps.{AddsAct};
-
-    ghost then = { AddsAct J.act };
+/// The play of this name. No other type plays on a seat.
+pub(crate) struct Plays<P> {
+    of: PhantomData<P>,
 }
 
-/// The hand's step, by which the writer clears the bit of an item.
-pub struct TurnsHand<J> {
-    of: PhantomData<J>,
+impl<P: NamesPlay> Play<(), Known> for Plays<P> {
+    ghost use Rattle.mc_shared.specs.SeatPlays.{says};
+
+    ghost then = { says P.play };
 }
 
-impl<J: NamesAct> Play<(), Known> for TurnsHand<J> {
-    ghost use Rattle.mc_shared.specs.Steps.{ClearsBit};
+/// Names how a seat is cut.
+pub(crate) trait NamesCut {
+    ghost use Rattle.mc_shared.specs.SeatPlays.{SeatCut};
 
-    ghost then = { ClearsBit J.act };
+    ghost cut: { SeatCut };
 }
 
-/// A load by the writer that marks the item if it finds its bit set.
-pub struct MakesMarkIfSet<J> {
-    of: PhantomData<J>,
+/// The cut of this name.
+pub(crate) struct Cuts<C> {
+    of: PhantomData<C>,
 }
 
-impl<J: NamesAct> Play<(), Known> for MakesMarkIfSet<J> {
-    ghost use Rattle.mc_shared.specs.Steps.{AddsActIfSet};
+impl<C: NamesCut> Split<Known> for Cuts<C> {
+    ghost use Rattle.mc_shared.specs.SeatPlays.{kept_part, new_part};
 
-    ghost then = { AddsActIfSet J.act };
-}
+    ghost left = { kept_part C.cut };
 
-/// A load by the writer that is the hand's reading of the item if it finds its bit clear.
-pub struct MakesReadingIfClear<J> {
-    of: PhantomData<J>,
-}
-
-impl<J: NamesAct> Play<(), Known> for MakesReadingIfClear<J> {
-    ghost use Rattle.mc_shared.specs.Steps.{AddsActIfClear};
-
-    ghost then = { AddsActIfClear J.act };
+    ghost right = { new_part C.cut };
 }
 
 /// A load by the writer that adds nothing to its record.
-pub struct Fetches;
+pub(crate) struct Fetches;
 
-impl Play<(), Known> for Fetches {
-    ghost use Rattle.mc_shared.specs.Steps.{FetchesWord};
+impl NamesPlay for Fetches {
+    ghost use Rattle.mc_shared.specs.SeatPlays.{fetches};
 
-    ghost then = { FetchesWord };
+    ghost play = { fetches };
+}
+
+/// A step of the writer that makes the act.
+pub(crate) struct Makes<J> {
+    of: PhantomData<J>,
+}
+
+impl<J: NamesAct> NamesPlay for Makes<J> {
+    ghost use Rattle.mc_shared.specs.SeatPlays.{makes};
+
+    ghost play = { makes J.act };
+}
+
+/// A load by the writer that marks the item if it finds its bit set.
+pub(crate) struct MakesMarkIfSet<J> {
+    of: PhantomData<J>,
+}
+
+impl<J: NamesAct> NamesPlay for MakesMarkIfSet<J> {
+    ghost use Rattle.mc_shared.specs.SeatPlays.{marks_if_set};
+
+    ghost play = { marks_if_set J.act };
+}
+
+/// The hand's step, by which the writer clears the bit of an item.
+pub(crate) struct TurnsHand<J> {
+    of: PhantomData<J>,
+}
+
+impl<J: NamesAct> NamesPlay for TurnsHand<J> {
+    ghost use Rattle.mc_shared.specs.SeatPlays.{turns};
+
+    ghost play = { turns J.act };
+}
+
+/// A load by the writer that is the hand's reading of the item if it finds its bit clear.
+pub(crate) struct MakesReadingIfClear<J> {
+    of: PhantomData<J>,
+}
+
+impl<J: NamesAct> NamesPlay for MakesReadingIfClear<J> {
+    ghost use Rattle.mc_shared.specs.SeatPlays.{turns_if_clear};
+
+    ghost play = { turns_if_clear J.act };
 }
 
 /// A load of a reader.
-pub struct Reads<J> {
+pub(crate) struct Reads<J> {
     of: PhantomData<J>,
 }
 
-impl<J: NamesAccess> Play<(), Known> for Reads<J> {
-    ghost use Rattle.mc_shared.specs.Steps.{ReadsWord};
+impl<J: NamesAccess> NamesPlay for Reads<J> {
+    ghost use Rattle.mc_shared.specs.SeatPlays.{reads};
 
-    ghost then = { ReadsWord J.access };
+    ghost play = { reads J.access };
 }
 
 /// A step of a reader that sets a recency bit.
-pub struct Marks<J> {
+pub(crate) struct Marks<J> {
     of: PhantomData<J>,
 }
 
-impl<J: NamesItem> Play<(), Known> for Marks<J> {
-    ghost use Rattle.mc_shared.specs.Steps.{AddsMark};
+impl<J: NamesItem> NamesPlay for Marks<J> {
+    ghost use Rattle.mc_shared.specs.SeatPlays.{marks};
 
-    ghost then = { AddsMark J.item };
+    ghost play = { marks J.item };
 }
 
 /// A load by a reader that marks the item if it finds its bit set.
-pub struct MarksIfSet<J> {
+pub(crate) struct MarksIfSet<J> {
     of: PhantomData<J>,
 }
 
-impl<J: NamesItem> Play<(), Known> for MarksIfSet<J> {
-    ghost use Rattle.mc_shared.specs.Steps.{AddsMarkIfSet};
+impl<J: NamesItem> NamesPlay for MarksIfSet<J> {
+    ghost use Rattle.mc_shared.specs.SeatPlays.{notices};
 
-    ghost then = { AddsMarkIfSet J.item };
+    ghost play = { notices J.item };
 }
 
 /// A load on the writer's seat, with a reader joined to it.
-pub struct Compares;
+pub(crate) struct Compares;
 
-impl Play<(), Known> for Compares {
-    ghost use Rattle.mc_shared.specs.Steps.{ComparesMoment};
+impl NamesPlay for Compares {
+    ghost use Rattle.mc_shared.specs.SeatPlays.{compares};
 
-    ghost then = { ComparesMoment };
+    ghost play = { compares };
 }
 
 /// A new reader is split off the writer.
-pub struct NewReader;
+pub(crate) struct NewReader;
 
-impl Split<Known> for NewReader {
-    ghost use Rattle.mc_shared.specs.Steps.{with_reader_view, new_reader_view};
+impl NamesCut for NewReader {
+    ghost use Rattle.mc_shared.specs.SeatPlays.{seats};
 
-    ghost left = { with_reader_view };
-
-    ghost right = { new_reader_view };
+    ghost cut = { seats };
 }
 
-/// A reader is joined to the writer, and split off again.
-pub struct Meeting;
+/// The reader that was joined to the writer is split off again.
+pub(crate) struct Parting;
+
+impl NamesCut for Parting {
+    ghost use Rattle.mc_shared.specs.SeatPlays.{parts};
+
+    ghost cut = { parts };
+}
+
+/// A reader is joined to the writer.
+pub(crate) struct Meeting;
 
 impl Join<Known> for Meeting {
     ghost use Rattle.mc_shared.specs.Steps.{joined_view};
@@ -181,12 +226,4 @@ impl Join<Known> for Meeting {
     ghost both = { joined_view };
 
     ghost spent = { spent_view };
-}
-
-impl Split<Known> for Meeting {
-    ghost use Rattle.mc_shared.specs.Steps.{writer_part, reader_part};
-
-    ghost left = { writer_part };
-
-    ghost right = { reader_part };
 }

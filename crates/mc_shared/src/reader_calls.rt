@@ -69,7 +69,7 @@ pub fn read_at<const V: usize>(
 pub fn touch<const V: usize>(cells: &Cells<V>, place: usize) -> u64
     requires place { place < all_words V cells.now.layout.shape }
 {
-    cells.ruled.table.shared.peek(place)
+    cells.ruled.touch(place)
 }
 
 /// Sets the recency bit of an item: one `fetch_or`.

@@ -29,7 +29,7 @@ pub(crate) fn load_as_reader<J: NamesAccess>(
     ensures one { ReadsOne ruled.now.layout (front_of seat.old.me.0) (done_of seat.old.me.0) access result (front_of seat.new.me.0) (done_of seat.new.me.0) }
 {
     let _ = access;
-    ruled.table.shared.load::<Reads<J>>(seat, place)
+    ruled.load::<Reads<J>>(seat, place)
 }
 
 /// A mark of a reader: the step that sets the bit.
@@ -53,10 +53,7 @@ pub(crate) fn mark_as_reader<J: NamesItem>(
     ) }
 {
     let _ = item;
-    ruled
-        .table
-        .shared
-        .fetch_or::<Marks<J>>(seat, place, 1u64 << bit);
+    ruled.fetch_or::<Marks<J>>(seat, place, 1u64 << bit);
 }
 
 /// A mark of a reader. If the bit is set, the load that found it so is the mark: it leaves what the step that sets the
@@ -80,7 +77,7 @@ pub(crate) fn mark_unless_set_as_reader<J: NamesItem>(
       [],
     ) }
 {
-    let found = ruled.table.shared.load::<MarksIfSet<J>>(seat, place);
+    let found = ruled.load::<MarksIfSet<J>>(seat, place);
     if (found >> bit) & 1 == 0 {
         mark_as_reader::<J>(ruled, seat, item, place, bit);
     }

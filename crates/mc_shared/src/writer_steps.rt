@@ -23,7 +23,7 @@ pub(crate) fn load_as_writer(ruled: &RuledWords, seat: &mut Seat<(), Known>, pla
     ensures seat { (seat.new.table_id ≡ seat.old.table_id) × (seat.new.id ≡ seat.old.id) × (seat.new.me ≡ seat.old.me) }
     ensures word { result ≡ word_after ruled.now.layout (acts_of seat.old.me.0) place }
 {
-    ruled.table.shared.load::<Fetches>(seat, place)
+    ruled.load::<Fetches>(seat, place)
 }
 
 /// A store of the writer that makes the act.
@@ -45,7 +45,7 @@ pub(crate) fn store_as_writer<J: NamesAct>(
     ensures noted { AddsNote seat.old.me seat.new.me }
 {
     let _ = act;
-    ruled.table.shared.store::<Makes<J>>(seat, place, word);
+    ruled.store::<Makes<J>>(seat, place, word);
 }
 
 /// A step of the writer that clears one bit of a word and makes the act of the hand. Returns the bit that it found.
@@ -67,10 +67,7 @@ pub(crate) fn turn_hand_as_writer<J: NamesAct>(
     ensures noted { AddsNote seat.old.me seat.new.me }
 {
     let _ = item;
-    let found = ruled
-        .table
-        .shared
-        .fetch_and::<TurnsHand<J>>(seat, place, !(1u64 << bit));
+    let found = ruled.fetch_and::<TurnsHand<J>>(seat, place, !(1u64 << bit));
     (found >> bit) & 1
 }
 
@@ -92,10 +89,7 @@ pub(crate) fn turn_hand_unless_clear_as_writer<J: NamesAct>(
     ensures acts { seat.new.me ≡ (writer_view ruled.now.layout (acts_of seat.old.me.0 ++ with_bit (Hand item) result ∷ []) (tally_of seat.new.me.0), []) }
     ensures noted { AddsNote seat.old.me seat.new.me }
 {
-    let found = ruled
-        .table
-        .shared
-        .load::<MakesReadingIfClear<J>>(seat, place);
+    let found = ruled.load::<MakesReadingIfClear<J>>(seat, place);
     if (found >> bit) & 1 == 0 {
         return 0;
     }
@@ -121,10 +115,7 @@ pub(crate) fn set_mark_as_writer<J: NamesAct>(
     ensures noted { AddsNote seat.old.me seat.new.me }
 {
     let _ = item;
-    ruled
-        .table
-        .shared
-        .fetch_or::<Makes<J>>(seat, place, 1u64 << bit);
+    ruled.fetch_or::<Makes<J>>(seat, place, 1u64 << bit);
 }
 
 /// The writer's mark. If the bit is set, the load that found it so is the mark. If it is clear, the step that sets it is made.
@@ -145,7 +136,7 @@ pub(crate) fn set_mark_unless_set_as_writer<J: NamesAct>(
     ensures acts { seat.new.me ≡ (writer_view ruled.now.layout (acts_of seat.old.me.0 ++ with_bit (Mark item) 0 ∷ []) (tally_of seat.new.me.0), []) }
     ensures noted { AddsNote seat.old.me seat.new.me }
 {
-    let found = ruled.table.shared.load::<MakesMarkIfSet<J>>(seat, place);
+    let found = ruled.load::<MakesMarkIfSet<J>>(seat, place);
     if (found >> bit) & 1 == 0 {
         set_mark_as_writer::<J>(ruled, seat, item, place, bit);
     }

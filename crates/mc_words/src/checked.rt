@@ -100,7 +100,7 @@ impl Checked {
         ((self.shape.mix.mix(key) >> 32) & u64::from(self.shape.stripes - 1)) as u32
     }
 
-    /// The parts of the key, with one mixing.
+    /// The parts of the key, and the key as it is mixed.
     #[inline(always)]
     pub fn parts(&self, key: u64) -> KeyParts
         ensures { HasParts (shape_of self.now) key result }
@@ -113,6 +113,7 @@ impl Checked {
             first,
             second: self.alt(first, tag),
             stripe,
+            mixed: self.mixed(key),
         }
     }
 

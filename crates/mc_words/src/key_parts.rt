@@ -10,4 +10,6 @@ pub struct KeyParts {
     pub second: u32,
     /// The stripe whose version counts its changes.
     pub stripe: u32,
+    /// The key, mixed. No contract speaks of it: it is for notes of keys that gave way.
+    pub mixed: u64,
 }

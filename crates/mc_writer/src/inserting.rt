@@ -85,7 +85,7 @@ impl<'a, const V: usize> Pen<'a, V> {
         ensures waits { IfNone result (Waits V books.new key value.now (state_at V self.old) room) }
         ensures shape { books.new.checked ≡ books.old.checked }
     {
-        match books.insert::<V, Pen<V>>(self, key, room, at) {
+        match books.insert::<V, Pen<V>>(self, key, parts.mixed, room, at) {
             Some(storing) => {
                 self.make_storing(books, key, parts, value, storing);
                 Some(books.told(storing, None))
@@ -100,6 +100,7 @@ impl<'a, const V: usize> Pen<'a, V> {
         &mut self,
         books: &mut Books,
         key: u64,
+        mixed: u64,
         value: &[u64; V],
         room: Room,
     ) -> Result<Replacement, PutError>
@@ -114,7 +115,7 @@ impl<'a, const V: usize> Pen<'a, V> {
     {
         let mut waiting = Waiting::new(books, key, *value, room);
         self.turn_round(&mut waiting);
-        books.finish::<V, Pen<V>>(self, &waiting)
+        books.finish::<V, Pen<V>>(self, &waiting, mixed)
     }
 
     // Chooses it among new keys, or else among those that were used again.
@@ -123,6 +124,7 @@ impl<'a, const V: usize> Pen<'a, V> {
         &mut self,
         books: &mut Books,
         key: u64,
+        mixed: u64,
         value: &[u64; V],
         room: Room,
     ) -> Result<Replacement, PutError>
@@ -137,15 +139,16 @@ impl<'a, const V: usize> Pen<'a, V> {
     {
         let mut pick = books.pick();
         self.read_round(books, &mut pick);
-        books.finish_picked::<V, Pen<V>>(self, &pick, key, room)
+        books.finish_picked::<V, Pen<V>>(self, &pick, key, mixed, room)
     }
 
-    /// Chooses the key whose item the put takes when no item is free.
+    /// Chooses the key whose item the put takes when no item is free. `mixed` is the key that is put, mixed.
     #[inline(always)]
     pub(crate) fn choose(
         &mut self,
         books: &mut Books,
         key: u64,
+        mixed: u64,
         value: &[u64; V],
         room: Room,
     ) -> Result<Replacement, PutError>
@@ -158,8 +161,8 @@ impl<'a, const V: usize> Pen<'a, V> {
             IsRested V books.new self.new.seat.now) }
     {
         match books.policy() {
-            Policy::Clock => self.sweep(books, key, value, room),
-            Policy::ScanResistant => self.pick(books, key, value, room),
+            Policy::Clock => self.sweep(books, key, mixed, value, room),
+            Policy::ScanResistant => self.pick(books, key, mixed, value, room),
         }
     }
 
@@ -203,7 +206,7 @@ impl<'a, const V: usize> Pen<'a, V> {
         ensures called { HasCalled V self.old.cells.now.layout.shape (PutCall key value.now) self.old.seat.now self.new.seat.now (answer.Put result) }
         ensures rested { IsRested V books.new self.new.seat.now }
     {
-        match self.choose(books, key, value, room) {
+        match self.choose(books, key, parts.mixed, value, room) {
             Ok(taken) => Ok(self.take_item(books, key, parts, value, taken)),
             Err(why) => Err(why),
         }

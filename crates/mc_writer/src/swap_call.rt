@@ -37,7 +37,7 @@ impl<'a, const V: usize> Pen<'a, V> {
         ensures old { IfOk result (λ swapped. Holds (state_at V self.old).history (giving_way key swapped.put) swapped.old) }
         ensures rested { IsRested V books.new self.new.seat.now }
     {
-        match self.choose(books, key, value, room) {
+        match self.choose(books, key, parts.mixed, value, room) {
             Ok(taken) => {
                 let old = self.entry_in(taken.victim.key, taken.victim.place);
                 let put = self.take_item(books, key, parts, value, taken);

@@ -47,6 +47,8 @@ template <size_t Words> class Calls : public OpenHandle {
         const cefrodil_status status = cefrodil_get_of_width(raw(), key, value.data(), Words, &reply);
         return looked(status, reply, value);
     }
+    // Loads the words that a lookup of the key will read (cefrodil_prefetch).
+    Status prefetch(uint64_t key) noexcept { return static_cast<Status>(cefrodil_prefetch(raw(), key)); }
     // The number of keys that all shards hold together at most.
     [[nodiscard]] Status capacity(uint64_t &number) noexcept { return static_cast<Status>(cefrodil_capacity(raw(), &number)); }
     // Opens `count` more handles of the same cache, also while others work or hold. They replace those in `handles`, so take another vector than

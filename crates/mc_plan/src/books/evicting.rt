@@ -113,8 +113,7 @@ impl Books {
         ensures kept { peek.new ≡ peek.old }
     {
         let victim = self.victim::<V, P>(peek, item);
-        let noted = self.for_notes(victim.key);
-        self.free.give_noted(item, noted);
+        self.free.give_noted(item, victim.parts.mixed);
         self.version_steps += 2;
         victim
     }

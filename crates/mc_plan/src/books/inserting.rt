@@ -23,7 +23,7 @@ use mc_search::{
     touch_bucket,
 };
 use mc_theory::Peek;
-use mc_words::{Checked, KeyParts, Policy};
+use mc_words::{Checked, KeyParts};
 
 // The one move that makes room.
 // Condition: the words reach as far as the shape says, each slot is empty or names an item, and the place is occupied.
@@ -240,22 +240,15 @@ impl Books {
         }
     }
 
-    // The key as it is noted: mixed. With CLOCK nothing is noted, and so nothing is mixed.
-    #[inline(always)]
-    pub(crate) fn for_notes(&self, key: u64) -> u64 {
-        match self.checked.policy() {
-            Policy::Clock => 0,
-            Policy::ScanResistant => self.checked.mixed(key),
-        }
-    }
-
     /// Decides the put of a key that is not there, where it finds this room. `None`: no item is free, and one is to be searched.
-    /// Condition: `near`, `by_move`, `by_path` or `room` has just found it, for a key that `decide` has answered with this `at`.
+    /// Condition: `near`, `by_move`, `by_path` or `room` has just found it, for a key that `decide` has answered with this `at`. `mixed` is the
+    /// key, mixed.
     #[inline(always)]
     pub fn insert<const V: usize, P: Peek>(
         &mut self,
         peek: &mut P,
         key: u64,
+        mixed: u64,
         room: Room,
         at: u64,
     ) -> Option<Storing>
@@ -265,8 +258,7 @@ impl Books {
         ensures shape { self.new.checked ≡ self.old.checked }
         ensures kept { peek.new ≡ peek.old }
     {
-        let noted = self.for_notes(key);
-        let Some(item) = self.free.take_least(noted) else {
+        let Some(item) = self.free.take_least(mixed) else {
             return None;
         };
         Some(self.store::<V, P>(peek, room, item, at))
@@ -322,6 +314,7 @@ impl Books {
         &mut self,
         peek: &mut P,
         key: u64,
+        mixed: u64,
         room: Room,
         item: u32,
     ) -> Replacement
@@ -337,9 +330,7 @@ impl Books {
         let left = room.cut_at(victim.place, &mut self.far.path);
         let storing = self.store::<V, P>(peek, left, item, at);
         self.version_steps += 2;
-        let old = self.for_notes(victim.key);
-        let new = self.for_notes(key);
-        self.free.hand_on(item, old, new);
+        self.free.hand_on(item, victim.parts.mixed, mixed);
         Replacement { victim, storing }
     }
 
@@ -350,6 +341,7 @@ impl Books {
         &mut self,
         peek: &mut P,
         waiting: &Waiting<V>,
+        mixed: u64,
     ) -> Result<Replacement, PutError>
         requires over { (call : Call) × (s : State V) × (rs : List Swept) × IsSweeping V self.old waiting.now call s rs ×
             IsOver (shape_of self.old.checked).items rs × (P.words peek.old ≡ s.words) }
@@ -361,7 +353,7 @@ impl Books {
     {
         self.hand = waiting.sweep.hand();
         match waiting.sweep.victim() {
-            Some(item) => Ok(self.replace::<V, P>(peek, waiting.key, waiting.room, item)),
+            Some(item) => Ok(self.replace::<V, P>(peek, waiting.key, mixed, waiting.room, item)),
             None => Err(PutError::AllRecent),
         }
     }
@@ -374,6 +366,7 @@ impl Books {
         peek: &mut P,
         pick: &Pick,
         key: u64,
+        mixed: u64,
         room: Room,
     ) -> Result<Replacement, PutError>
         requires over { (v : List ℕ) × (s : State V) × (rs : List Swept) × IsPickingFor V self.old pick.now key v room s rs ×
@@ -385,7 +378,7 @@ impl Books {
         ensures kept { peek.new ≡ peek.old }
     {
         match self.free.victim(pick) {
-            Some(item) => Ok(self.replace::<V, P>(peek, key, room, item)),
+            Some(item) => Ok(self.replace::<V, P>(peek, key, mixed, room, item)),
             None => Err(PutError::AllRecent),
         }
     }

@@ -1,7 +1,7 @@
 use Rattle.std.proofs.Common.{◌≡◌, ℕ, rules, ap, ◌∙◌}
 use Rattle.std.specs.Prelude.{replicate}
 use Rattle.mc_shared.proofs.EachStep.{begins}
-use Rattle.mc_shared.proofs.opening.lay.Goals as goal
+use Rattle.mc_shared.proofs.ruled_words.RuledWords.lay.Goals as goal
 
 pub of_words-requires : goal.of_words-requires
 of_words-requires c =
