@@ -1,10 +1,12 @@
-/* What a program calls first: the openings, and the choice of a shape. The cache's code is for x86-64-v2, and on an older processor an illegal
- * instruction could end the program. So these calls ask the processor first. This file is for any x86-64, as memory.c and text.c are.
+/* What a program calls first: the openings, and the choice of a shape. On x86-64 the cache's code is for x86-64-v2, and on an older processor an
+ * illegal instruction could end the program. So these calls ask the processor first. This file is for any x86-64, as memory.c and text.c are.
+ * On aarch64 the code is for every one, and nothing is asked.
  *
  * c/build gives the cache's own calls other names: cefrodil_open is proved_cefrodil_open, and so on. By the header these here have the series in
  * their names for a linker. */
 #define CEFRODIL_NO_MACROS
 #include "cefrodil.h"
+#ifdef __x86_64__
 #include <cpuid.h>
 #include <stdatomic.h>
 
@@ -34,6 +36,9 @@ static bool is_supported(void) {
     }
     return known == SUPPORTED;
 }
+#else
+static bool is_supported(void) { return true; }
+#endif
 
 /* A call with these parameters, which are passed on as they are. */
 #define GUARDED(call, parameters, passed) \

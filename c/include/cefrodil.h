@@ -4,8 +4,8 @@
  * it has the *turn*. Each write tries once for the turn, and never waits. A handle that holds all turns writes without trying.
  *
  * The library behind these calls is proved: each completed lookup answers what the map of the key's shard held at one moment between
- * the lookup's first and last step. docs/PROMISES.md of its repository says exactly what is proved. It runs on Linux on x86-64-v2. On an
- * older processor each opening, and each choice of a shape, returns CEFRODIL_PROCESSOR and does nothing.
+ * the lookup's first and last step. docs/PROMISES.md of its repository says exactly what is proved. It runs on Linux on x86-64-v2 and
+ * aarch64. On an older x86-64 each opening, and each choice of a shape, returns CEFRODIL_PROCESSOR and does nothing.
  *
  * What you promise at every call, because no proof can check it:
  *
@@ -31,8 +31,8 @@
 #ifndef CEFRODIL_H
 #define CEFRODIL_H
 
-#if !defined(__x86_64__) || !defined(__linux__) || defined(__ILP32__)
-#error "Cefrodil runs on 64-bit Linux on x86-64 alone"
+#if !(defined(__x86_64__) || defined(__AARCH64EL__)) || !defined(__linux__) || defined(__ILP32__)
+#error "Cefrodil runs on 64-bit Linux on x86-64 and aarch64 alone"
 #endif
 
 #include <stdbool.h>

@@ -9,8 +9,13 @@
 //! `docs/USING.md` has sizing, patterns and what to do about each answer.
 #![deny(missing_docs, missing_debug_implementations, unsafe_op_in_unsafe_fn)]
 
-#[cfg(not(all(target_arch = "x86_64", target_os = "linux", target_pointer_width = "64")))]
-compile_error!("Cefrodil runs on 64-bit Linux on x86-64 alone");
+#[cfg(not(all(
+    any(target_arch = "x86_64", target_arch = "aarch64"),
+    target_os = "linux",
+    target_pointer_width = "64",
+    target_endian = "little"
+)))]
+compile_error!("Cefrodil runs on 64-bit Linux on x86-64 and aarch64 alone");
 
 mod audit;
 mod cache;

@@ -19,12 +19,21 @@ inline constexpr uint32_t spins = 7, sleeps_from = 200;
 // How often a lookup is repeated that is a miss if it stays busy.
 inline constexpr uint32_t most_looks = 1000;
 
+// A moment's rest for the processor, as Rust's `spin_loop` takes it.
+inline void pause() noexcept {
+#if defined(__x86_64__)
+    __builtin_ia32_pause();
+#else
+    __asm__ __volatile__("isb");
+#endif
+}
+
 // Waits before a call is repeated for this time. At first it spins, each time twice as long. Then it yields, and at last it sleeps: the thread that
 // has the turn may have to wait for a processor.
 inline void wait_before(uint32_t repeat) noexcept {
     if (repeat < spins) {
         for (uint32_t step = 0; step < uint32_t(1) << repeat; step++) {
-            __builtin_ia32_pause();
+            pause();
         }
     } else if (repeat < sleeps_from) {
         std::this_thread::yield();
