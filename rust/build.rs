@@ -47,8 +47,12 @@ fn watch(file: &Path) {
     }
 }
 
-/// Where pkg-config finds the archive of this version, if it does.
+/// Where pkg-config finds the archive of this version, if it does. For another target than this machine's, `PKG_CONFIG` must name that
+/// target's.
 fn known() -> Option<PathBuf> {
+    if env::var_os("TARGET") != env::var_os("HOST") && env::var_os("PKG_CONFIG").is_none() {
+        return None;
+    }
     let version = answer("--modversion")?;
     if !version.starts_with(SERIES) {
         return None;
@@ -58,12 +62,12 @@ fn known() -> Option<PathBuf> {
     folder.join(ARCHIVE).is_file().then_some(folder)
 }
 
-/// Unpacks the archive of the release, if it is there and this is the system that it is for.
+/// Unpacks the archive of the release for the target, if there is one.
 fn released(top: &Path) -> Option<PathBuf> {
-    let name = concat!("cefrodil-", env!("CARGO_PKG_VERSION"), "-x86_64-linux.tar.xz");
+    let target = |part: &str| env::var(format!("CARGO_CFG_TARGET_{part}")).ok();
+    let name = format!("cefrodil-{}-{}-{}.tar.xz", env!("CARGO_PKG_VERSION"), target("ARCH")?, target("OS")?);
     let packed = top.join("../release").join(name);
-    let is = |name: &str, wanted: &str| env::var(name).is_ok_and(|found| found == wanted);
-    if !is("CARGO_CFG_TARGET_ARCH", "x86_64") || !is("CARGO_CFG_TARGET_OS", "linux") || !packed.is_file() {
+    if !packed.is_file() {
         return None;
     }
     watch(&packed);
