@@ -5,6 +5,7 @@
 
 #include "../../cefrodil.h"
 #include "forks.hpp"
+#include <algorithm>
 #include <array>
 #include <atomic>
 #include <chrono>
@@ -76,7 +77,8 @@ class Stalls {
     // For how many seconds. At the first call that gave up, 0.
     uint64_t length() const noexcept {
         const int64_t last = last_.load(std::memory_order_acquire), now = seconds();
-        return now - last > pause ? 0 : static_cast<uint64_t>(now - first_.load(std::memory_order_relaxed));
+        // Not below 0: another stall may begin after `now`.
+        return now - last > pause ? 0 : static_cast<uint64_t>(std::max<int64_t>(now - first_.load(std::memory_order_relaxed), 0));
     }
 
   private:
