@@ -33,13 +33,16 @@ impl Books {
     /// An item has left the index. One that no client removed is counted.
     pub fn left(&self, item: &Item, reason: Reason) {
         self.budget.leave(cost_of(item));
-        match reason {
-            Reason::Evicted => self.counts.add_if(self.is_live(item), Count::Evicted, Count::Reclaimed),
-            Reason::Expired => self.counts.add(Count::Expired),
+        let is_live = match reason {
+            Reason::Evicted | Reason::Expired => self.is_live(item),
             _ => return,
+        };
+        match reason {
+            Reason::Expired => self.counts.add(Count::Expired),
+            _ => self.counts.add_if(is_live, Count::Evicted, Count::Reclaimed),
         }
         if !item.was_fetched() {
-            self.counts.add_if(self.is_live(item), Count::EvictedUnfetched, Count::ExpiredUnfetched);
+            self.counts.add_if(is_live, Count::EvictedUnfetched, Count::ExpiredUnfetched);
         }
     }
 
@@ -50,6 +53,6 @@ impl Books {
 }
 
 /// The bytes of an item.
-fn cost_of(item: &Item) -> u64 {
+pub(crate) fn cost_of(item: &Item) -> u64 {
     cost(item.key().len(), item.value().len())
 }
