@@ -2,6 +2,7 @@
 //! real one.
 use cefrodild::books::Books;
 use cefrodild::connection::{warm_up, Connection, Next};
+use cefrodild::item::new_item;
 use cefrodild::listen::Stream;
 use cefrodild::map_index::MapIndex;
 use cefrodild::memory::Spare;
@@ -251,6 +252,20 @@ fn all_allocations_are_refused_for_a_while() {
         assert!(run(&store, &script, first, 200).1);
         assert_well(&store, &ordinary);
     }
+}
+
+/// The system may refuse memory just when items are freed.
+#[test]
+fn items_are_freed_without_more_memory() {
+    let _turn = set_up();
+    let (large, small) = (vec![0; 2_000], vec![0; 500]);
+    let item = |number: usize, value: &[u8]| new_item(1, 0, 0, &number.to_le_bytes(), &[value]);
+    let mut items = Vec::with_capacity(30_000);
+    // One that lies in no chunk takes its own block first. Then two lists may grow, of which the second one can't, though it asks twice.
+    items.extend((0..3_000).filter_map(|number| refusing(2, 2, || item(number, &large)).0));
+    items.extend((0..20_000).filter_map(|number| item(number, &small)));
+    assert!(items.len() > 22_000, "{}", items.len());
+    assert!(!refusing(0, 1_000, || drop(items)).1);
 }
 
 /// Its clients have sent commands before it begins, and it ends when they are answered.
