@@ -4,6 +4,7 @@ use crate::large::left;
 use crate::log::Seldom;
 use crate::rss_limit::RssLimit;
 use std::io;
+use std::mem;
 use std::sync::atomic::{AtomicU64, Ordering::Relaxed};
 use std::sync::{Mutex, OnceLock};
 
@@ -46,7 +47,7 @@ pub struct Budget {
 pub struct Claim<'a> {
     budget: &'a Budget,
     pub bytes: u64,
-    expected: u64,
+    is_expected: bool,
     is_kept: bool,
 }
 
@@ -94,7 +95,7 @@ impl Budget {
     pub fn claim(&self, bytes: u64) -> Claim<'_> {
         self.taken.fetch_add(bytes, Relaxed);
         self.used.fetch_add(bytes, Relaxed);
-        Claim { budget: self, bytes, expected: 0, is_kept: false }
+        Claim { budget: self, bytes, is_expected: false, is_kept: false }
     }
 
     /// Counts the bytes of an item that has left the index.
@@ -179,8 +180,9 @@ impl Budget {
 impl Claim<'_> {
     /// Looks at the memory of the process count these bytes as taken, until this is dropped.
     pub fn expect(&mut self) {
-        self.budget.expected.fetch_add(self.bytes - self.expected, Relaxed);
-        self.expected = self.bytes;
+        if !mem::replace(&mut self.is_expected, true) {
+            self.budget.expected.fetch_add(self.bytes, Relaxed);
+        }
     }
 
     /// The item was put.
@@ -191,7 +193,9 @@ impl Claim<'_> {
 
 impl Drop for Claim<'_> {
     fn drop(&mut self) {
-        self.budget.expected.fetch_sub(self.expected, Relaxed);
+        if self.is_expected {
+            self.budget.expected.fetch_sub(self.bytes, Relaxed);
+        }
         if !self.is_kept {
             self.budget.used.fetch_sub(self.bytes, Relaxed);
         }

@@ -53,9 +53,9 @@ pub fn value(out: &mut Output, key: &[u8], item: &Item, token: Option<u64>) {
     out.extend_from_slice(b"VALUE ");
     out.extend_from_slice(key);
     out.push(b' ');
-    number::write(out, item.flags.into());
+    number::write(out, item.flags);
     out.push(b' ');
-    number::write(out, item.value().len() as u64);
+    number::write(out, item.value().len());
     if let Some(token) = token {
         out.push(b' ');
         number::write(out, token);

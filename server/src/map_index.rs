@@ -3,7 +3,7 @@ use crate::audit::{digest, Audit};
 use crate::books::Books;
 use crate::index::{Index, Over, Refused, Seen, Token};
 use crate::item::{About, Item, NewItem};
-use cefrodil_map::{BytesMap, GetError, IfError, Inserted, Look, OpenError, Put, Reason};
+use cefrodil_map::{AbsentError, BytesMap, GetError, IfError, Inserted, Look, OpenError, Put, Reason};
 use std::cell::Cell;
 use std::sync::Arc;
 use std::time::Duration;
@@ -141,7 +141,7 @@ impl Index for MapIndex {
         // The hash of the key, and the item's digest.
         let logged = self.audit.is_some().then(|| (self.hash_of(item.key()), digest(&item)));
         let put = match over {
-            Over::Any => self.map.put(item)?,
+            Over::Any => self.map.put(item).map_err(AbsentError::from)?,
             Over::Nothing => self.map.put_if_absent(item)?,
             Over::Token(token) => {
                 self.map.replace_if(token, item).map_err(|why| self.failed(logged.map_or(0, |(hash, _)| hash), why))?

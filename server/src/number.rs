@@ -60,6 +60,6 @@ pub fn length(text: &[u8]) -> Option<usize> {
 const DIGITS: usize = u64::MAX.ilog10() as usize + 1;
 
 /// Writes a number.
-pub fn write(out: &mut Vec<u8>, number: u64) {
+pub fn write(out: &mut Vec<u8>, number: impl itoa::Integer) {
     out.extend_from_slice(itoa::Buffer::new().format(number).as_bytes());
 }

@@ -148,12 +148,12 @@ fn classic<'a>(name: &[u8], words: &[&'a [u8]], line: &'a [u8], is_quiet: bool) 
             let expiry = number::integer(words[1]).ok_or(EXPTIME)?;
             Ok(keys(name == b"gats", Some(expiry), line, 2))
         }
-        (b"set", 5 | 6) => store(How::Set, words),
-        (b"add", 5 | 6) => store(How::Add, words),
-        (b"replace", 5 | 6) => store(How::Replace, words),
-        (b"append", 5 | 6) => store(How::Append, words),
-        (b"prepend", 5 | 6) => store(How::Prepend, words),
-        (b"cas", 6 | 7) => compare(words),
+        (b"set", 5 | 6) => store(How::Set, words, None),
+        (b"add", 5 | 6) => store(How::Add, words, None),
+        (b"replace", 5 | 6) => store(How::Replace, words, None),
+        (b"append", 5 | 6) => store(How::Append, words, None),
+        (b"prepend", 5 | 6) => store(How::Prepend, words, None),
+        (b"cas", 6 | 7) => store(How::Set, words, Some(number::unsigned(words[5]).ok_or(FORMAT)?)),
         (b"incr", 3 | 4) => change(words, Change::Add),
         (b"decr", 3 | 4) => change(words, Change::Subtract),
         (b"touch", 3 | 4) => Ok(Request::Touch(key(words[1])?, number::integer(words[2]).ok_or(EXPTIME)?)),
@@ -179,24 +179,19 @@ fn keys(with_token: bool, expiry: Option<i64>, line: &[u8], before: usize) -> Re
 
 /// The key, unless it is too long.
 pub fn key(word: &[u8]) -> Result<&[u8], Refusal> {
-    Some(word).filter(|word| word.len() <= LONGEST_KEY).ok_or(FORMAT)
+    if word.len() <= LONGEST_KEY {
+        Ok(word)
+    } else {
+        Err(FORMAT)
+    }
 }
 
-fn stored<'a>(how: How, words: &[&'a [u8]]) -> Option<Order<'a>> {
-    let flags = number::flags(words[2])?;
-    let expiry = number::integer(words[3])?;
-    let length = number::length(words[4])?;
-    Some(Order { how, key: key(words[1]).ok()?, flags, expiry, length, compare: None })
-}
-
-fn store<'a>(how: How, words: &[&'a [u8]]) -> Result<Request<'a>, Refusal> {
-    stored(how, words).map(Request::Store).ok_or(FORMAT)
-}
-
-fn compare<'a>(words: &[&'a [u8]]) -> Result<Request<'a>, Refusal> {
-    let order = stored(How::Set, words).ok_or(FORMAT)?;
-    let token = number::unsigned(words[5]).ok_or(FORMAT)?;
-    Ok(Request::Store(Order { compare: Some(token), ..order }))
+/// All faults of these words have one answer.
+fn store<'a>(how: How, words: &[&'a [u8]], compare: Option<u64>) -> Result<Request<'a>, Refusal> {
+    let flags = number::flags(words[2]).ok_or(FORMAT)?;
+    let expiry = number::integer(words[3]).ok_or(FORMAT)?;
+    let length = number::length(words[4]).ok_or(FORMAT)?;
+    Ok(Request::Store(Order { how, key: key(words[1])?, flags, expiry, length, compare }))
 }
 
 fn change<'a>(words: &[&'a [u8]], change: fn(u64) -> Change) -> Result<Request<'a>, Refusal> {
@@ -217,9 +212,11 @@ fn crawl<'a>(classes: &[u8]) -> Result<Request<'a>, Refusal> {
     if matches!(classes, b"all" | b"hash") {
         return Ok(Request::Crawl(true));
     }
-    let class = |class| number::unsigned(class).filter(|class| (1..=LAST_CLASS).contains(class));
-    let classes: Option<Vec<u64>> = classes.split(|byte| *byte == b',').map(class).collect();
-    let has_class = classes.ok_or(refusal("BADCLASS invalid class id"))?.contains(&CLASS);
+    let mut has_class = false;
+    for class in classes.split(|byte| *byte == b',').map(number::unsigned) {
+        let known = class.filter(|class| (1..=LAST_CLASS).contains(class)).ok_or(refusal("BADCLASS invalid class id"))?;
+        has_class |= known == CLASS;
+    }
     Ok(Request::Crawl(has_class))
 }
 
