@@ -1,5 +1,6 @@
 //! A plain index for tests, and clients of a store over it.
 #![allow(dead_code, reason = "no test needs all of it")]
+pub mod both;
 pub mod client;
 pub mod draw;
 
