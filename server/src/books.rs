@@ -25,7 +25,6 @@ impl Books {
         Books { budget, counts: Counts::new(options.threads), clock: Clock::new(), flushes: Flushes::default() }
     }
 
-    /// Whether the item has neither expired nor been flushed.
     pub fn is_live(&self, item: &Item) -> bool {
         item.is_live(self.clock.now(), &self.flushes)
     }
@@ -46,13 +45,11 @@ impl Books {
         }
     }
 
-    /// An item that had left is freed.
     pub fn freed(&self, item: &Item) {
         self.budget.free(cost_of(item));
     }
 }
 
-/// The bytes of an item.
 pub(crate) fn cost_of(item: &Item) -> u64 {
     cost(item.key().len(), item.value().len())
 }

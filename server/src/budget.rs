@@ -25,7 +25,6 @@ const PART_OF_LOOK: u64 = 256;
 // are subtracted. No other memory is read by what the words say.
 #[derive(Default)]
 pub struct Budget {
-    /// The most bytes of items.
     limit: AtomicU64,
     /// Those of items that are in the index or about to be put.
     used: AtomicU64,
@@ -57,7 +56,6 @@ pub fn cost(key: usize, value: usize) -> u64 {
 }
 
 impl Budget {
-    /// Items may take so many bytes, and clients' buffers so many.
     pub fn new(limit: u64, most_buffers: u64) -> Budget {
         Budget { limit: AtomicU64::new(limit), most_buffers, ..Budget::default() }
     }
@@ -71,45 +69,37 @@ impl Budget {
         Ok(most)
     }
 
-    /// Changes the most bytes of items.
     pub fn set_limit(&self, limit: u64) {
         self.limit.store(limit, Relaxed);
     }
 
-    /// The most bytes of items.
     pub fn limit(&self) -> u64 {
         self.limit.load(Relaxed)
     }
 
-    /// The bytes of all items, with those that are about to be put.
     pub fn used(&self) -> u64 {
         self.used.load(Relaxed)
     }
 
-    /// The bytes of items that have left the index and are not freed yet.
     pub fn waiting(&self) -> u64 {
         self.waiting.load(Relaxed)
     }
 
-    /// Counts the bytes of an item that is about to be put.
     pub fn claim(&self, bytes: u64) -> Claim<'_> {
         self.taken.fetch_add(bytes, Relaxed);
         self.used.fetch_add(bytes, Relaxed);
         Claim { budget: self, bytes, is_expected: false, is_kept: false }
     }
 
-    /// Counts the bytes of an item that has left the index.
     pub fn leave(&self, bytes: u64) {
         self.used.fetch_sub(bytes, Relaxed);
         self.waiting.fetch_add(bytes, Relaxed);
     }
 
-    /// Counts the bytes of an item that had left and is freed.
     pub fn free(&self, bytes: u64) {
         self.waiting.fetch_sub(bytes, Relaxed);
     }
 
-    /// Whether an item must give way.
     pub fn is_over(&self) -> bool {
         self.used() > self.limit()
     }
@@ -185,7 +175,6 @@ impl Claim<'_> {
         }
     }
 
-    /// The item was put.
     pub fn keep(mut self) {
         self.is_kept = true;
     }

@@ -11,7 +11,6 @@ use std::time::Duration;
 /// What an entry of the index takes, at most.
 pub const BYTES_OF_AN_ENTRY: usize = 56;
 
-/// The map, and its log if there is one.
 pub struct MapIndex {
     map: BytesMap<About>,
     audit: Option<Arc<Audit>>,
@@ -74,7 +73,6 @@ impl MapIndex {
         Ok(MapIndex { map: builder.open()?, audit })
     }
 
-    /// The most items that it holds.
     pub fn capacity(&self) -> usize {
         self.map.capacity()
     }

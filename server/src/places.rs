@@ -35,7 +35,6 @@ pub fn take(item: &Item) -> Option<u32> {
     Some(place)
 }
 
-/// Frees a place.
 pub fn give_back(place: u32) {
     let mut places = places();
     places.all[place as usize] = 0;

@@ -11,7 +11,6 @@ use std::sync::{Arc, Mutex, MutexGuard, OnceLock, PoisonError};
 /// So many bytes of each client don't count. A command that fits these is never cut off.
 pub const FREE: usize = 1 << 13;
 
-/// The seats of all clients.
 // The counts are relaxed, since no other memory is read by what they say. Only the thread that takes seats adds to `taken`. If that thread does
 // not see yet that a seat is free, it refuses a client.
 pub struct Seats {
@@ -67,7 +66,6 @@ pub struct Seat {
 }
 
 impl Seats {
-    /// For so many clients at a time.
     pub fn new(most: usize, books: Arc<Books>) -> Arc<Seats> {
         let place = |_| Place { file: AtomicI32::new(NOBODY), turn: AtomicU32::new(0), state: AtomicUsize::new(0) };
         Arc::new(Seats {
@@ -93,7 +91,6 @@ impl Seats {
         Some(Seat { seats: Arc::clone(self), index, bytes: 0, is_noted: false, home: None })
     }
 
-    /// How many are taken.
     pub fn taken(&self) -> usize {
         self.taken.load(Relaxed)
     }
@@ -156,7 +153,6 @@ impl Seat {
         }
     }
 
-    /// When the client last had a turn.
     pub fn turn(&self) -> u32 {
         self.place().turn.load(Relaxed)
     }
@@ -191,11 +187,6 @@ impl Seat {
         if mem::take(&mut self.is_noted) {
             self.seats.holders().remove(self.index);
         }
-    }
-
-    /// What they take.
-    pub fn bytes(&self) -> u64 {
-        self.bytes
     }
 
     fn place(&self) -> &Place {

@@ -10,7 +10,6 @@ use std::slice;
 use std::sync::atomic::{AtomicU16, AtomicU32, AtomicU64, Ordering::Acquire, Ordering::Relaxed, Ordering::Release};
 use std::sync::{Mutex, MutexGuard, OnceLock, PoisonError};
 
-/// The bytes of a chunk.
 pub const CHUNK: usize = 1 << 14;
 
 /// The bytes of the smallest and the largest block. A page has few larger items, so the C library's allocator may have those.
@@ -154,7 +153,6 @@ pub fn look_in(number: usize, each: impl FnMut(&Item)) -> bool {
     true
 }
 
-/// Where an item lies.
 pub fn address_of(item: &Item) -> usize {
     item as *const Item as usize
 }
@@ -244,7 +242,6 @@ impl Slabs {
         self.add(&mut unused.returned, number);
     }
 
-    /// Where this chunk begins.
     fn address(&self, number: usize) -> usize {
         self.start + number * CHUNK
     }
