@@ -3,7 +3,6 @@ use crate::listing::CLASS;
 use crate::meta::{self, Meta};
 use crate::number;
 
-/// The longest key.
 pub const LONGEST_KEY: usize = 250;
 
 /// The most words of a command line that are kept apart. No command but those of keys and flags has as many.
@@ -12,7 +11,6 @@ const WORDS: usize = 9;
 /// The last class of items that clients may ask for, as to memcached.
 const LAST_CLASS: u64 = 63;
 
-/// What a command line asks for.
 #[derive(Debug, PartialEq, Eq)]
 pub enum Request<'a> {
     /// `get` and its kin. The keys are what follows this many bytes of the line.
@@ -89,10 +87,8 @@ pub enum Change {
     Subtract(u64),
 }
 
-/// Why a line is refused.
 #[derive(Clone, Copy, Debug, PartialEq, Eq)]
 pub struct Refusal {
-    /// The answer.
     pub text: &'static str,
     /// How many bytes behind the line belong to it.
     pub block: usize,
@@ -111,7 +107,6 @@ pub const fn refusal(text: &'static str) -> Refusal {
     Refusal { text, block: 0 }
 }
 
-/// The words of a line.
 pub fn words(line: &[u8]) -> impl Iterator<Item = &[u8]> {
     line.split(|byte| *byte == b' ').filter(|word| !word.is_empty())
 }
@@ -120,8 +115,7 @@ pub fn words(line: &[u8]) -> impl Iterator<Item = &[u8]> {
 pub fn parse(line: &[u8]) -> (Result<Request<'_>, Refusal>, bool) {
     let mut found = [&line[..0]; WORDS];
     let count = words(line).take(WORDS).zip(&mut found).map(|(word, place)| *place = word).count();
-    let words = &found[..count];
-    let name = words.first().copied().unwrap_or_default();
+    let (words, name) = (&found[..count], found[0]);
     if name.len() == 2 && name[0] == b'm' {
         return (meta::parse(name[1], line), false);
     }
@@ -143,10 +137,10 @@ fn can_be_quiet(name: &[u8], count: usize) -> bool {
 fn classic<'a>(name: &[u8], words: &[&'a [u8]], line: &'a [u8], is_quiet: bool) -> Result<Request<'a>, Refusal> {
     let count = words.len();
     match (name, count) {
-        (b"get" | b"gets", 2..) => Ok(keys(name == b"gets", None, line, 1)),
+        (b"get" | b"gets", 2..) => Ok(Request::Keys(Keys { with_token: name == b"gets", expiry: None }, behind(line, name))),
         (b"gat" | b"gats", 2..) => {
-            let expiry = number::integer(words[1]).ok_or(EXPTIME)?;
-            Ok(keys(name == b"gats", Some(expiry), line, 2))
+            let expiry = Some(number::integer(words[1]).ok_or(EXPTIME)?);
+            Ok(Request::Keys(Keys { with_token: name == b"gats", expiry }, behind(line, words[1])))
         }
         (b"set", 5 | 6) => store(How::Set, words, None),
         (b"add", 5 | 6) => store(How::Add, words, None),
@@ -170,20 +164,14 @@ fn classic<'a>(name: &[u8], words: &[&'a [u8]], line: &'a [u8], is_quiet: bool) 
     }
 }
 
-/// The keys are behind so many words.
-fn keys(with_token: bool, expiry: Option<i64>, line: &[u8], before: usize) -> Request<'_> {
-    let last = words(line).nth(before - 1).unwrap_or_default();
-    let start = last.as_ptr() as usize - line.as_ptr() as usize + last.len();
-    Request::Keys(Keys { with_token, expiry }, start)
+/// Where a word of a line ends.
+pub fn behind(line: &[u8], word: &[u8]) -> usize {
+    word.as_ptr() as usize - line.as_ptr() as usize + word.len()
 }
 
 /// The key, unless it is too long.
 pub fn key(word: &[u8]) -> Result<&[u8], Refusal> {
-    if word.len() <= LONGEST_KEY {
-        Ok(word)
-    } else {
-        Err(FORMAT)
-    }
+    Some(word).filter(|word| word.len() <= LONGEST_KEY).ok_or(FORMAT)
 }
 
 /// All faults of these words have one answer.
