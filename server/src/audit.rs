@@ -27,7 +27,6 @@ pub fn digest(item: &Item) -> u64 {
 }
 
 impl Audit {
-    /// Begins a log in this file.
     pub fn create(path: &str) -> io::Result<Audit> {
         let file = File::create(path).map_err(|why| named(&path, &why))?;
         let audit = Audit(Mutex::new(State { out: BufWriter::new(file), fault: None }));
@@ -35,7 +34,6 @@ impl Audit {
         Ok(audit)
     }
 
-    /// Writes a line.
     pub fn line(&self, line: std::fmt::Arguments) {
         let mut state = self.0.lock().unwrap_or_else(PoisonError::into_inner);
         if state.fault.is_none() {
@@ -43,7 +41,6 @@ impl Audit {
         }
     }
 
-    /// Ends the log.
     pub fn end(&self) -> io::Result<()> {
         let mut state = self.0.lock().unwrap_or_else(PoisonError::into_inner);
         match state.fault.take() {

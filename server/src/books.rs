@@ -25,7 +25,6 @@ impl Books {
         Books { budget, counts: Counts::new(options.threads), clock: Clock::new(), flushes: Flushes::default() }
     }
 
-    /// Whether the item has neither expired nor been flushed.
     pub fn is_live(&self, item: &Item) -> bool {
         item.is_live(self.clock.now(), &self.flushes)
     }
@@ -33,23 +32,24 @@ impl Books {
     /// An item has left the index. One that no client removed is counted.
     pub fn left(&self, item: &Item, reason: Reason) {
         self.budget.leave(cost_of(item));
-        match reason {
-            Reason::Evicted => self.counts.add_if(self.is_live(item), Count::Evicted, Count::Reclaimed),
-            Reason::Expired => self.counts.add(Count::Expired),
+        let is_live = match reason {
+            Reason::Evicted | Reason::Expired => self.is_live(item),
             _ => return,
+        };
+        match reason {
+            Reason::Expired => self.counts.add(Count::Expired),
+            _ => self.counts.add_if(is_live, Count::Evicted, Count::Reclaimed),
         }
         if !item.was_fetched() {
-            self.counts.add_if(self.is_live(item), Count::EvictedUnfetched, Count::ExpiredUnfetched);
+            self.counts.add_if(is_live, Count::EvictedUnfetched, Count::ExpiredUnfetched);
         }
     }
 
-    /// An item that had left is freed.
     pub fn freed(&self, item: &Item) {
         self.budget.free(cost_of(item));
     }
 }
 
-/// The bytes of an item.
-fn cost_of(item: &Item) -> u64 {
+pub(crate) fn cost_of(item: &Item) -> u64 {
     cost(item.key().len(), item.value().len())
 }

@@ -4,6 +4,7 @@ use crate::large::left;
 use crate::log::Seldom;
 use crate::rss_limit::RssLimit;
 use std::io;
+use std::mem;
 use std::sync::atomic::{AtomicU64, Ordering::Relaxed};
 use std::sync::{Mutex, OnceLock};
 
@@ -24,7 +25,6 @@ const PART_OF_LOOK: u64 = 256;
 // are subtracted. No other memory is read by what the words say.
 #[derive(Default)]
 pub struct Budget {
-    /// The most bytes of items.
     limit: AtomicU64,
     /// Those of items that are in the index or about to be put.
     used: AtomicU64,
@@ -46,7 +46,7 @@ pub struct Budget {
 pub struct Claim<'a> {
     budget: &'a Budget,
     pub bytes: u64,
-    expected: u64,
+    is_expected: bool,
     is_kept: bool,
 }
 
@@ -56,7 +56,6 @@ pub fn cost(key: usize, value: usize) -> u64 {
 }
 
 impl Budget {
-    /// Items may take so many bytes, and clients' buffers so many.
     pub fn new(limit: u64, most_buffers: u64) -> Budget {
         Budget { limit: AtomicU64::new(limit), most_buffers, ..Budget::default() }
     }
@@ -70,45 +69,37 @@ impl Budget {
         Ok(most)
     }
 
-    /// Changes the most bytes of items.
     pub fn set_limit(&self, limit: u64) {
         self.limit.store(limit, Relaxed);
     }
 
-    /// The most bytes of items.
     pub fn limit(&self) -> u64 {
         self.limit.load(Relaxed)
     }
 
-    /// The bytes of all items, with those that are about to be put.
     pub fn used(&self) -> u64 {
         self.used.load(Relaxed)
     }
 
-    /// The bytes of items that have left the index and are not freed yet.
     pub fn waiting(&self) -> u64 {
         self.waiting.load(Relaxed)
     }
 
-    /// Counts the bytes of an item that is about to be put.
     pub fn claim(&self, bytes: u64) -> Claim<'_> {
         self.taken.fetch_add(bytes, Relaxed);
         self.used.fetch_add(bytes, Relaxed);
-        Claim { budget: self, bytes, expected: 0, is_kept: false }
+        Claim { budget: self, bytes, is_expected: false, is_kept: false }
     }
 
-    /// Counts the bytes of an item that has left the index.
     pub fn leave(&self, bytes: u64) {
         self.used.fetch_sub(bytes, Relaxed);
         self.waiting.fetch_add(bytes, Relaxed);
     }
 
-    /// Counts the bytes of an item that had left and is freed.
     pub fn free(&self, bytes: u64) {
         self.waiting.fetch_sub(bytes, Relaxed);
     }
 
-    /// Whether an item must give way.
     pub fn is_over(&self) -> bool {
         self.used() > self.limit()
     }
@@ -179,11 +170,11 @@ impl Budget {
 impl Claim<'_> {
     /// Looks at the memory of the process count these bytes as taken, until this is dropped.
     pub fn expect(&mut self) {
-        self.budget.expected.fetch_add(self.bytes - self.expected, Relaxed);
-        self.expected = self.bytes;
+        if !mem::replace(&mut self.is_expected, true) {
+            self.budget.expected.fetch_add(self.bytes, Relaxed);
+        }
     }
 
-    /// The item was put.
     pub fn keep(mut self) {
         self.is_kept = true;
     }
@@ -191,7 +182,9 @@ impl Claim<'_> {
 
 impl Drop for Claim<'_> {
     fn drop(&mut self) {
-        self.budget.expected.fetch_sub(self.expected, Relaxed);
+        if self.is_expected {
+            self.budget.expected.fetch_sub(self.bytes, Relaxed);
+        }
         if !self.is_kept {
             self.budget.used.fetch_sub(self.bytes, Relaxed);
         }

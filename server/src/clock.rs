@@ -18,12 +18,10 @@ pub struct Clock {
 }
 
 impl Clock {
-    /// Starts now.
     pub fn new() -> Clock {
         Clock::since(Instant::now())
     }
 
-    /// Started then.
     pub fn since(started: Instant) -> Clock {
         Clock { started }
     }
@@ -33,7 +31,6 @@ impl Clock {
         self.started.elapsed().as_nanos() as u64 + 1
     }
 
-    /// Whole seconds since the start.
     pub fn uptime(&self) -> u64 {
         self.started.elapsed().as_secs()
     }
@@ -84,7 +81,6 @@ impl Clock {
     }
 }
 
-/// Seconds since 1970.
 pub fn unix_time() -> u64 {
     since_1970().as_secs()
 }

@@ -4,7 +4,7 @@ use crate::item::Item;
 use crate::meta_command;
 use crate::number;
 use crate::output::Output;
-use crate::request::{Change, Order, Request};
+use crate::request::{Change, Request};
 use crate::stats;
 use crate::store::{Answer, Changed, Fault, Store};
 use std::io::Write;
@@ -23,7 +23,6 @@ pub(crate) use version;
 const NOT_FOUND: Text = "NOT_FOUND";
 
 impl Fault {
-    /// The answer that the client gets.
     pub fn text(self) -> Text {
         match self {
             Fault::NoRoom => "SERVER_ERROR out of memory storing object",
@@ -34,13 +33,11 @@ impl Fault {
     }
 }
 
-/// Writes a line.
 pub fn line(out: &mut Vec<u8>, text: &str) {
     out.extend_from_slice(text.as_bytes());
     out.extend_from_slice(b"\r\n");
 }
 
-/// Writes formatted text.
 macro_rules! text {
     ($out:expr, $($words:tt)*) => {
         write!($out, $($words)*).expect("a vector takes all that is written")
@@ -53,9 +50,9 @@ pub fn value(out: &mut Output, key: &[u8], item: &Item, token: Option<u64>) {
     out.extend_from_slice(b"VALUE ");
     out.extend_from_slice(key);
     out.push(b' ');
-    number::write(out, item.flags.into());
+    number::write(out, item.flags);
     out.push(b' ');
-    number::write(out, item.value().len() as u64);
+    number::write(out, item.value().len());
     if let Some(token) = token {
         out.push(b' ');
         number::write(out, token);
@@ -66,8 +63,8 @@ pub fn value(out: &mut Output, key: &[u8], item: &Item, token: Option<u64>) {
 /// Carries out a command whose block, if it has one, is this. `get` and its kin, lists, and `quit`, are the connection's.
 pub fn run(store: &Store, request: &Request, data: &[u8], is_quiet: bool, out: &mut Output) {
     let text = match request {
-        Request::Store(order) => store_item(store, order, data),
-        Request::Delete(key) => delete(store, key),
+        Request::Store(order) => told(store.store(order, data), "STORED"),
+        Request::Delete(key) => told(store.delete(key, None), "DELETED"),
         Request::Change(key, change) => return answer_change(store, key, *change, is_quiet, out),
         Request::Touch(key, expiry) => touch(store, key, *expiry),
         Request::Flush(delay) => {
@@ -87,20 +84,12 @@ pub fn run(store: &Store, request: &Request, data: &[u8], is_quiet: bool, out: &
     }
 }
 
-fn store_item(store: &Store, order: &Order, data: &[u8]) -> Text {
-    match store.store(order, data) {
-        Ok(Answer::Done(_)) => "STORED",
+fn told(answered: Result<Answer, Fault>, done: Text) -> Text {
+    match answered {
+        Ok(Answer::Done(_)) => done,
         Ok(Answer::NotStored) => "NOT_STORED",
         Ok(Answer::Exists) => "EXISTS",
         Ok(Answer::NotFound) => NOT_FOUND,
-        Err(why) => why.text(),
-    }
-}
-
-fn delete(store: &Store, key: &[u8]) -> Text {
-    match store.delete(key, None) {
-        Ok(Answer::Done(_)) => "DELETED",
-        Ok(_) => NOT_FOUND,
         Err(why) => why.text(),
     }
 }
@@ -135,7 +124,6 @@ fn answer_change(store: &Store, key: &[u8], change: Change, is_quiet: bool, out:
     }
 }
 
-/// Counts an `incr` or a `decr`.
 pub fn count_change(store: &Store, change: Change, changed: Result<Changed, Fault>) {
     let is_hit = match changed {
         Ok(Changed::Changed(..)) => true,

@@ -25,7 +25,6 @@ const MOST_TOLD: u32 = 20;
 /// What a connection waits for.
 #[derive(Clone, Copy, Debug, PartialEq, Eq)]
 pub enum Next {
-    /// An event.
     Event,
     /// Its next turn: there is more to do.
     Turn,
@@ -50,7 +49,6 @@ pub struct Connection {
 }
 
 impl Connection {
-    /// A client that has just connected.
     pub fn new(stream: Stream, seat: Seat) -> Connection {
         let file = stream.0.as_raw_fd();
         let (dialogue, input, output) = (Dialogue::of(file), Input::default(), Output::default());
@@ -58,7 +56,6 @@ impl Connection {
         Connection { seat, stream, dialogue, input, needs: 1, output, is_ending, is_dry, is_half_closed }
     }
 
-    /// Its open file.
     pub fn file(&self) -> RawFd {
         self.stream.0.as_raw_fd()
     }
@@ -68,7 +65,6 @@ impl Connection {
         self.seat.settle(home);
     }
 
-    /// Notes an event of the connection.
     pub fn note(&mut self, event: &Event) {
         self.is_half_closed |= event.is_read_closed();
         self.read_again();
@@ -89,7 +85,6 @@ impl Connection {
         self.seat.turn()
     }
 
-    /// Notes a turn in this second.
     pub fn note_turn(&self, second: u32) {
         self.seat.note(second, self.state());
     }
@@ -141,7 +136,6 @@ impl Connection {
         self.needs = 0;
     }
 
-    /// Tells the operator of this client.
     fn tell(&self, what: Arguments) {
         static SELDOM: Seldom = Seldom::new(MOST_TOLD);
         SELDOM.log(format_args!("{} {what}", self.stream));
@@ -242,7 +236,6 @@ impl Connection {
         Ok(true)
     }
 
-    /// Sends what can be sent.
     fn send(&mut self, store: &Store) -> io::Result<()> {
         while !self.output.is_empty() {
             match retry(|| self.output.send(&mut self.stream.0))? {

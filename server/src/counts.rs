@@ -89,17 +89,14 @@ impl Counts {
         Counts { own: (0..threads).map(|_| Place::new()).collect(), shared: Place::new(), at_reset: Place::new() }
     }
 
-    /// Counts one more.
     pub fn add(&self, count: Count) {
         self.add_many(count, 1);
     }
 
-    /// Counts one more of this or that.
     pub fn add_if(&self, is_hit: bool, hit: Count, miss: Count) {
         self.add(if is_hit { hit } else { miss });
     }
 
-    /// Counts so many more.
     pub fn add_many(&self, count: Count, number: u64) {
         match PLACE.get().and_then(|index| self.own.get(index)) {
             // Only this thread changes it.
@@ -108,12 +105,10 @@ impl Counts {
         }
     }
 
-    /// The sum since the last reset.
     pub fn get(&self, count: Count) -> u64 {
         self.since_reset(count as usize)
     }
 
-    /// Each name with that sum.
     pub fn sums(&self) -> impl Iterator<Item = (&'static str, u64)> + '_ {
         TEXTS.iter().enumerate().map(|(kind, text)| (*text, self.since_reset(kind)))
     }
@@ -124,7 +119,6 @@ impl Counts {
         self.sum(kind).saturating_sub(before)
     }
 
-    /// Begins anew at 0.
     pub fn reset(&self) {
         self.at_reset.0.iter().enumerate().for_each(|(kind, at_reset)| at_reset.store(self.sum(kind), Relaxed));
     }

@@ -33,7 +33,6 @@ pub fn detach() -> io::Result<Starter> {
     }
 }
 
-/// Waits for the end of a process.
 fn status_of(process: Pid) -> i32 {
     match waitpid(process, None) {
         Ok(WaitStatus::Exited(_, status)) => status,

@@ -47,13 +47,11 @@ pub struct Dialogue {
 
 #[derive(Default)]
 enum State {
-    /// Nothing has come yet.
     #[default]
     New,
     Line,
     /// So many bytes belong to a command that was refused.
     Block(usize),
-    /// In a line of keys.
     Keys(Keys),
     /// In a line of keys that was refused.
     Rest,
@@ -75,7 +73,6 @@ impl Dialogue {
         self.refuses_block = true;
     }
 
-    /// Whether a block is skipped.
     pub fn is_skipping(&self) -> bool {
         matches!(self.state, State::Block(_))
     }
@@ -102,7 +99,6 @@ impl Dialogue {
         (done, Turn::HasMore)
     }
 
-    /// Whether a command has begun and not ended.
     pub fn is_within(&self) -> bool {
         !matches!(self.state, State::New | State::Line)
     }
@@ -266,7 +262,6 @@ impl Step {
     }
 }
 
-/// Whether no key is too long.
 fn have_right_length(keys: &[u8]) -> bool {
     keys.len() <= LONGEST_KEY || words(keys).all(|key| key.len() <= LONGEST_KEY)
 }
@@ -291,18 +286,14 @@ fn order_of<'a>(request: &Request<'a>) -> Option<Order<'a>> {
     }
 }
 
-/// Keys of a line.
 struct Batch<'a> {
     keys: [&'a [u8]; KEYS],
-    /// Where each key ends.
     ends: [usize; KEYS],
     count: usize,
-    /// Where the batch ends.
     end: usize,
     stop: Stop,
 }
 
-/// Why a batch has no more keys.
 enum Stop {
     Full,
     Line,

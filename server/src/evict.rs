@@ -1,10 +1,12 @@
 //! Items give way to others.
 use crate::allocator;
+use crate::books::cost_of;
 use crate::budget::Claim;
 use crate::rss_limit::{PART_OF_CUT, TIMES_OF_CUT};
 use crate::slabs::{address_of, look_around};
 use crate::store::{Fault, Store};
 use cefrodil_map::Reason;
+use std::cell::Cell;
 use std::sync::atomic::Ordering::Relaxed;
 use std::thread::{sleep, yield_now};
 use std::time::Duration;
@@ -70,16 +72,13 @@ impl Store {
     }
 
     /// The system has refused memory for so many bytes. Makes a call again when some items have given way, unless that did not help lately.
-    pub(crate) fn with_more_memory<T>(&self, bytes: usize, again: impl FnOnce() -> Option<T>) -> Option<T> {
+    pub fn with_more_memory<T>(&self, bytes: usize, again: impl FnOnce() -> Option<T>) -> Option<T> {
         // Relaxed: a guess.
         if self.helpless.load(Relaxed) == self.books.clock.uptime() {
             return None;
         }
-        let (budget, limit) = (&self.books.budget, self.books.budget.limit());
-        let cut = (TIMES_OF_CUT * bytes as u64).min(limit / PART_OF_CUT);
-        budget.set_limit(budget.used().saturating_sub(cut));
-        self.evict_enough(|| self.index.evict(&mut |_| ()));
-        budget.set_limit(limit);
+        let (cut, gone) = ((TIMES_OF_CUT * bytes as u64).min(self.books.budget.limit() / PART_OF_CUT), Cell::new(0));
+        self.evict_while(|| gone.get() < cut, || self.index.evict(&mut |item| gone.set(gone.get() + cost_of(item))));
         self.index.sweep();
         allocator::trim();
         let result = again();
@@ -91,8 +90,12 @@ impl Store {
 
     /// Evicts items by this call, which returns whether it has, until the others are within the limit. Returns whether they are.
     fn evict_enough(&self, evict: impl Fn() -> bool) -> bool {
+        self.evict_while(|| self.books.budget.is_over(), evict)
+    }
+
+    fn evict_while(&self, is_needed: impl Fn() -> bool, evict: impl Fn() -> bool) -> bool {
         let mut failed = 0;
-        while self.books.budget.is_over() {
+        while is_needed() {
             if evict() {
                 continue;
             }

@@ -52,11 +52,7 @@ impl Holder {
     }
 
     fn counted(&self) -> u64 {
-        if self.cut.is_none() {
-            self.bytes
-        } else {
-            0
-        }
+        self.cut.map_or(self.bytes, |_| 0)
     }
 }
 

@@ -19,21 +19,12 @@ pub enum Refused {
     Absent,
 }
 
-impl From<InsertError> for Refused {
-    fn from(why: InsertError) -> Refused {
-        match why {
-            InsertError::Held => Refused::Held,
-            _ => Refused::Full,
-        }
-    }
-}
-
 impl From<AbsentError> for Refused {
     fn from(why: AbsentError) -> Refused {
         match why {
             AbsentError::Present { .. } => Refused::Changed,
-            AbsentError::Insert(why) => why.into(),
-            _ => Refused::Held,
+            AbsentError::Busy | AbsentError::Contended | AbsentError::Insert(InsertError::Held) => Refused::Held,
+            _ => Refused::Full,
         }
     }
 }

@@ -32,12 +32,10 @@ fn buffer_of(first: &[u8], size: usize) -> Option<Vec<u8>> {
 }
 
 impl Input {
-    /// What waits.
     pub fn waiting(&self) -> &[u8] {
         &self.bytes[self.start..self.end]
     }
 
-    /// How many bytes wait.
     pub fn len(&self) -> usize {
         self.end - self.start
     }
@@ -51,7 +49,6 @@ impl Input {
         }
     }
 
-    /// So many bytes are done with.
     pub fn consume(&mut self, count: usize) {
         self.start += count;
         if self.start == self.end {
@@ -87,7 +84,6 @@ impl Input {
         true
     }
 
-    /// Nothing waits any more.
     pub fn forget(&mut self) {
         self.replace(Vec::new());
         self.end = 0;
@@ -124,13 +120,11 @@ impl Input {
         has_memory
     }
 
-    /// That room.
     pub fn room(&mut self) -> &mut [u8] {
         let end = if self.is_borrowed { ROOM.min(self.end + CHUNK) } else { self.bytes.len() };
         &mut self.bytes[self.end..end]
     }
 
-    /// So many bytes have been read to that room.
     pub fn add(&mut self, count: usize) {
         self.end += count;
     }

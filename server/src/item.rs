@@ -19,7 +19,6 @@ pub struct About {
     /// When it was made. What is made of an older item, or because there is one, was made when that was found: so a flush in between hits it.
     born: u64,
     deadline: AtomicU64,
-    /// The client's flags.
     pub flags: u32,
     value: u32,
     is_fetched: AtomicBool,
@@ -61,18 +60,15 @@ pub fn new_item(born: u64, flags: u32, deadline: u64, key: &[u8], value: &[&[u8]
 }
 
 impl About {
-    /// When it was made.
     pub fn born(&self) -> u64 {
         self.born
     }
 
-    /// When it expires.
     pub fn deadline(&self) -> u64 {
         // It says nothing of other memory. A call that keeps it and one that moves it take turns, which orders them.
         self.deadline.load(Relaxed)
     }
 
-    /// Moves the deadline.
     pub fn touch(&self, deadline: u64) {
         // As above.
         self.deadline.store(deadline, Relaxed);
@@ -83,19 +79,16 @@ impl About {
         !self.has_expired(now) && !flushes.have_hit(self.born, now)
     }
 
-    /// Whether its deadline has come.
     pub fn has_expired(&self, now: u64) -> bool {
         now >= self.deadline()
     }
 
-    /// Notes that it was read.
     pub fn note_fetched(&self) {
         if !self.was_fetched() {
             self.is_fetched.store(true, Relaxed);
         }
     }
 
-    /// Whether it was ever read.
     pub fn was_fetched(&self) -> bool {
         // A hint, for counts alone.
         self.is_fetched.load(Relaxed)

@@ -27,7 +27,6 @@ const BEFORE: usize = size_of::<Before>();
 /// The bytes of all items that have left the index and are held.
 static LEFT: AtomicU64 = AtomicU64::new(0);
 
-/// An item that is sent to a client.
 pub struct Held(*const Item);
 
 // SAFETY: it lives as long as it is held, by whatever thread. All threads may read an item.
@@ -115,7 +114,6 @@ impl Held {
         Some(held)
     }
 
-    /// The item.
     pub fn item(&self) -> &Item {
         // SAFETY: it is held.
         unsafe { &*self.0 }

@@ -115,7 +115,6 @@ impl Listener {
         Listener { socket: unsafe { OwnedFd::from_raw_fd(socket.into_raw_fd()) }, file }
     }
 
-    /// A client that waits.
     pub fn accept(&self) -> io::Result<Stream> {
         let flags = libc::SOCK_NONBLOCK | libc::SOCK_CLOEXEC;
         // SAFETY: the call writes no address.
@@ -137,7 +136,6 @@ impl AsRawFd for Listener {
     }
 }
 
-/// The other end's address.
 impl Display for Stream {
     fn fmt(&self, text: &mut Formatter) -> fmt::Result {
         match self.0.peer_addr() {

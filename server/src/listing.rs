@@ -5,7 +5,7 @@ use crate::item::Item;
 use crate::listen::tcp;
 use crate::output::Output;
 use crate::request::Request;
-use crate::seat::{Seen, State};
+use crate::seat::Seen;
 use crate::slabs::address_of;
 use crate::store::Store;
 use crate::walk;
@@ -112,12 +112,6 @@ fn list_client(store: &Store, place: &mut usize, out: &mut Output) -> bool {
     *place = index + 1 + listeners.len();
     write_address(out, file, "addr", false);
     write_address(out, file, "listen_addr", true);
-    let state = match state {
-        State::Command => "conn_read",
-        State::Block => "conn_nread",
-        State::Skipped => "conn_swallow",
-        State::Sent => "conn_mwrite",
-    };
     let silent = store.books.clock.uptime().saturating_sub(turn.into());
     text!(out, "STAT {file}:state {state}\r\nSTAT {file}:secs_since_last_cmd {silent}\r\n");
     true

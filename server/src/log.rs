@@ -17,7 +17,6 @@ pub struct Seldom {
 }
 
 impl Seldom {
-    /// So many are written a minute.
     pub const fn new(most: u32) -> Seldom {
         Seldom { most, written: Mutex::new((None, 0)) }
     }

@@ -3,7 +3,7 @@ use crate::audit::{digest, Audit};
 use crate::books::Books;
 use crate::index::{Index, Over, Refused, Seen, Token};
 use crate::item::{About, Item, NewItem};
-use cefrodil_map::{BytesMap, GetError, IfError, Inserted, Look, OpenError, Put, Reason};
+use cefrodil_map::{AbsentError, BytesMap, GetError, IfError, Inserted, Look, OpenError, Put, Reason};
 use std::cell::Cell;
 use std::sync::Arc;
 use std::time::Duration;
@@ -11,7 +11,6 @@ use std::time::Duration;
 /// What an entry of the index takes, at most.
 pub const BYTES_OF_AN_ENTRY: usize = 56;
 
-/// The map, and its log if there is one.
 pub struct MapIndex {
     map: BytesMap<About>,
     audit: Option<Arc<Audit>>,
@@ -74,7 +73,6 @@ impl MapIndex {
         Ok(MapIndex { map: builder.open()?, audit })
     }
 
-    /// The most items that it holds.
     pub fn capacity(&self) -> usize {
         self.map.capacity()
     }
@@ -141,7 +139,7 @@ impl Index for MapIndex {
         // The hash of the key, and the item's digest.
         let logged = self.audit.is_some().then(|| (self.hash_of(item.key()), digest(&item)));
         let put = match over {
-            Over::Any => self.map.put(item)?,
+            Over::Any => self.map.put(item).map_err(AbsentError::from)?,
             Over::Nothing => self.map.put_if_absent(item)?,
             Over::Token(token) => {
                 self.map.replace_if(token, item).map_err(|why| self.failed(logged.map_or(0, |(hash, _)| hash), why))?

@@ -1,11 +1,10 @@
 //! Meta commands: what their words ask for.
 use crate::number;
-use crate::request::{key, refusal, words, How, Order, Refusal, Request, ERROR, FORMAT};
+use crate::request::{behind, key, refusal, words, How, Order, Refusal, Request, ERROR, FORMAT};
 
 /// The longest opaque token, its flag included.
 const LONGEST_OPAQUE: usize = 33;
 
-/// What a meta command does.
 #[derive(Clone, Copy, Debug, Default, PartialEq, Eq)]
 pub enum Verb {
     /// `mg`
@@ -19,10 +18,8 @@ pub enum Verb {
     Arithmetic,
 }
 
-/// A meta command.
 #[derive(Debug, Default, PartialEq, Eq)]
 pub struct Meta<'a> {
-    /// What it does.
     pub verb: Verb,
     /// Its key, and what `ms` stores: `F`, `M`, `C`, `T` and the length of its block.
     pub order: Order<'a>,
@@ -64,9 +61,8 @@ pub fn parse(letter: u8, line: &[u8]) -> Result<Request<'_>, Refusal> {
         last = all.next().ok_or(FORMAT)?;
         length = number::length(last).ok_or(FORMAT)?;
     }
-    let start = last.as_ptr() as usize - line.as_ptr() as usize + last.len();
     let order = Order { key, length, ..Order::default() };
-    let mut meta = Meta { verb, order, words: &line[start..], delta: 1, ..Meta::default() };
+    let mut meta = Meta { verb, order, words: &line[behind(line, last)..], delta: 1, ..Meta::default() };
     match meta.read_flags() {
         Ok(()) => Ok(Request::Meta(meta)),
         Err(why) if verb == Verb::Set => Err(Refusal { block: length + 2, ..why }),

@@ -1,6 +1,7 @@
 //! Carries meta commands out.
 use crate::command::{count_change, line, text, NOT_NUMERIC};
 use crate::counts::Count;
+use crate::index::Token;
 use crate::item::Item;
 use crate::meta::{Meta, Verb};
 use crate::number;
@@ -12,14 +13,15 @@ use std::io::Write;
 /// What the answer's flags say of the item.
 #[derive(Default)]
 struct Facts {
-    token: Option<u64>,
-    flags: Option<u32>,
-    size: Option<usize>,
+    /// An index makes less than 2^63 changes.
+    token: Option<i64>,
+    flags: Option<i64>,
+    size: Option<i64>,
     left: Option<i64>,
 }
 
-fn with(token: u64) -> Facts {
-    Facts { token: Some(token), ..Facts::default() }
+fn with(token: Token) -> Facts {
+    Facts { token: Some(token as i64), ..Facts::default() }
 }
 
 /// Carries out a command whose block is this, if it has one.
@@ -27,8 +29,8 @@ pub fn run(store: &Store, meta: &Meta, data: &[u8], out: &mut Output) {
     store.books.counts.add(Count::MetaCommands);
     match meta.verb {
         Verb::Get => get(store, meta, out),
-        Verb::Set => set(store, meta, data, out),
-        Verb::Delete => delete(store, meta, out),
+        Verb::Set => tell(meta, store.store(&meta.order, data), out),
+        Verb::Delete => tell(meta, store.delete(meta.order.key, meta.order.compare), out),
         Verb::Arithmetic => change(store, meta, out),
     }
 }
@@ -37,11 +39,11 @@ fn get(store: &Store, meta: &Meta, out: &mut Output) {
     let mut is_found = false;
     let each = |_, item: &Item, token| {
         is_found = true;
-        let left = Some(store.books.clock.left(item.deadline()));
-        let facts = Facts { flags: Some(item.flags), size: Some(item.value().len()), left, ..with(token) };
+        let (size, left) = (item.value().len(), store.books.clock.left(item.deadline()));
+        let facts = Facts { flags: Some(item.flags.into()), size: Some(size as i64), left: Some(left), ..with(token) };
         if meta.with_value {
             out.extend_from_slice(b"VA ");
-            number::write(out, item.value().len() as u64);
+            number::write(out, size);
             write_flags(meta, &facts, out);
             out.block(item);
         } else {
@@ -56,14 +58,6 @@ fn get(store: &Store, meta: &Meta, out: &mut Output) {
     if !is_found && !meta.is_quiet {
         answer(meta, "EN", &Facts::default(), out);
     }
-}
-
-fn set(store: &Store, meta: &Meta, data: &[u8], out: &mut Vec<u8>) {
-    tell(meta, store.store(&meta.order, data), out);
-}
-
-fn delete(store: &Store, meta: &Meta, out: &mut Vec<u8>) {
-    tell(meta, store.delete(meta.order.key, meta.order.compare), out);
 }
 
 fn tell(meta: &Meta, answered: Result<Answer, Fault>, out: &mut Vec<u8>) {
@@ -133,25 +127,19 @@ fn answer(meta: &Meta, code: &str, facts: &Facts, out: &mut Vec<u8>) {
 /// Writes the flags of the answer, in the order of the command's.
 fn write_flags(meta: &Meta, facts: &Facts, out: &mut Vec<u8>) {
     for word in words(meta.words) {
-        let number = match word[0] {
-            b'O' => {
-                out.push(b' ');
-                out.extend_from_slice(word);
-                None
-            }
-            b'k' => {
-                out.extend_from_slice(b" k");
-                out.extend_from_slice(meta.order.key);
-                None
-            }
-            b'c' => facts.token.map(|token| token.to_string()),
-            b'f' => facts.flags.map(|flags| flags.to_string()),
-            b's' => facts.size.map(|size| size.to_string()),
-            b't' => facts.left.map(|left| left.to_string()),
-            _ => None,
+        let (text, fact) = match word[0] {
+            b'O' => (Some(&word[1..]), None),
+            b'k' => (Some(meta.order.key), None),
+            b'c' => (None, facts.token),
+            b'f' => (None, facts.flags),
+            b's' => (None, facts.size),
+            b't' => (None, facts.left),
+            _ => (None, None),
         };
-        if let Some(number) = number {
-            text!(out, " {}{number}", char::from(word[0]));
+        if text.is_some() || fact.is_some() {
+            out.extend_from_slice(&[b' ', word[0]]);
+            out.extend_from_slice(text.unwrap_or_default());
+            fact.into_iter().for_each(|fact| number::write(out, fact));
         }
     }
 }

@@ -39,7 +39,6 @@ pub fn unsigned(text: &[u8]) -> Option<u64> {
     })
 }
 
-/// The flags of an item.
 pub fn flags(text: &[u8]) -> Option<u32> {
     u32::try_from(unsigned(text)?).ok()
 }
@@ -51,15 +50,12 @@ pub fn integer(text: &[u8]) -> Option<i64> {
     Some(if negative { -magnitude } else { magnitude })
 }
 
-/// The length of a block.
 pub fn length(text: &[u8]) -> Option<usize> {
     unsigned(text).filter(|length| *length <= i32::MAX as u64 - 2).map(|length| length as usize)
 }
 
-/// The digits of the largest number.
 const DIGITS: usize = u64::MAX.ilog10() as usize + 1;
 
-/// Writes a number.
-pub fn write(out: &mut Vec<u8>, number: u64) {
+pub fn write(out: &mut Vec<u8>, number: impl itoa::Integer) {
     out.extend_from_slice(itoa::Buffer::new().format(number).as_bytes());
 }

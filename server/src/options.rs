@@ -4,7 +4,6 @@ use crate::map_index::BYTES_OF_AN_ENTRY;
 use std::net::{IpAddr, SocketAddr};
 use std::path::PathBuf;
 
-/// What `--help` prints.
 pub const HELP: &str = "\
 cefrodild: a cache server that speaks memcached's text protocol
 
@@ -63,18 +62,13 @@ pub struct Options {
     pub detaches: bool,
     /// How often it was asked to say more: its output stays open then, and from two times on it shows commands.
     pub verbosity: u32,
-    /// Whether core files may be as large as the system allows.
     pub dumps_core: bool,
-    /// A file for the number of the process.
     pub process_file: Option<PathBuf>,
     pub threads: usize,
     /// The most bytes for items and the index.
     pub memory: usize,
-    /// The most items.
     pub items: usize,
-    /// The most connections.
     pub connections: usize,
-    /// The longest value.
     pub longest: usize,
     /// For so many seconds a client may be silent.
     pub idle_timeout: Option<u32>,
@@ -84,7 +78,6 @@ pub struct Options {
     pub audit: Option<String>,
 }
 
-/// What the command line asks for.
 #[derive(Debug, PartialEq, Eq)]
 pub enum Asked {
     Serve(Options),
@@ -263,7 +256,6 @@ fn option(word: &str, words: &mut impl Iterator<Item = String>) -> Result<(char,
     }
 }
 
-/// One of the list of `-o`.
 fn extended(options: &mut Options, word: &str, one: &str) -> Result<(), String> {
     let (name, value) = one.split_once('=').unwrap_or((one, ""));
     if name == "idle_timeout" {

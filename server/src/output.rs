@@ -64,7 +64,6 @@ impl Output {
         is_kept
     }
 
-    /// How many bytes of the client's own buffer are used.
     pub fn held(&self) -> usize {
         self.bytes.len()
     }
@@ -84,12 +83,10 @@ impl Output {
         self.large.is_some() || self.bytes.len() >= MOST_WAITING
     }
 
-    /// Whether all is sent.
     pub fn is_empty(&self) -> bool {
         self.bytes.is_empty()
     }
 
-    /// The large value's item.
     pub fn item(&self) -> Option<&Held> {
         self.large.as_ref().map(|large| &large.item)
     }

@@ -11,7 +11,7 @@ static PLACES: Mutex<Places> = Mutex::new(Places { all: Vec::new(), free: Vec::n
 /// Each place has the address of an item, or 0 if it is free.
 struct Places {
     all: Vec<usize>,
-    /// The free places. Its capacity is that of `all`, so that it never grows when an item is freed.
+    /// The free places. Its capacity is that of `all` at least, so that it never grows when an item is freed.
     free: Vec<u32>,
 }
 
@@ -28,13 +28,13 @@ pub fn take(item: &Item) -> Option<u32> {
     }
     let (place, more) = (u32::try_from(places.all.len()).ok()?, places.all.len().max(1));
     if places.all.len() == places.all.capacity() {
-        may_fail(|| places.all.try_reserve_exact(more).and_then(|()| places.free.try_reserve_exact(2 * more))).ok()?;
+        // In this order: if the second one is refused, the next call asks for it again.
+        may_fail(|| places.free.try_reserve_exact(2 * more).and_then(|()| places.all.try_reserve_exact(more))).ok()?;
     }
     places.all.push(address);
     Some(place)
 }
 
-/// Frees a place.
 pub fn give_back(place: u32) {
     let mut places = places();
     places.all[place as usize] = 0;

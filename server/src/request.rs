@@ -3,7 +3,6 @@ use crate::listing::CLASS;
 use crate::meta::{self, Meta};
 use crate::number;
 
-/// The longest key.
 pub const LONGEST_KEY: usize = 250;
 
 /// The most words of a command line that are kept apart. No command but those of keys and flags has as many.
@@ -12,7 +11,6 @@ const WORDS: usize = 9;
 /// The last class of items that clients may ask for, as to memcached.
 const LAST_CLASS: u64 = 63;
 
-/// What a command line asks for.
 #[derive(Debug, PartialEq, Eq)]
 pub enum Request<'a> {
     /// `get` and its kin. The keys are what follows this many bytes of the line.
@@ -89,10 +87,8 @@ pub enum Change {
     Subtract(u64),
 }
 
-/// Why a line is refused.
 #[derive(Clone, Copy, Debug, PartialEq, Eq)]
 pub struct Refusal {
-    /// The answer.
     pub text: &'static str,
     /// How many bytes behind the line belong to it.
     pub block: usize,
@@ -111,7 +107,6 @@ pub const fn refusal(text: &'static str) -> Refusal {
     Refusal { text, block: 0 }
 }
 
-/// The words of a line.
 pub fn words(line: &[u8]) -> impl Iterator<Item = &[u8]> {
     line.split(|byte| *byte == b' ').filter(|word| !word.is_empty())
 }
@@ -120,8 +115,7 @@ pub fn words(line: &[u8]) -> impl Iterator<Item = &[u8]> {
 pub fn parse(line: &[u8]) -> (Result<Request<'_>, Refusal>, bool) {
     let mut found = [&line[..0]; WORDS];
     let count = words(line).take(WORDS).zip(&mut found).map(|(word, place)| *place = word).count();
-    let words = &found[..count];
-    let name = words.first().copied().unwrap_or_default();
+    let (words, name) = (&found[..count], found[0]);
     if name.len() == 2 && name[0] == b'm' {
         return (meta::parse(name[1], line), false);
     }
@@ -143,17 +137,17 @@ fn can_be_quiet(name: &[u8], count: usize) -> bool {
 fn classic<'a>(name: &[u8], words: &[&'a [u8]], line: &'a [u8], is_quiet: bool) -> Result<Request<'a>, Refusal> {
     let count = words.len();
     match (name, count) {
-        (b"get" | b"gets", 2..) => Ok(keys(name == b"gets", None, line, 1)),
+        (b"get" | b"gets", 2..) => Ok(Request::Keys(Keys { with_token: name == b"gets", expiry: None }, behind(line, name))),
         (b"gat" | b"gats", 2..) => {
-            let expiry = number::integer(words[1]).ok_or(EXPTIME)?;
-            Ok(keys(name == b"gats", Some(expiry), line, 2))
+            let expiry = Some(number::integer(words[1]).ok_or(EXPTIME)?);
+            Ok(Request::Keys(Keys { with_token: name == b"gats", expiry }, behind(line, words[1])))
         }
-        (b"set", 5 | 6) => store(How::Set, words),
-        (b"add", 5 | 6) => store(How::Add, words),
-        (b"replace", 5 | 6) => store(How::Replace, words),
-        (b"append", 5 | 6) => store(How::Append, words),
-        (b"prepend", 5 | 6) => store(How::Prepend, words),
-        (b"cas", 6 | 7) => compare(words),
+        (b"set", 5 | 6) => store(How::Set, words, None),
+        (b"add", 5 | 6) => store(How::Add, words, None),
+        (b"replace", 5 | 6) => store(How::Replace, words, None),
+        (b"append", 5 | 6) => store(How::Append, words, None),
+        (b"prepend", 5 | 6) => store(How::Prepend, words, None),
+        (b"cas", 6 | 7) => store(How::Set, words, Some(number::unsigned(words[5]).ok_or(FORMAT)?)),
         (b"incr", 3 | 4) => change(words, Change::Add),
         (b"decr", 3 | 4) => change(words, Change::Subtract),
         (b"touch", 3 | 4) => Ok(Request::Touch(key(words[1])?, number::integer(words[2]).ok_or(EXPTIME)?)),
@@ -170,11 +164,9 @@ fn classic<'a>(name: &[u8], words: &[&'a [u8]], line: &'a [u8], is_quiet: bool) 
     }
 }
 
-/// The keys are behind so many words.
-fn keys(with_token: bool, expiry: Option<i64>, line: &[u8], before: usize) -> Request<'_> {
-    let last = words(line).nth(before - 1).unwrap_or_default();
-    let start = last.as_ptr() as usize - line.as_ptr() as usize + last.len();
-    Request::Keys(Keys { with_token, expiry }, start)
+/// Where a word of a line ends.
+pub fn behind(line: &[u8], word: &[u8]) -> usize {
+    word.as_ptr() as usize - line.as_ptr() as usize + word.len()
 }
 
 /// The key, unless it is too long.
@@ -182,21 +174,12 @@ pub fn key(word: &[u8]) -> Result<&[u8], Refusal> {
     Some(word).filter(|word| word.len() <= LONGEST_KEY).ok_or(FORMAT)
 }
 
-fn stored<'a>(how: How, words: &[&'a [u8]]) -> Option<Order<'a>> {
-    let flags = number::flags(words[2])?;
-    let expiry = number::integer(words[3])?;
-    let length = number::length(words[4])?;
-    Some(Order { how, key: key(words[1]).ok()?, flags, expiry, length, compare: None })
-}
-
-fn store<'a>(how: How, words: &[&'a [u8]]) -> Result<Request<'a>, Refusal> {
-    stored(how, words).map(Request::Store).ok_or(FORMAT)
-}
-
-fn compare<'a>(words: &[&'a [u8]]) -> Result<Request<'a>, Refusal> {
-    let order = stored(How::Set, words).ok_or(FORMAT)?;
-    let token = number::unsigned(words[5]).ok_or(FORMAT)?;
-    Ok(Request::Store(Order { compare: Some(token), ..order }))
+/// All faults of these words have one answer.
+fn store<'a>(how: How, words: &[&'a [u8]], compare: Option<u64>) -> Result<Request<'a>, Refusal> {
+    let flags = number::flags(words[2]).ok_or(FORMAT)?;
+    let expiry = number::integer(words[3]).ok_or(FORMAT)?;
+    let length = number::length(words[4]).ok_or(FORMAT)?;
+    Ok(Request::Store(Order { how, key: key(words[1])?, flags, expiry, length, compare }))
 }
 
 fn change<'a>(words: &[&'a [u8]], change: fn(u64) -> Change) -> Result<Request<'a>, Refusal> {
@@ -217,9 +200,11 @@ fn crawl<'a>(classes: &[u8]) -> Result<Request<'a>, Refusal> {
     if matches!(classes, b"all" | b"hash") {
         return Ok(Request::Crawl(true));
     }
-    let class = |class| number::unsigned(class).filter(|class| (1..=LAST_CLASS).contains(class));
-    let classes: Option<Vec<u64>> = classes.split(|byte| *byte == b',').map(class).collect();
-    let has_class = classes.ok_or(refusal("BADCLASS invalid class id"))?.contains(&CLASS);
+    let mut has_class = false;
+    for class in classes.split(|byte| *byte == b',').map(number::unsigned) {
+        let known = class.filter(|class| (1..=LAST_CLASS).contains(class)).ok_or(refusal("BADCLASS invalid class id"))?;
+        has_class |= known == CLASS;
+    }
     Ok(Request::Crawl(has_class))
 }
 

@@ -11,7 +11,6 @@ use std::sync::{Arc, Mutex, MutexGuard, OnceLock, PoisonError};
 /// So many bytes of each client don't count. A command that fits these is never cut off.
 pub const FREE: usize = 1 << 13;
 
-/// The seats of all clients.
 // The counts are relaxed, since no other memory is read by what they say. Only the thread that takes seats adds to `taken`. If that thread does
 // not see yet that a seat is free, it refuses a client.
 pub struct Seats {
@@ -31,13 +30,13 @@ struct Place {
     file: AtomicI32,
     /// When it last had a turn, in seconds since the server started.
     turn: AtomicU32,
-    state: AtomicU32,
+    state: AtomicUsize,
 }
 
 const NOBODY: RawFd = -1;
 
 /// What a client waits for.
-#[derive(Clone, Copy, Debug, PartialEq, Eq)]
+#[derive(Clone, Copy)]
 pub enum State {
     Command,
     Block,
@@ -45,12 +44,14 @@ pub enum State {
     Sent,
 }
 
+/// The same in memcached's words.
+const STATES: [&str; 4] = ["conn_read", "conn_nread", "conn_swallow", "conn_mwrite"];
+
 /// What others see of a client: its open file, when it last had a turn, and what it waits for.
-#[derive(Clone, Copy, Debug)]
 pub struct Seen {
     pub file: RawFd,
     pub turn: u32,
-    pub state: State,
+    pub state: &'static str,
 }
 
 /// A client's seat, until it is dropped.
@@ -65,13 +66,16 @@ pub struct Seat {
 }
 
 impl Seats {
-    /// For so many clients at a time.
     pub fn new(most: usize, books: Arc<Books>) -> Arc<Seats> {
-        let place = |_| Place { file: AtomicI32::new(NOBODY), turn: AtomicU32::new(0), state: AtomicU32::new(0) };
-        let (taken, next) = (AtomicUsize::new(0), AtomicUsize::new(0));
-        let (places, holders) = ((0..most).map(place).collect(), Mutex::default());
-        let listeners = OnceLock::new();
-        Arc::new(Seats { taken, books, places, next, holders, listeners })
+        let place = |_| Place { file: AtomicI32::new(NOBODY), turn: AtomicU32::new(0), state: AtomicUsize::new(0) };
+        Arc::new(Seats {
+            taken: AtomicUsize::new(0),
+            books,
+            places: (0..most).map(place).collect(),
+            next: AtomicUsize::new(0),
+            holders: Mutex::default(),
+            listeners: OnceLock::new(),
+        })
     }
 
     /// Takes a seat for the client with this open file, if one is free. Only one thread calls it.
@@ -87,7 +91,6 @@ impl Seats {
         Some(Seat { seats: Arc::clone(self), index, bytes: 0, is_noted: false, home: None })
     }
 
-    /// How many are taken.
     pub fn taken(&self) -> usize {
         self.taken.load(Relaxed)
     }
@@ -128,9 +131,7 @@ impl Seats {
 
 impl Place {
     fn seen(&self) -> Seen {
-        let states = [State::Command, State::Block, State::Skipped, State::Sent];
-        let state = states.into_iter().find(|state| *state as u32 == self.state.load(Relaxed)).unwrap_or(State::Command);
-        Seen { file: self.file.load(Relaxed), turn: self.turn.load(Relaxed), state }
+        Seen { file: self.file.load(Relaxed), turn: self.turn.load(Relaxed), state: STATES[self.state.load(Relaxed)] }
     }
 }
 
@@ -142,15 +143,16 @@ impl Seat {
 
     /// Notes a turn of the client, in seconds since the server started, and what it waits for.
     pub fn note(&self, turn: u32, state: State) {
+        let (place, state) = (self.place(), state as usize);
         // Most turns change neither: clients of other workers share the cache line.
-        for (place, now) in [(&self.place().turn, turn), (&self.place().state, state as u32)] {
-            if place.load(Relaxed) != now {
-                place.store(now, Relaxed);
-            }
+        if place.turn.load(Relaxed) != turn {
+            place.turn.store(turn, Relaxed);
+        }
+        if place.state.load(Relaxed) != state {
+            place.state.store(state, Relaxed);
         }
     }
 
-    /// When the client last had a turn.
     pub fn turn(&self) -> u32 {
         self.place().turn.load(Relaxed)
     }
@@ -185,11 +187,6 @@ impl Seat {
         if mem::take(&mut self.is_noted) {
             self.seats.holders().remove(self.index);
         }
-    }
-
-    /// What they take.
-    pub fn bytes(&self) -> u64 {
-        self.bytes
     }
 
     fn place(&self) -> &Place {

@@ -18,7 +18,6 @@ use std::thread;
 /// The token of the file of signals. Those of listeners are smaller.
 const SIGNAL: Token = Token(usize::MAX);
 
-/// Accepts at some places.
 pub struct Server {
     listeners: Vec<Listener>,
     workers: Workers,

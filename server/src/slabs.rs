@@ -10,7 +10,6 @@ use std::slice;
 use std::sync::atomic::{AtomicU16, AtomicU32, AtomicU64, Ordering::Acquire, Ordering::Relaxed, Ordering::Release};
 use std::sync::{Mutex, MutexGuard, OnceLock, PoisonError};
 
-/// The bytes of a chunk.
 pub const CHUNK: usize = 1 << 14;
 
 /// The bytes of the smallest and the largest block. A page has few larger items, so the C library's allocator may have those.
@@ -43,16 +42,18 @@ pub struct Slabs {
 type Link = u32;
 const NONE: Link = 0;
 
-/// Chunks without blocks, by their numbers.
+/// Chunks without blocks.
 struct Unused {
-    /// The first one that was never used.
+    /// The number of the first one that was never used.
     next: usize,
-    /// Those in memory, and those that the system has got back.
-    empty: Vec<usize>,
-    returned: Vec<usize>,
+    /// The list of those in memory and how many these are, and the list of those that the system has got back.
+    empty: Link,
+    empty_count: usize,
+    returned: Link,
 }
 
-/// What is known of a chunk: zeros at first. Only who has the lock of its list changes it, or looks at more than `blocks` and `items`.
+/// What is known of a chunk: zeros at first. Only who has the lock of its list changes it, or looks at more than `blocks` and `items`. A chunk without
+/// blocks is in a list of unused ones.
 // So all but `items` is relaxed.
 struct Chunk {
     /// How many blocks it has; 0: none. It stays the same while a block of the chunk is taken.
@@ -88,7 +89,7 @@ pub fn set_up(bytes: usize) -> io::Result<()> {
     unsafe { libc::madvise(first, length, libc::MADV_NOHUGEPAGE) };
     // SAFETY: the mapping begins with zeros for all of them, and stays. Nothing else uses these.
     let chunks = unsafe { slice::from_raw_parts(first.cast(), count) };
-    let unused = Mutex::new(Unused { next: 0, empty: Vec::new(), returned: Vec::new() });
+    let unused = Mutex::new(Unused { next: 0, empty: NONE, empty_count: 0, returned: NONE });
     let start = (first as usize + heads).next_multiple_of(CHUNK);
     let slabs = Slabs { start, chunks, unused, lists: [const { Mutex::new(NONE) }; MOST_BLOCKS + 1] };
     SLABS.set(slabs).map_err(|_| io::ErrorKind::AlreadyExists.into())
@@ -152,7 +153,6 @@ pub fn look_in(number: usize, each: impl FnMut(&Item)) -> bool {
     true
 }
 
-/// Where an item lies.
 pub fn address_of(item: &Item) -> usize {
     item as *const Item as usize
 }
@@ -172,7 +172,7 @@ impl Slabs {
         let blocks = CHUNK / bytes.max(LEAST).next_multiple_of(ALIGN);
         let mut list = lock(&self.lists[blocks]);
         if *list == NONE {
-            let number = lock(&self.unused).take(self.chunks.len())?;
+            let number = self.take_chunk()?;
             self.chunks[number].begin(blocks as u16);
             self.add(&mut list, number);
         }
@@ -211,11 +211,37 @@ impl Slabs {
             self.remove(&mut list, number);
             chunk.blocks.store(0, Relaxed);
             drop(list);
-            lock(&self.unused).give_back(number, self.address(number));
+            self.give_chunk_back(number);
         }
     }
 
-    /// Where this chunk begins.
+    /// The number of a chunk without blocks, if one is left.
+    fn take_chunk(&self) -> Option<usize> {
+        let mut unused = lock(&self.unused);
+        let Unused { next, empty, empty_count, returned } = &mut *unused;
+        let list = if *empty == NONE { returned } else { empty };
+        if let Some(number) = (*list as usize).checked_sub(1) {
+            *empty_count = empty_count.saturating_sub(1);
+            self.remove(list, number);
+            return Some(number);
+        }
+        let number = Some(*next).filter(|number| *number < self.chunks.len())?;
+        *next += 1;
+        Some(number)
+    }
+
+    /// The chunk with this number has no block any more. It is in a list, so this takes no memory.
+    fn give_chunk_back(&self, number: usize) {
+        let mut unused = lock(&self.unused);
+        if unused.empty_count < MOST_EMPTY {
+            unused.empty_count += 1;
+            return self.add(&mut unused.empty, number);
+        }
+        // SAFETY: nobody needs what is in it. If the kernel refuses, it takes memory until it is used again.
+        unsafe { libc::madvise(self.address(number) as *mut _, CHUNK, libc::MADV_DONTNEED) };
+        self.add(&mut unused.returned, number);
+    }
+
     fn address(&self, number: usize) -> usize {
         self.start + number * CHUNK
     }
@@ -237,7 +263,7 @@ impl Slabs {
         }
     }
 
-    /// Adds a chunk to a list of chunks that have a free block.
+    /// Adds a chunk to a list.
     fn add(&self, list: &mut Link, number: usize) {
         let link = number as Link + 1;
         self.chunks[number].before.store(NONE, Relaxed);
@@ -261,27 +287,6 @@ impl Slabs {
 
     fn linked(&self, link: Link) -> Option<&Chunk> {
         self.chunks.get((link as usize).checked_sub(1)?)
-    }
-}
-
-impl Unused {
-    /// The number of a chunk without blocks, if one of so many is left.
-    fn take(&mut self, count: usize) -> Option<usize> {
-        self.empty.pop().or_else(|| self.returned.pop()).or_else(|| {
-            let next = self.next;
-            self.next += usize::from(next < count);
-            (next < count).then_some(next)
-        })
-    }
-
-    /// The chunk with this number, at this address, has no block any more.
-    fn give_back(&mut self, number: usize, at: usize) {
-        if self.empty.len() < MOST_EMPTY {
-            return self.empty.push(number);
-        }
-        // SAFETY: nobody needs what is in it. If the kernel refuses, it takes memory until it is used again.
-        unsafe { libc::madvise(at as *mut _, CHUNK, libc::MADV_DONTNEED) };
-        self.returned.push(number);
     }
 }
 

@@ -12,7 +12,6 @@ use std::sync::{Arc, Mutex, MutexGuard, PoisonError};
 /// How many locks there are for all keys.
 const LOCKS: usize = 64;
 
-/// The items, and all that is counted of them.
 pub struct Store {
     pub index: Box<dyn Index>,
     pub books: Arc<Books>,
@@ -69,7 +68,6 @@ pub(crate) enum Found<T> {
 }
 
 impl Store {
-    /// A store over this index.
     pub fn new(index: Box<dyn Index>, books: Arc<Books>, options: Options) -> Store {
         let (key_locks, round, helpless) = ([const { Mutex::new(()) }; LOCKS], Mutex::default(), AtomicU64::new(u64::MAX));
         let seats = Seats::new(options.connections, Arc::clone(&books));
@@ -176,20 +174,17 @@ impl Store {
         self.flush_with(delay, || {});
     }
 
-    /// The same. If it flushes now, it calls `between` when it has asked for the time and no command knows of it yet, for tests.
+    /// The same. It calls `between` when it has asked for the time and no command knows of it yet, for tests.
     pub fn flush_with(&self, delay: i64, between: impl FnOnce()) {
-        let at_once = || {
-            let now = self.books.clock.now();
-            (now, now)
+        let (clock, flushes) = (&self.books.clock, &self.books.flushes);
+        let times = || {
+            let now = clock.now();
+            (if delay > 0 { clock.deadline(delay).max(now) } else { now }, now)
         };
-        if delay > 0 {
-            return self.books.flushes.flush(|| {
-                let now = self.books.clock.now();
-                (self.books.clock.deadline(delay).max(now), now)
-            });
+        flushes.flush_with(times, between);
+        if delay <= 0 {
+            // A command that did not see that flush looked at the time before it was there, so before this time.
+            flushes.flush(times);
         }
-        self.books.flushes.flush_with(at_once, between);
-        // A command that did not see that flush looked at the time before it was there, so before this time.
-        self.books.flushes.flush(at_once);
     }
 }

@@ -29,7 +29,6 @@ pub struct Inbox {
     waker: Arc<Waker>,
 }
 
-/// The state of a worker's thread.
 pub struct Worker {
     store: Arc<Store>,
     poll: Poll,
@@ -48,7 +47,6 @@ pub struct Worker {
 }
 
 impl Inbox {
-    /// Hands a client over.
     pub fn hand(&self, client: Connection) -> io::Result<()> {
         let sent = self.clients.as_ref().is_some_and(|clients| clients.send(client).is_ok());
         sent.then_some(()).ok_or(ErrorKind::BrokenPipe)?;
@@ -66,7 +64,6 @@ impl Drop for Inbox {
 }
 
 impl Worker {
-    /// A worker, and its inbox.
     pub fn new(store: Arc<Store>) -> io::Result<(Worker, Inbox)> {
         let poll = Poll::new()?;
         let waker = Arc::new(Waker::new(poll.registry(), WAKE)?);

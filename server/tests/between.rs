@@ -4,7 +4,7 @@ use cefrodild::budget::cost;
 use plain::client::{Client, MEGABYTE};
 use std::sync::atomic::Ordering::SeqCst;
 use std::sync::mpsc::channel;
-use std::thread;
+use std::thread::{self, JoinHandle};
 use std::time::{Duration, Instant};
 
 /// How long a command has that must not end meanwhile.
@@ -24,6 +24,16 @@ fn set(client: &mut Client, value: &str) {
 fn value(client: &mut Client) -> String {
     let answer = client.ask("get n\n");
     answer.lines().nth(1).unwrap_or_default().to_owned()
+}
+
+/// Asks in a thread that must not end while another command is between its two steps.
+fn ask_in_vain(mut other: Client, command: &'static str) -> JoinHandle<String> {
+    let (asking, end) = (thread::spawn(move || other.ask(command)), Instant::now() + WHILE);
+    while Instant::now() < end {
+        assert!(!asking.is_finished(), "{command} comes between the steps of another command");
+        thread::yield_now();
+    }
+    asking
 }
 
 #[test]
@@ -136,14 +146,7 @@ fn a_new_time_to_live_waits_for_a_change_that_keeps_the_old_one() {
     for command in ["touch n 100\n", "gat 100 n\n", "mg n T100\n"] {
         for change in ["incr n 1\n", "append n 0 0 1\n1\n", "prepend n 0 0 1\n1\n"] {
             let (mut client, (sender, threads)) = (client_with("1"), channel());
-            client.ask_beside(change, move |mut other| {
-                let (asking, end) = (thread::spawn(move || other.ask(command)), Instant::now() + WHILE);
-                while Instant::now() < end {
-                    assert!(!asking.is_finished(), "{command} comes between the steps of {change}");
-                    thread::yield_now();
-                }
-                sender.send(asking).expect("it is waited for");
-            });
+            client.ask_beside(change, move |other| sender.send(ask_in_vain(other, command)).expect("it is waited for"));
             threads.recv().expect("there is a thread").join().expect("it is answered");
             assert_ne!(client.ask("mg n t\n"), "HD t-1\n", "{command} is lost beside {change}");
         }
@@ -165,15 +168,9 @@ fn an_item_that_is_touched_in_time_does_not_go() {
 fn a_new_time_to_live_waits_for_the_crawler() {
     let mut client = Client::new(MEGABYTE);
     client.ask("set n 0 -1 1\n1\n");
-    let (mut other, (sender, threads)) = (client.beside(), channel());
-    *client.control.meanwhile.lock().unwrap() = Some(Box::new(move || {
-        let (asking, end) = (thread::spawn(move || other.ask("touch n 100\n")), Instant::now() + WHILE);
-        while Instant::now() < end {
-            assert!(!asking.is_finished(), "it comes between the crawler's look and its removal");
-            thread::yield_now();
-        }
-        sender.send(asking).expect("it is waited for");
-    }));
+    let (other, (sender, threads)) = (client.beside(), channel());
+    *client.control.meanwhile.lock().unwrap() =
+        Some(Box::new(move || sender.send(ask_in_vain(other, "touch n 100\n")).expect("it is waited for")));
     client.expire();
     assert_eq!(threads.recv().expect("there is a thread").join().expect("it is answered"), "NOT_FOUND\n");
 }

@@ -1,13 +1,11 @@
 //! Connections of clients, turn by turn.
 mod plain;
 use cefrodild::connection::{Connection, Next};
-use cefrodild::listen::Stream;
-use cefrodild::store::Store;
+use cefrodild::counts::Count;
+use plain::both;
 use plain::client::{Client, MEGABYTE};
 use std::io::{ErrorKind, Read, Write};
 use std::net::{Shutdown, TcpListener, TcpStream};
-use std::os::fd::OwnedFd;
-use std::os::unix::net::UnixStream;
 use std::thread::yield_now;
 use std::time::{Duration, Instant};
 
@@ -29,13 +27,10 @@ impl Both {
         let listener = TcpListener::bind("127.0.0.1:0").expect("a port is free");
         let stream = TcpStream::connect(listener.local_addr().expect("it is bound")).expect("it listens");
         let (accepted, _) = listener.accept().expect("one has connected");
-        for stream in [&accepted, &stream] {
-            stream.set_nonblocking(true).and(stream.set_nodelay(true)).expect("it is a socket");
-        }
+        accepted.set_nodelay(true).and(stream.set_nodelay(true)).and(stream.set_nonblocking(true)).expect("they are sockets");
         let arrived = accepted.try_clone().expect("there is a descriptor");
         let client = Client::new(4 * MEGABYTE);
-        let seat = client.store.seats.take(0).expect("a seat is free");
-        Both { client, connection: Connection::new(Stream(OwnedFd::from(accepted).into()), seat), arrived, stream }
+        Both { connection: both::connection(&client.store, accepted), client, arrived, stream }
     }
 
     fn turn(&mut self) -> Next {
@@ -96,6 +91,21 @@ impl Both {
         panic!("the connection is idle, though nobody reads its answers");
     }
 
+    /// Reads so many bytes, with a turn behind each part.
+    fn drain(&mut self, bytes: usize) {
+        let mut read = 0;
+        while read < bytes {
+            read += self.read().len();
+            assert_ne!(self.turn(), Next::Nothing);
+            yield_now();
+        }
+        assert_eq!(read, bytes);
+    }
+
+    fn count(&self, count: Count) -> u64 {
+        self.client.store.books.counts.get(count)
+    }
+
     /// Stores a value of this size under `k`.
     fn store(&mut self, size: usize) {
         let answer = self.client.ask(&format!("set k 0 0 {size}\n{}\n", "x".repeat(size)));
@@ -138,13 +148,8 @@ fn a_client_that_does_not_read_is_left_alone_until_it_does() {
         assert_eq!(both.turn(), Next::Event);
     }
     assert!(!both.connection.is_idle());
-    let mut bytes = 0;
-    while bytes < 200 * answer(SIZE) {
-        bytes += both.read().len();
-        both.turn();
-        yield_now();
-    }
-    assert!(bytes == 200 * answer(SIZE) && both.connection.is_idle());
+    both.drain(200 * answer(SIZE));
+    assert!(both.connection.is_idle());
 }
 
 #[test]
@@ -186,35 +191,23 @@ fn a_client_is_not_idle_while_answers_wait() {
     assert!(both.connection.is_idle());
 }
 
-/// A client, and the other end of its connection.
-fn pair(store: &Store) -> (Connection, UnixStream) {
-    let (accepted, stream) = UnixStream::pair().expect("there are descriptors");
-    accepted.set_nonblocking(true).and(stream.set_nonblocking(true)).expect("they are sockets");
-    let seat = store.seats.take(0).expect("a seat is free");
-    (Connection::new(Stream(OwnedFd::from(accepted).into()), seat), stream)
-}
-
 /// What is left of a client's answers goes into a small buffer. The thread keeps the large one for the next client.
 #[test]
 fn no_client_gets_an_answer_of_another_one() {
     let mut client = Client::new(MEGABYTE);
     client.ask(&format!("set k 0 0 1000\n{}\n", "x".repeat(1_000)));
-    let ask = |(connection, stream): &mut (Connection, UnixStream), command: &[u8]| {
-        stream.write_all(command).expect("it takes a command");
-        connection.read_again();
-        assert!(matches!(connection.turn(&client.store), Ok(Next::Event)));
+    let ask = |both: &mut both::Both, command: &[u8]| {
+        both.stream.write_all(command).expect("it takes a command");
+        assert_eq!(both.turn(&client.store), Next::Event);
     };
-    let (mut slow, mut other) = (pair(&client.store), pair(&client.store));
+    let (mut slow, mut other) = (both::Both::of(&client.store), both::Both::of(&client.store));
     for _ in 0..10_000 {
-        if slow.0.is_idle() {
+        if slow.connection.is_idle() {
             ask(&mut slow, b"get k\r\n");
         }
     }
-    assert!(!slow.0.is_idle(), "nobody reads its answers");
-    ask(&mut other, b"mn\r\n");
-    let mut answer = [0; 100];
-    let length = other.1.read(&mut answer).expect("it is answered");
-    assert_eq!(&answer[..length], b"MN\r\n");
+    assert!(!slow.connection.is_idle(), "nobody reads its answers");
+    assert_eq!(other.ask(&client.store, b"mn\r\n"), b"MN\r\n");
 }
 
 #[test]
@@ -222,8 +215,7 @@ fn bytes_are_counted() {
     let mut both = Both::new();
     assert_eq!(both.send(&b"mn\r\n".repeat(100)), Next::Event);
     assert_eq!(both.read_all(400).len(), 400);
-    let of = |sought| both.client.store.books.counts.sums().find(|(name, _)| *name == sought).map(|(_, sum)| sum);
-    assert_eq!((of("bytes_read"), of("bytes_written")), (Some(400), Some(400)));
+    assert_eq!((both.count(Count::BytesRead), both.count(Count::BytesWritten)), (400, 400));
 }
 
 #[test]
@@ -244,14 +236,8 @@ fn commands_that_are_cut_anywhere() {
 fn bytes_that_wait_are_counted_once() {
     let mut both = Both::new();
     let waiting = both.fill();
-    let mut bytes = 0;
-    while bytes < waiting {
-        bytes += both.read().len();
-        both.turn();
-        yield_now();
-    }
-    let of = |sought| both.client.store.books.counts.sums().find(|(name, _)| *name == sought).map(|(_, sum)| sum);
-    assert_eq!(of("bytes_written"), Some(waiting as u64));
+    both.drain(waiting);
+    assert_eq!(both.count(Count::BytesWritten), waiting as u64);
 }
 
 #[test]

@@ -1,27 +1,22 @@
 //! Items that have left and are not freed yet, since a thread reads: their bytes are counted and bounded. The index is the real one.
-use cefrodild::books::Books;
+mod plain;
 use cefrodild::counts::Count;
-use cefrodild::map_index::MapIndex;
-use cefrodild::options::{parse, Asked};
-use cefrodild::request::{How, Order};
+use cefrodild::request::How;
 use cefrodild::store::{Answer, Fault, Store};
+use plain::client::{map_store, order};
 use std::sync::atomic::{AtomicBool, Ordering::SeqCst};
 use std::sync::mpsc::channel;
-use std::sync::Arc;
 use std::thread::{self, sleep};
 use std::time::Duration;
 
 const LIMIT: u64 = 1 << 20;
 
 fn store(limit: u64) -> Store {
-    let Ok(Asked::Serve(options)) = parse(["-t2".to_owned()]) else { panic!("these are options") };
-    let books = Arc::new(Books::new(limit, &options));
-    let index = MapIndex::open(10_000, 2, &books, None).expect("there is memory");
-    Store::new(Box::new(index), books, options)
+    map_store(limit, "-t2")
 }
 
 fn set(store: &Store, key: &[u8], length: usize) -> Result<Answer, Fault> {
-    store.store(&Order { how: How::Set, key, flags: 0, expiry: 0, length, compare: None }, &vec![b'x'; length])
+    store.store(&order(How::Set, key, length), &vec![b'x'; length])
 }
 
 /// Looks at this key, and calls `meanwhile` in another thread while it looks.

@@ -1,11 +1,10 @@
 //! What clients hold: values that they read late, and values that they have not sent as a whole.
 mod plain;
-use cefrodild::connection::{Connection, Next};
-use cefrodild::listen::Stream;
+use cefrodild::connection::Next;
+use cefrodild::store::Store;
+use plain::both::Both;
 use plain::client::{Client, MEGABYTE};
-use std::io::{ErrorKind, Read, Write};
-use std::os::fd::OwnedFd;
-use std::os::unix::net::UnixStream;
+use std::io::Write;
 use std::sync::{Mutex, MutexGuard, PoisonError};
 
 /// One test at a time, since what has left and is held is counted for the process.
@@ -13,54 +12,6 @@ static TURN: Mutex<()> = Mutex::new(());
 
 fn turn() -> MutexGuard<'static, ()> {
     TURN.lock().unwrap_or_else(PoisonError::into_inner)
-}
-
-/// A client over a connection, and the other end of that.
-struct Both {
-    connection: Connection,
-    stream: UnixStream,
-}
-
-impl Both {
-    fn of(client: &Client) -> Both {
-        let (accepted, stream) = UnixStream::pair().expect("there are descriptors");
-        accepted.set_nonblocking(true).and(stream.set_nonblocking(true)).expect("they are sockets");
-        let seat = client.store.seats.take(0).expect("a seat is free");
-        Both { connection: Connection::new(Stream(OwnedFd::from(accepted).into()), seat), stream }
-    }
-
-    /// Gives the connection turns until it waits for an event.
-    fn turn(&mut self, client: &Client) -> Next {
-        self.connection.read_again();
-        loop {
-            match self.connection.turn(&client.store).expect("nobody closes the connection") {
-                Next::Turn => {}
-                next => return next,
-            }
-        }
-    }
-
-    /// Sends this, and reads what it is answered.
-    fn ask(&mut self, client: &Client, mut bytes: &[u8]) -> Vec<u8> {
-        while !bytes.is_empty() {
-            match self.stream.write(bytes) {
-                Ok(length) => bytes = &bytes[length..],
-                Err(why) => assert_eq!(why.kind(), ErrorKind::WouldBlock),
-            }
-            assert_eq!(self.turn(client), Next::Event);
-        }
-        self.read(client)
-    }
-
-    /// Reads all that it is answered.
-    fn read(&mut self, client: &Client) -> Vec<u8> {
-        let (mut bytes, mut part) = (Vec::new(), vec![0; MEGABYTE]);
-        while let Ok(length @ 1..) = self.stream.read(&mut part) {
-            bytes.extend_from_slice(&part[..length]);
-            self.turn(client);
-        }
-        bytes
-    }
 }
 
 /// A store with a large value, and its answer.
@@ -75,14 +26,14 @@ fn stored() -> (Client, String) {
 fn a_client_that_reads_late_holds_no_copy() {
     let _turn = turn();
     let (client, answer) = stored();
-    let mut late: Vec<_> = (0..100).map(|_| Both::of(&client)).collect();
+    let mut late: Vec<_> = (0..100).map(|_| Both::of(&client.store)).collect();
     for both in &mut late {
         both.stream.write_all(b"get k\r\nget k\r\nmg k v\r\n").expect("it takes commands");
-        assert_eq!(both.turn(&client), Next::Event);
+        assert_eq!(both.turn(&client.store), Next::Event);
     }
     assert!(client.store.books.budget.buffers() < 100 * 1_000, "{}", client.store.books.budget.buffers());
     let all = format!("{answer}{answer}{}", answer.replace("VALUE k 0", "VA").replace("\r\nEND", ""));
-    assert!(late.iter_mut().all(|both| both.read(&client) == all.as_bytes()));
+    assert!(late.iter_mut().all(|both| both.read(&client.store) == all.as_bytes()));
 }
 
 #[test]
@@ -90,15 +41,15 @@ fn what_is_sent_stays_when_its_key_has_another_value() {
     let _turn = turn();
     for change in ["set k 0 0 1\n5\n", "delete k\n", "set k 0 0 20000\n", "append k 0 0 1\n5\n"] {
         let (mut client, answer) = stored();
-        let (mut late, mut later) = (Both::of(&client), Both::of(&client));
+        let (mut late, mut later) = (Both::of(&client.store), Both::of(&client.store));
         for both in [&mut late, &mut later] {
             both.stream.write_all(b"get k\r\n").expect("it takes a command");
-            assert_eq!(both.turn(&client), Next::Event);
+            assert_eq!(both.turn(&client.store), Next::Event);
         }
         let block = if change.contains("20000") { "x".repeat(20_000) + "\n" } else { String::new() };
         client.ask(&format!("{change}{block}"));
         assert!((1_000_000..1_001_000).contains(&client.store.books.budget.buffers()), "the item is the clients' now");
-        assert!(late.read(&client) == answer.as_bytes() && later.read(&client) == answer.as_bytes());
+        assert!(late.read(&client.store) == answer.as_bytes() && later.read(&client.store) == answer.as_bytes());
         assert_eq!(client.store.books.budget.buffers(), 0, "{change}");
     }
 }
@@ -108,24 +59,24 @@ fn a_value_that_never_ends_is_refused_and_its_client_stays() {
     let _turn = turn();
     let (client, _) = stored();
     let (first, rest) = ([b"set a 0 0 1000000\r\n", &[b'x'; 990_000][..]].concat(), [b'x'; 10_000]);
-    let mut stalled: Vec<_> = (0..20).map(|_| Both::of(&client)).collect();
+    let mut stalled: Vec<_> = (0..20).map(|_| Both::of(&client.store)).collect();
     for number in 0..stalled.len() {
-        assert!(stalled[number].ask(&client, &first).is_empty());
+        assert!(stalled[number].ask(&client.store, &first).is_empty());
         // One that has few bytes at a time is not cut off.
-        let mut honest = Both::of(&client);
-        assert!(honest.ask(&client, b"set b 0 0 5000\r\n12345").is_empty());
-        assert_eq!(honest.ask(&client, &[&[b'x'; 4_995][..], b"\r\n"].concat()), b"STORED\r\n");
+        let mut honest = Both::of(&client.store);
+        assert!(honest.ask(&client.store, b"set b 0 0 5000\r\n12345").is_empty());
+        assert_eq!(honest.ask(&client.store, &[&[b'x'; 4_995][..], b"\r\n"].concat()), b"STORED\r\n");
         // A worker wakes for those that are to be cut off.
-        stalled.iter_mut().for_each(|both| assert_eq!(both.turn(&client), Next::Event));
+        stalled.iter_mut().for_each(|both| assert_eq!(both.turn(&client.store), Next::Event));
         assert!(client.store.books.budget.buffers() < 9 * MEGABYTE as u64, "{}", client.store.books.budget.buffers());
     }
     let mut stored = 0;
     for both in &mut stalled {
-        match &both.ask(&client, &[&rest[..], b"\r\n"].concat())[..] {
+        match &both.ask(&client.store, &[&rest[..], b"\r\n"].concat())[..] {
             b"STORED\r\n" => stored += 1,
             answer => assert_eq!(answer, b"SERVER_ERROR out of memory storing object\r\n"),
         }
-        assert_eq!(both.ask(&client, b"mn\r\n"), b"MN\r\n", "it goes on");
+        assert_eq!(both.ask(&client.store, b"mn\r\n"), b"MN\r\n", "it goes on");
     }
     assert!((6..=8).contains(&stored), "{stored}");
 }
@@ -144,9 +95,9 @@ fn ended(next: &[u8]) -> Vec<u8> {
 }
 
 /// So many clients that have begun to send a value.
-fn stalled(client: &Client, count: usize) -> Vec<Both> {
-    let mut all: Vec<_> = (0..count).map(|_| Both::of(client)).collect();
-    all.iter_mut().for_each(|both| assert!(both.ask(client, &begun("u")).is_empty()));
+fn stalled(store: &Store, count: usize) -> Vec<Both> {
+    let mut all: Vec<_> = (0..count).map(|_| Both::of(store)).collect();
+    all.iter_mut().for_each(|both| assert!(both.ask(store, &begun("u")).is_empty()));
     all
 }
 
@@ -154,25 +105,25 @@ fn stalled(client: &Client, count: usize) -> Vec<Both> {
 fn a_client_has_one_value_refused_and_not_the_next() {
     let _turn = turn();
     let (client, _) = stored();
-    let mut first = Both::of(&client);
-    assert!(first.ask(&client, &begun("a")).is_empty());
-    let others = stalled(&client, 8);
+    let mut first = Both::of(&client.store);
+    assert!(first.ask(&client.store, &begun("a")).is_empty());
+    let others = stalled(&client.store, 8);
     let next = [b"set b 0 0 100000\r\n", &[b'x'; 50_000][..]].concat();
-    assert_eq!(first.ask(&client, &ended(&next)), b"SERVER_ERROR out of memory storing object\r\n");
+    assert_eq!(first.ask(&client.store, &ended(&next)), b"SERVER_ERROR out of memory storing object\r\n");
     drop(others);
-    assert_eq!(first.ask(&client, &[&[b'x'; 50_000][..], b"\r\n"].concat()), b"STORED\r\n");
+    assert_eq!(first.ask(&client.store, &[&[b'x'; 50_000][..], b"\r\n"].concat()), b"STORED\r\n");
 }
 
 #[test]
 fn who_sends_one_value_after_the_other_has_not_held_them_all_the_time() {
     let _turn = turn();
     let (client, _) = stored();
-    let mut busy = Both::of(&client);
-    assert!(busy.ask(&client, &begun("a")).is_empty());
-    let others = stalled(&client, 7);
-    assert_eq!(busy.ask(&client, &ended(&begun("b"))), b"STORED\r\n");
-    let last = stalled(&client, 1);
-    assert_eq!(busy.ask(&client, &ended(b"")), b"STORED\r\n");
+    let mut busy = Both::of(&client.store);
+    assert!(busy.ask(&client.store, &begun("a")).is_empty());
+    let others = stalled(&client.store, 7);
+    assert_eq!(busy.ask(&client.store, &ended(&begun("b"))), b"STORED\r\n");
+    let last = stalled(&client.store, 1);
+    assert_eq!(busy.ask(&client.store, &ended(b"")), b"STORED\r\n");
     drop((others, last));
 }
 
@@ -181,13 +132,13 @@ fn who_sends_one_value_after_the_other_has_not_held_them_all_the_time() {
 fn who_keeps_items_that_have_left_is_cut_off() {
     let _turn = turn();
     let (mut client, _) = stored();
-    let mut late: Vec<_> = (0..12).map(|_| Both::of(&client)).collect();
+    let mut late: Vec<_> = (0..12).map(|_| Both::of(&client.store)).collect();
     for both in &mut late {
         both.stream.write_all(b"get k\r\n").expect("it takes a command");
-        assert_eq!(both.turn(&client), Next::Event);
+        assert_eq!(both.turn(&client.store), Next::Event);
         client.ask(&format!("set k 0 0 1000000\n{}\n", "x".repeat(1_000_000)));
     }
-    let nexts: Vec<_> = late.iter_mut().map(|both| both.turn(&client)).collect();
+    let nexts: Vec<_> = late.iter_mut().map(|both| both.turn(&client.store)).collect();
     assert_eq!(nexts.iter().filter(|next| **next == Next::Nothing).count(), 4, "8 MB may be kept: {nexts:?}");
     drop(late);
     assert_eq!(client.store.books.budget.buffers(), 0);

@@ -22,21 +22,25 @@ fn value(length: usize) -> String {
 #[test]
 fn the_longest_value_of_each_command() {
     // All keys but `none` have an empty value, the first one with the token 1.
-    for (command, answer) in [
-        ("set k 0 0 L", "STORED\n"),
-        ("add none 0 0 L", "STORED\n"),
-        ("replace k 0 0 L", "STORED\n"),
-        ("append k 0 0 L", "STORED\n"),
-        ("prepend k 0 0 L", "STORED\n"),
-        ("cas k 0 0 L 1", "STORED\n"),
-        ("ms k L", "HD\n"),
+    // The old value goes with one that was to overwrite it.
+    for (command, answer, left) in [
+        ("set k 0 0 L", "STORED\n", "EN\n"),
+        ("add none 0 0 L", "STORED\n", "HD s0\n"),
+        ("replace k 0 0 L", "STORED\n", "HD s0\n"),
+        ("append k 0 0 L", "STORED\n", "HD s0\n"),
+        ("prepend k 0 0 L", "STORED\n", "HD s0\n"),
+        ("cas k 0 0 L 1", "STORED\n", "HD s0\n"),
+        ("ms k L", "HD\n", "EN\n"),
     ] {
-        for (length, answer) in [(VALUE, answer), (VALUE + 1, TOO_LARGE)] {
+        let ask = |length: usize| {
             let mut client = client();
             client.ask("set k 0 0 0\n\n");
             let line = command.replace('L', &length.to_string());
-            assert_eq!(client.ask(&format!("{line}\n{}\n", value(length))), answer, "{line}");
-        }
+            (client.ask(&format!("{line}\n{}\n", value(length))), client)
+        };
+        assert_eq!(ask(VALUE).0, answer, "{command}");
+        let (answer, mut client) = ask(VALUE + 1);
+        assert_eq!((answer.as_str(), client.ask("mg k s\n").as_str()), (TOO_LARGE, left), "{command}");
     }
 }
 
@@ -107,6 +111,7 @@ fn a_line_of_keys_is_answered_as_soon_as_it_is_longer_than_any_other() {
     assert_eq!(client.ask(&keys[..LINE - 1]), "");
     // The last word has more bytes than a key may have.
     assert_eq!(client.ask(&keys[LINE - 1..LINE]), format!("VALUE k 0 1\n1\n{FORMAT}"));
+    assert_eq!(client.ask("xxx\nmn\n"), "MN\n");
 }
 
 #[test]

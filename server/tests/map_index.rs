@@ -22,6 +22,13 @@ fn books() -> Arc<Books> {
     Arc::new(Books::new(1 << 20, &Options::default()))
 }
 
+/// An index, and what it shares with a store.
+fn open() -> (Arc<Books>, MapIndex) {
+    let books = books();
+    let index = MapIndex::open(1000, 1, &books, None).expect("there is memory");
+    (books, index)
+}
+
 /// The flags of the key's item, if it is there and has this token.
 fn flags_of(index: &MapIndex, key: &[u8], token: Token) -> Option<u32> {
     let mut flags = None;
@@ -31,8 +38,7 @@ fn flags_of(index: &MapIndex, key: &[u8], token: Token) -> Option<u32> {
 
 #[test]
 fn a_token_names_one_put_of_a_key() {
-    let books = books();
-    let index = MapIndex::open(1000, 1, &books, None).expect("there is memory");
+    let (books, index) = open();
     for key in [b"".as_slice(), b"a", b"12345678", &[b'k'; 250]] {
         let (hash, old) = (index.hash_of(key), put(&index, &books, key, 1));
         assert_eq!(flags_of(&index, key, old), Some(1));
@@ -49,8 +55,7 @@ fn a_token_names_one_put_of_a_key() {
 
 #[test]
 fn a_condition_that_is_not_met_changes_nothing() {
-    let books = books();
-    let index = MapIndex::open(1000, 1, &books, None).expect("there is memory");
+    let (books, index) = open();
     let (key, item) = (b"key".as_slice(), |flags| new_item(1, flags, u64::MAX, b"key", &[&[0]]).expect("there is memory"));
     assert_eq!(index.put(item(1), Over::Token(1)), Err(Refused::Absent));
     assert_eq!(index.remove(index.hash_of(key), 1, Reason::Removed), Err(Refused::Absent));
@@ -65,8 +70,7 @@ fn a_condition_that_is_not_met_changes_nothing() {
 
 #[test]
 fn a_condition_that_is_met() {
-    let books = books();
-    let index = MapIndex::open(1000, 1, &books, None).expect("there is memory");
+    let (books, index) = open();
     let (key, bytes) = (b"key".as_slice(), cost(3, 1));
     let item = |flags| new_item(1, flags, u64::MAX, key, &[&[0]]).expect("there is memory");
     books.budget.claim(bytes).keep();
@@ -109,8 +113,7 @@ fn items_that_give_way_to_others_in_a_full_index_are_counted() {
 
 #[test]
 fn items_that_were_removed_or_replaced_did_not_give_way() {
-    let books = books();
-    let index = MapIndex::open(1000, 1, &books, None).expect("there is memory");
+    let (books, index) = open();
     put(&index, &books, b"key", 1);
     let token = put(&index, &books, b"key", 2);
     assert!(index.remove(index.hash_of(b"key"), token, Reason::Removed).is_ok());
@@ -119,8 +122,7 @@ fn items_that_were_removed_or_replaced_did_not_give_way() {
 
 #[test]
 fn nobody_can_choose_keys_that_collide() {
-    let open = || MapIndex::open(1000, 1, &books(), None).expect("there is memory");
-    assert_ne!(open().hash_of(b"key"), open().hash_of(b"key"), "each index has a secret of its own");
+    assert_ne!(open().1.hash_of(b"key"), open().1.hash_of(b"key"), "each index has a secret of its own");
 }
 
 /// The crate says whether shards hold so many items.
@@ -147,8 +149,7 @@ fn the_more_items_the_more_shards() {
 
 #[test]
 fn each_item_is_evicted_once() {
-    let books = books();
-    let index = MapIndex::open(1000, 1, &books, None).expect("there is memory");
+    let (books, index) = open();
     for key in 0..100_u8 {
         put(&index, &books, &[key], key.into());
     }
@@ -162,8 +163,7 @@ fn each_item_is_evicted_once() {
 
 #[test]
 fn what_has_expired_is_not_counted_as_evicted() {
-    let books = books();
-    let index = MapIndex::open(1000, 1, &books, None).expect("there is memory");
+    let (books, index) = open();
     books.budget.claim(cost(3, 0)).keep();
     assert!(index.put(new_item(1, 0, 0, b"key", &[]).expect("there is memory"), Over::Nothing).is_ok());
     assert!(index.evict(&mut |item| assert_eq!(item.key(), b"key")));

@@ -128,3 +128,13 @@ fn large_values_that_left_are_freed_at_once() {
         assert_eq!(client.control.sweeps.load(SeqCst), sweeps);
     }
 }
+
+/// Another thread that reads the limit meanwhile must not take it for the one of later puts.
+#[test]
+fn items_that_give_way_as_the_system_refuses_memory_leave_the_limit_as_it_is() {
+    let mut client = room_for(10, 0);
+    set(&mut client, "abcdefghij");
+    let limit = client.store.books.budget.limit();
+    assert_eq!(client.store.with_more_memory(1_000, || Some(client.store.index.len())), Some(9));
+    assert_eq!(*client.control.limits.lock().unwrap(), [limit]);
+}

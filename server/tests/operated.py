@@ -102,25 +102,12 @@ def idle_clients(program):
         assert memory_of(server) - before < 4 * len(value) + count * 4096, memory_of(server) - before
 
 
-def clients_too_many(program):
-    """The operator is told once, and not for each."""
-    read, write = os.pipe()
-    with running(program, '-c', '2', stderr=write) as (_, port), contextlib.ExitStack() as stack:
-        os.close(write)
-        for client in [stack.enter_context(connect(port)) for _ in range(2)]:
-            assert ask(client, b'mn\r\n') == b'MN\r\n'
-        for _ in range(5):
-            assert answered(port, b'') == b'ERROR Too many open connections\r\n'
-    with os.fdopen(read, encoding='ascii') as told:
-        assert told.read() == 'cefrodild: clients are turned away: 2 are connected (-c)\n'
-
-
 def main():
     program = sys.argv[1]
     with running(program) as (_, port):
         web_pages(port)
         binary_clients(port)
-    for test in [signals, full_output, open_files, idle_clients, clients_too_many]:
+    for test in [signals, full_output, open_files, idle_clients]:
         test(program)
 
 

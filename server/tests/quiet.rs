@@ -60,7 +60,10 @@ fn noreply_leaves_the_fault_of_a_line_out() {
 
 #[test]
 fn no_command_is_quiet_that_is_none() {
-    for line in ["get noreply", "gets noreply", "version noreply", "stats noreply", "x noreply", "delete noreply", "mn noreply"] {
+    let named = "set noreply 0 0 1\n6";
+    for line in
+        ["get noreply", "gets noreply", "version noreply", "stats noreply", "x noreply", "delete noreply", "mn noreply", named]
+    {
         assert_ne!(answer(REFUSALS[0], &format!("{line}\n")), "", "{line}");
     }
 }
@@ -77,6 +80,9 @@ fn quiet_meta_commands_leave_the_usual_answer_out() {
 fn quiet_meta_commands_tell_of_all_else() {
     for (line, expected) in [
         ("mg n q", "HD\n"),
+        // A number that is made is not the usual answer.
+        ("ma none N0 J5 q v", "VA 1\n5\n"),
+        ("ma t MD q v", "CLIENT_ERROR cannot increment or decrement non-numeric value\n"),
         ("ms n 1 ME q\n6", "NS\n"),
         ("ms n 1 C9 q\n6", "EX\n"),
         ("ms none 1 C9 q\n6", "NF\n"),

@@ -1,19 +1,17 @@
 //! Memory that the system refuses: each allocation in turn, and all for a while. Clients get an error or are cut off, and the server goes on. The index is the
 //! real one.
-use cefrodild::books::Books;
-use cefrodild::connection::{warm_up, Connection, Next};
-use cefrodild::listen::Stream;
-use cefrodild::map_index::MapIndex;
+mod plain;
+use cefrodild::connection::{warm_up, Next};
+use cefrodild::item::new_item;
 use cefrodild::memory::Spare;
-use cefrodild::options::{parse, Asked};
 use cefrodild::slabs;
 use cefrodild::store::Store;
 use cefrodild::worker::Worker;
+use plain::both::Both;
+use plain::client::map_store;
 use std::alloc::{GlobalAlloc, Layout, System};
 use std::cell::Cell;
 use std::io::{ErrorKind, Read, Write};
-use std::os::fd::OwnedFd;
-use std::os::unix::net::UnixStream;
 use std::ptr;
 use std::sync::{Arc, Mutex, MutexGuard, Once, PoisonError};
 
@@ -59,13 +57,8 @@ unsafe impl GlobalAlloc for Refusing {
 #[global_allocator]
 static ALLOCATOR: Spare<Refusing> = Spare::new(Refusing);
 
-const LIMIT: u64 = 1 << 20;
-
 fn store() -> Store {
-    let Ok(Asked::Serve(options)) = parse(["-t1".to_owned()]) else { panic!("these are options") };
-    let books = Arc::new(Books::new(LIMIT, &options));
-    let index = MapIndex::open(10_000, 1, &books, None).expect("there is memory");
-    Store::new(Box::new(index), books, options)
+    map_store(1 << 20, "-t1")
 }
 
 /// Makes a call, of whose allocations so many succeed and so many are refused then. Returns whether some were.
@@ -77,48 +70,22 @@ fn refusing<T>(first: usize, refused: usize, call: impl FnOnce() -> T) -> (T, bo
     (result, REFUSED.get() < refused)
 }
 
-struct Client {
-    connection: Connection,
-    stream: UnixStream,
-}
-
-impl Client {
-    fn of(store: &Store) -> Client {
-        let (accepted, stream) = UnixStream::pair().expect("there are descriptors");
-        accepted.set_nonblocking(true).and(stream.set_nonblocking(true)).expect("they are sockets");
-        let seat = store.seats.take(0).expect("a seat is free");
-        Client { connection: Connection::new(Stream(OwnedFd::from(accepted).into()), seat), stream }
-    }
-
-    /// Gives the connection turns. Returns whether it goes on.
-    fn turns(&mut self, store: &Store) -> bool {
-        self.connection.read_again();
-        loop {
-            match self.connection.turn(store) {
-                Ok(Next::Turn) => {}
-                Ok(Next::Event) => return true,
-                _ => return false,
-            }
+/// Sends this in parts, and reads what it is answered to this place. Returns how many bytes that has, or `None` if the connection has ended.
+fn ask(both: &mut Both, store: &Store, mut bytes: &[u8], answer: &mut [u8]) -> Option<usize> {
+    let mut read = 0;
+    loop {
+        let part = bytes.len().min(50_000);
+        match both.stream.write(&bytes[..part]) {
+            Ok(length) => bytes = &bytes[length..],
+            Err(why) => assert_eq!(why.kind(), ErrorKind::WouldBlock),
         }
-    }
-
-    /// Sends this in parts, and reads what it is answered to this place. Returns how many bytes that has, or `None` if the connection has ended.
-    fn ask(&mut self, store: &Store, mut bytes: &[u8], answer: &mut [u8]) -> Option<usize> {
-        let mut read = 0;
-        loop {
-            let part = bytes.len().min(50_000);
-            match self.stream.write(&bytes[..part]) {
-                Ok(length) => bytes = &bytes[length..],
-                Err(why) => assert_eq!(why.kind(), ErrorKind::WouldBlock),
-            }
-            if !self.turns(store) {
-                return None;
-            }
-            match self.stream.read(&mut answer[read..]) {
-                Ok(length) => read += length,
-                Err(_) if bytes.is_empty() => return Some(read),
-                Err(_) => {}
-            }
+        if !matches!(both.turns(store), Ok(Next::Event)) {
+            return None;
+        }
+        match both.stream.read(&mut answer[read..]) {
+            Ok(length) => read += length,
+            Err(_) if bytes.is_empty() => return Some(read),
+            Err(_) => {}
         }
     }
 }
@@ -164,11 +131,11 @@ struct Ran {
 fn run(store: &Store, script: &[Step], first: usize, refused: usize) -> (Ran, bool) {
     let mut room = vec![0; 700_000];
     refusing(first, refused, || {
-        let (mut client, mut ran) = (Client::of(store), Ran::default());
+        let (mut client, mut ran) = (Both::of(store), Ran::default());
         for Step { command, answer } in script {
-            let Some(length) = client.ask(store, command, &mut room) else {
+            let Some(length) = ask(&mut client, store, command, &mut room) else {
                 ran.cut_off += 1;
-                client = Client::of(store);
+                client = Both::of(store);
                 continue;
             };
             let told = &room[..length];
@@ -193,10 +160,10 @@ fn ordinary() -> Vec<Step> {
 
 /// All goes well again.
 fn assert_well(store: &Store, ordinary: &[Step]) {
-    let mut client = Client::of(store);
+    let mut client = Both::of(store);
     let mut room = vec![0; 400_000];
     for Step { command, answer } in ordinary {
-        let length = client.ask(store, command, &mut room).expect("it goes on");
+        let length = ask(&mut client, store, command, &mut room).expect("it goes on");
         assert!(room[..length] == answer[..]);
     }
     assert!(store.books.budget.buffers() == 0, "{}", store.books.budget.buffers());
@@ -253,6 +220,20 @@ fn all_allocations_are_refused_for_a_while() {
     }
 }
 
+/// The system may refuse memory just when items are freed.
+#[test]
+fn items_are_freed_without_more_memory() {
+    let _turn = set_up();
+    let (large, small) = (vec![0; 2_000], vec![0; 500]);
+    let item = |number: usize, value: &[u8]| new_item(1, 0, 0, &number.to_le_bytes(), &[value]);
+    let mut items = Vec::with_capacity(30_000);
+    // One that lies in no chunk takes its own block first. Then two lists may grow, of which the second one can't, though it asks twice.
+    items.extend((0..3_000).filter_map(|number| refusing(2, 2, || item(number, &large)).0));
+    items.extend((0..20_000).filter_map(|number| item(number, &small)));
+    assert!(items.len() > 22_000, "{}", items.len());
+    assert!(!refusing(0, 1_000, || drop(items)).1);
+}
+
 /// Its clients have sent commands before it begins, and it ends when they are answered.
 #[test]
 fn each_allocation_of_a_worker_is_refused() {
@@ -263,11 +244,11 @@ fn each_allocation_of_a_worker_is_refused() {
         if !was_refused {
             break;
         }
-        let clients: Vec<_> = (0..40).map(|_| Client::of(&store)).collect();
+        let clients: Vec<_> = (0..40).map(|_| Both::of(&store)).collect();
         let (worker, inbox) = Worker::new(Arc::clone(&store)).expect("there is memory");
         let mut streams = Vec::with_capacity(clients.len());
         let (result, refused) = refusing(first, 1, || {
-            for Client { connection, mut stream } in clients {
+            for Both { connection, mut stream } in clients {
                 stream
                     .write_all(b"set k 0 0 2000\r\n")
                     .and_then(|()| stream.write_all(&[b'x'; 2_000]))

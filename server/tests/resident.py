@@ -8,7 +8,7 @@ import random
 import sys
 import time
 
-from running import ask, connect, memory_of, running
+from running import ask, connect, memory_of, running, stats
 
 MEGABYTE = 1 << 20
 MEMORY = 64
@@ -27,11 +27,6 @@ def sets(sizes, first, draw):
     return b''.join(b'set k%d 0 0 %d noreply\r\n%s\r\n' % (first + place, length, b'v' * length) for place, length in enumerate(lengths)), count
 
 
-def stats(client):
-    lines = ask(client, b'stats\r\n', b'END\r\n').splitlines()[:-1]
-    return {name: int(value) for _, name, value in (line.split() for line in lines) if value.isdigit()}
-
-
 def sizes_change(program):
     draw, number, highest = random.Random(1), 0, 0
     with running(program, '-m', str(MEMORY)) as (server, port), contextlib.ExitStack() as stack:
@@ -44,7 +39,7 @@ def sizes_change(program):
                 number, sent, batches = number + count, sent + len(commands), batches + 1
                 assert ask(clients[batches % 4], commands + b'mn\r\n') == b'MN\r\n'
                 highest = max(highest, memory_of(server))
-            assert stats(clients[0])[b'bytes'] > MEMORY * MEGABYTE / 3, sizes
+            assert stats(clients[0])['bytes'] > MEMORY * MEGABYTE / 3, sizes
     assert highest < MOST * MEMORY * MEGABYTE, f'{highest / MEGABYTE:.1f} MB of {MEMORY}'
 
 
@@ -73,14 +68,14 @@ def unfinished_values(program):
             client.sendall(b'set key 0 0 1048576\r\n' + part)
             assert ask(other, b'set k 0 0 1\r\nv\r\nget k\r\n', b'END\r\n') == b'STORED\r\nVALUE k 0 1\r\nv\r\nEND\r\n'
         # Within a turn a client may hold more.
-        found = wait_for(other, lambda found: found[b'store_no_memory'] >= 50 and 0 < found[b'buffer_bytes'] <= most + 61 * 8192)
-        assert (found[b'curr_connections'], found[b'connections_out_of_memory']) == (61, 0), found
+        found = wait_for(other, lambda found: found['store_no_memory'] >= 50 and 0 < found['buffer_bytes'] <= most + 61 * 8192)
+        assert (found['curr_connections'], found['connections_out_of_memory']) == (61, 0), found
         assert memory_of(server) - before < most + 8 * MEGABYTE, memory_of(server) - before
         answers = [ask(client, b'v' * (1048576 - len(part)) + b'\r\n') for client in rude]
         assert set(answers) == {b'STORED\r\n', b'SERVER_ERROR out of memory storing object\r\n'}, set(answers)
         assert answers.count(b'STORED\r\n') < 10, answers
         stack.close()
-        assert wait_for(other, lambda found: found[b'curr_connections'] == 1)[b'buffer_bytes'] == 0
+        assert wait_for(other, lambda found: found['curr_connections'] == 1)['buffer_bytes'] == 0
 
 
 def heap_of(server):
@@ -109,10 +104,10 @@ def expired_items_go(program):
     with running(program, '-t', '2') as (_, port), connect(port) as client:
         commands = b''.join(b'set %d 0 %d 1 noreply\r\nv\r\n' % (key, key % 2) for key in range(2_000))
         assert ask(client, commands + b'mn\r\n') == b'MN\r\n'
-        assert stats(client)[b'curr_items'] == 2_000
+        assert stats(client)['curr_items'] == 2_000
         # An item is counted right after it has gone.
-        found = wait_for(client, lambda found: (found[b'curr_items'], found[b'crawler_reclaimed']) == (1_000, 1_000))
-        assert found[b'evictions'] == 0, found
+        found = wait_for(client, lambda found: (found['curr_items'], found['crawler_reclaimed']) == (1_000, 1_000))
+        assert found['evictions'] == 0, found
 
 
 def wait_for(client, is_met):

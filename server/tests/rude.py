@@ -16,27 +16,32 @@ import sys
 import tempfile
 import time
 
-from running import TIMEOUT, USER, ask, connect, memory_of, rest, running
+from running import TIMEOUT, ask, connect, memory_of, rest, running, stats
 
 MEGABYTE = 1 << 20
 END = b'END\r\n'
 
 
 def too_many_clients(program):
-    with running(program, '-c', '3') as (_, port):
+    """They are told so, and the operator is told once."""
+    with running(program, '-c', '3', stderr=subprocess.PIPE) as (server, port):
         clients = [connect(port) for _ in range(3)]
         assert all(ask(client, b'mn\r\n') == b'MN\r\n' for client in clients)
-        with connect(port) as late:
-            assert late.recv(100) == b'ERROR Too many open connections\r\n' and late.recv(100) == b''
+        for _ in range(5):
+            with connect(port) as late:
+                assert rest(late) == b'ERROR Too many open connections\r\n'
         found = stats(clients[0])
-        assert [found[name] for name in ['curr_connections', 'total_connections', 'rejected_connections']] == ['3', '3', '1'], found
+        assert [found[name] for name in ['curr_connections', 'total_connections', 'rejected_connections']] == [3, 3, 5], found
         clients[0].close()
         for _ in range(3000):
             with connect(port) as next_client:
                 if ask(next_client, b'mn\r\n') == b'MN\r\n':
-                    return
+                    break
             time.sleep(0.02)
-        raise AssertionError('a free seat is not given away')
+        else:
+            raise AssertionError('a free seat is not given away')
+        server.terminate()
+        assert server.stderr.read() == 'cefrodild: clients are turned away: 3 are connected (-c)\n'
 
 
 def client_that_does_not_read(program):
@@ -143,9 +148,9 @@ def clients_that_leave(program):
             for client in clients:
                 leave(client, manner)
             end, total = time.monotonic() + TIMEOUT, total + 30
-            while len(os.listdir(folder)) > before or stats(other)['curr_connections'] != '1':
+            while len(os.listdir(folder)) > before or stats(other)['curr_connections'] != 1:
                 assert time.monotonic() < end, (manner, stats(other)['curr_connections'], len(os.listdir(folder)) - before)
-            assert stats(other)['total_connections'] == str(total), manner
+            assert stats(other)['total_connections'] == total, manner
 
 
 def client_that_sends_no_more(program):
@@ -157,17 +162,6 @@ def client_that_sends_no_more(program):
             rude.shutdown(socket.SHUT_WR)
         with rude:
             assert rest(rude) == b'MN\r\n'
-
-
-def idle_clients(program):
-    """Once a large value is stored or read, its client's buffers are given up."""
-    value = b'v' * MEGABYTE
-    with running(program, '-t', '1') as (server, port), contextlib.ExitStack() as stack:
-        before, clients = memory_of(server), [stack.enter_context(connect(port)) for _ in range(30)]
-        for line, end in [(b'set k 0 0 %d\r\n%s\r\n' % (len(value), value), b'STORED\r\n'), (b'get k\r\n', END)]:
-            for client in clients:
-                assert ask(client, line, end=end).endswith(end)
-            assert memory_of(server) - before < 15 * MEGABYTE, memory_of(server) - before
 
 
 def complaints_that_nobody_reads(program):
@@ -261,11 +255,6 @@ def end(program):
             assert server.wait(5) == 0
 
 
-def stats(client):
-    lines = ask(client, b'stats\r\n', end=END).decode().splitlines()
-    return {name: value for _, name, value in (line.split() for line in lines[:-1])}
-
-
 def memory(program):
     """Items take all but a little of what is left of `-m` and a tenth, and the server no more than 1.15 times `-m`, after many keys have come and gone."""
     limit, value = 32 * MEGABYTE, b'v' * 100_000
@@ -278,7 +267,7 @@ def memory(program):
             assert ask(client, b'set %d 0 0 %d\r\n%s\r\n' % (number, len(value), value)) == b'STORED\r\n'
         found, most = stats(client), limit * 11 // 10 - without_items
         # When it counted its memory it took a little less.
-        assert int(found['evictions']) > 0 and most - MEGABYTE <= int(found['bytes']) <= most + MEGABYTE, (found, without_items)
+        assert found['evictions'] > 0 and most - MEGABYTE <= found['bytes'] <= most + MEGABYTE, (found, without_items)
         assert memory_of(server) <= 1.15 * limit, memory_of(server)
 
 
@@ -290,18 +279,12 @@ def items(program):
             client.sendall(b''.join(b'set %d 0 0 0 noreply\r\n\r\n' % key for key in range(keys)))
             assert ask(client, b'mn\r\n') == b'MN\r\n'
             found = stats(client)
-            assert (int(found['curr_items']) == keys and found['evictions'] == '0') == is_enough, found
-        assert int(found['curr_items']) + int(found['evictions']) == 20_000 and int(found['curr_items']) < 4000, found
-
-
-def faults_of_the_command_line(program):
-    for words, status in [(['-x'], 2), (['-p', 'x'], 2), ([b'\xff'], 2), (['-l', '192.0.2.1'], 1), (['--audit', '/no/such'], 1), (['--help'], 0), (['--version'], 0)]:
-        ran = subprocess.run([program, *USER, *words], capture_output=True, text=True, timeout=10, check=False)
-        assert ran.returncode == status and bool(ran.stderr) == (status > 0), (words, ran)
+            assert (found['curr_items'] == keys and found['evictions'] == 0) == is_enough, found
+        assert found['curr_items'] + found['evictions'] == 20_000 and found['curr_items'] < 4000, found
 
 
 def main():
-    tests = [too_many_clients, crowd, clients_of_each_worker, clients_that_leave, client_that_does_not_read, client_that_stops_halfway, client_that_sends_no_more, idle_clients, complaints, complaints_that_nobody_reads, client_that_is_always_halfway, noise, end, log, memory, items, faults_of_the_command_line]
+    tests = [too_many_clients, crowd, clients_of_each_worker, clients_that_leave, client_that_does_not_read, client_that_stops_halfway, client_that_sends_no_more, complaints, complaints_that_nobody_reads, client_that_is_always_halfway, noise, end, log, memory, items]
     for test in tests:
         test(sys.argv[1])
     print(f'rude: {len(tests)} tests: ok')

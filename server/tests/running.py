@@ -62,3 +62,9 @@ def ask(client, data, end=b'\r\n'):
             return answer + b'<end>'
         answer += part
     return answer
+
+
+def stats(client):
+    """The numbers of what `stats` answers, by their names."""
+    lines = ask(client, b'stats\r\n', b'END\r\n').decode().splitlines()[:-1]
+    return {name: int(value) for _, name, value in map(str.split, lines) if value.isdigit()}

@@ -54,21 +54,6 @@ fn each_item_has_memory_of_its_own() {
     items.iter().for_each(|(number, item)| check(*number, item));
 }
 
-#[test]
-fn the_items_of_a_chunk_are_found() {
-    let _turn = set_up();
-    let mut items: Vec<NewItem> = (0..1000).map(|number| item(number, 777)).collect();
-    items.retain(|item| item.key()[0] % 3 > 0);
-    let first = chunk(&items[500]);
-    let mut expected: Vec<usize> = items.iter().filter(|item| chunk(item) == first).map(|item| slabs::address_of(item)).collect();
-    let mut found = Vec::new();
-    slabs::look_around(&items[500], |item| found.push(slabs::address_of(item)));
-    expected.sort_unstable();
-    assert_eq!(found, expected);
-    assert!(found.len() > 5);
-    slabs::look_around(&item(0, 2 * slabs::MOST), |_| panic!("it lies in no chunk"));
-}
-
 fn chunks(items: &[NewItem]) -> BTreeSet<usize> {
     items.iter().map(chunk).collect()
 }
@@ -83,18 +68,21 @@ fn resident() -> usize {
     4096 * text.split(' ').nth(1).and_then(|pages| pages.parse::<usize>().ok()).expect("a number of pages")
 }
 
-/// Neighbours are no further apart than their bits.
 #[test]
-fn the_smallest_items_of_a_chunk_are_found() {
+fn the_items_of_a_chunk_are_found() {
     let _turn = set_up();
-    let mut items = small_items(2_000, 0);
-    items.retain(|item| item.key()[0] % 3 > 0);
-    let first = chunk(&items[500]);
-    let expected: BTreeSet<usize> =
-        items.iter().filter(|item| chunk(item) == first).map(|item| slabs::address_of(item)).collect();
-    let mut found = BTreeSet::new();
-    slabs::look_around(&items[500], |item| assert!(found.insert(slabs::address_of(item)) && item.key().len() == 8));
-    assert_eq!(found, expected);
+    // Neighbours of the smallest items are no further apart than their bits.
+    for length in [777, 0] {
+        let mut items = small_items(2_000, length);
+        items.retain(|item| item.key()[0] % 3 > 0);
+        let first = chunk(&items[500]);
+        let expected: BTreeSet<usize> =
+            items.iter().filter(|item| chunk(item) == first).map(|item| slabs::address_of(item)).collect();
+        let mut found = BTreeSet::new();
+        slabs::look_around(&items[500], |item| assert!(found.insert(slabs::address_of(item)) && item.key().len() == 8));
+        assert!(found == expected && found.len() > 5, "{found:?} {expected:?}");
+    }
+    slabs::look_around(&item(0, 2 * slabs::MOST), |_| panic!("it lies in no chunk"));
 }
 
 #[test]

@@ -1,15 +1,13 @@
 //! Clients of one worker that read slowly: each is answered what it asked, whole and in order.
 mod plain;
-use cefrodild::connection::Connection;
-use cefrodild::listen::Stream;
 use cefrodild::store::Store;
 use cefrodild::worker::{Inbox, Worker};
+use plain::both::connection;
 use plain::client::{Client, MEGABYTE};
 use plain::draw::Draw;
 use std::io::{self, ErrorKind, Read, Write};
 use std::mem::size_of;
 use std::os::fd::AsRawFd;
-use std::os::fd::OwnedFd;
 use std::os::unix::net::UnixStream;
 use std::sync::Arc;
 use std::thread::{spawn, yield_now};
@@ -98,7 +96,7 @@ fn done(result: io::Result<usize>) -> usize {
 /// The two ends of a connection. The system keeps few bytes that the first one has sent.
 fn narrow_pair() -> (UnixStream, UnixStream) {
     let (end, other) = UnixStream::pair().expect("there are descriptors");
-    end.set_nonblocking(true).and(other.set_nonblocking(true)).expect("they are sockets");
+    other.set_nonblocking(true).expect("it is a socket");
     let bytes: libc::c_int = 4096;
     // SAFETY: the descriptor is open, and the option is a number of this size.
     let result = unsafe {
@@ -112,8 +110,7 @@ fn narrow_pair() -> (UnixStream, UnixStream) {
 /// A client of the worker whose inbox this is.
 fn connected(store: &Store, inbox: &Inbox, number: usize) -> Slow {
     let (end, stream) = narrow_pair();
-    let seat = store.seats.take(0).expect("a seat is free");
-    inbox.hand(Connection::new(Stream(OwnedFd::from(end).into()), seat)).expect("the worker takes it");
+    inbox.hand(connection(store, end)).expect("the worker takes it");
     Slow::new(number, stream)
 }
 

@@ -13,17 +13,12 @@ import subprocess
 import sys
 import time
 
-from running import TIMEOUT, USER, ask, connect, memory_of, rest, running
+from running import TIMEOUT, ask, connect, memory_of, rest, running, stats
 
 END = b'END\r\n'
 STORED = b'STORED\r\n'
 TOOL = '/usr/share/memcached/scripts/memcached-tool'
 VALUE = b'v' * 1_000_000
-
-
-def stats(client, what=b''):
-    lines = ask(client, b'stats' + what + b'\r\n', END).decode().splitlines()[:-1]
-    return dict(line.split(' ', 2)[1:] for line in lines)
 
 
 def narrow(stack, port):
@@ -64,7 +59,7 @@ def clients_that_stall(program):
         time.sleep(0.5)
         others_are_served(port)
         found = stats(other)
-        assert found['connections_out_of_memory'] == '0' and int(found['curr_connections']) >= 73 and int(found['store_no_memory']) > 3, found
+        assert found['connections_out_of_memory'] == 0 and found['curr_connections'] >= 73 and found['store_no_memory'] > 3, found
         server.terminate()
         named = re.findall(r'cefrodild: (\S+) has its value refused, which it has not sent to the end: \d+ bytes for', server.stderr.read())
         assert named and set(named) <= set(addresses[:12]), (named, addresses)
@@ -95,7 +90,7 @@ def silent_clients(program):
             assert ask(other, b'mn\r\n') == b'MN\r\n'
             time.sleep(0.05)
         assert all(rest(client) == b'' for client in silent)
-        assert stats(other)['idle_kicks'] == '4' and stats(other)['curr_connections'] == '1', stats(other)
+        assert stats(other)['idle_kicks'] == 4 and stats(other)['curr_connections'] == 1, stats(other)
 
 
 def tools(program):

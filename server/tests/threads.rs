@@ -1,9 +1,9 @@
 //! Commands of several threads at once, over a plain index.
 mod plain;
 use cefrodild::books::Books;
-use cefrodild::options::{parse, Asked};
 use cefrodild::request::{Change, How, Order};
 use cefrodild::store::{Answer, Changed, Store};
+use plain::client::{options_of, order};
 use plain::Plain;
 use std::sync::atomic::{AtomicBool, Ordering::SeqCst};
 use std::sync::Arc;
@@ -13,13 +13,13 @@ const KEY: &[u8] = b"key";
 const NEVER: u64 = u64::MAX;
 
 fn store() -> Store {
-    let Ok(Asked::Serve(options)) = parse(["-t4".to_owned()]) else { panic!("these are options") };
+    let options = options_of("-t4");
     let books = Arc::new(Books::new(1 << 20, &options));
     Store::new(Box::new(Plain::new(&books, &Arc::default())), books, options)
 }
 
 fn set(how: How) -> Order<'static> {
-    Order { how, key: KEY, flags: 0, expiry: 0, length: 1, compare: None }
+    order(how, KEY, 1)
 }
 
 /// Stops the other threads at its end, also by a panic.

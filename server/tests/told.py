@@ -45,6 +45,7 @@ def faults(program):
             (['-p'], 2, '-p'),
             (['-t', '0'], 2, '-t'),
             (['-n', '1000000'], 2, '-n'),
+            ([b'\xff'], 2, 'is no text'),
             (['-p', port], 1, f'127.0.0.1:{port}'),
             (['-l', '192.0.2.1', '-p', '0'], 1, '192.0.2.1:0'),
             (['--audit', '/no/such/file', '-p', '0'], 1, '/no/such/file'),
@@ -80,26 +81,6 @@ def addresses(program):
             server.communicate()
 
 
-def statistics(program):
-    with running(program, '-t', '3', '-m', '32', '-c', '7', '-I', '2k') as (server, port), connect(port) as client, connect(port) as other:
-        assert ask(other, b'mn\r\n') == b'MN\r\n'
-        before = stats(client)
-        expected = {'pid': server.pid, 'threads': 3, 'limit_maxbytes': 32 << 20, 'max_connections': 7, 'curr_connections': 2, 'total_connections': 2, 'curr_items': 0, 'bytes': 0}
-        assert {name: int(before[name]) for name in expected} == expected, before
-        asked = b'set k 0 0 1\r\nv\r\nget k\r\ndelete k\r\n'
-        answer = b'STORED\r\nVALUE k 0 1\r\nv\r\nEND\r\nDELETED\r\n'
-        assert ask(other, asked, end=b'DELETED\r\n') == answer
-        after = stats(client)
-        grown = {name: int(after[name]) - int(before[name]) for name in ['cmd_get', 'cmd_set', 'get_hits', 'delete_hits', 'total_items', 'curr_items', 'bytes', 'evictions']}
-        assert grown == {'cmd_get': 1, 'cmd_set': 1, 'get_hits': 1, 'delete_hits': 1, 'total_items': 1, 'curr_items': 0, 'bytes': 0, 'evictions': 0}, grown
-        assert int(after['bytes_read']) - int(before['bytes_read']) == len(asked) + len('stats\r\n')
-
-
-def stats(client):
-    lines = ask(client, b'stats\r\n', end=END).decode().splitlines()
-    return {name: value for _, name, value in (line.split() for line in lines[:-1])}
-
-
 def ends(program):
     """A server that nobody asks for anything ends at once, in silence, at either signal. Others leave it running."""
     for number in [signal.SIGTERM, signal.SIGINT]:
@@ -127,7 +108,7 @@ def threads(program):
 
 
 def main():
-    tests = [questions, faults, addresses, statistics, ends, threads]
+    tests = [questions, faults, addresses, ends, threads]
     for test in tests:
         test(sys.argv[1])
     print(f'told: {len(tests)} tests: ok')

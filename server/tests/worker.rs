@@ -1,13 +1,11 @@
 //! A worker and its clients.
 mod plain;
-use cefrodild::connection::Connection;
-use cefrodild::listen::Stream;
 use cefrodild::store::Store;
 use cefrodild::worker::{Inbox, Worker};
+use plain::both::connection;
 use plain::client::{Client, MEGABYTE};
 use std::io::{self, Read, Write};
 use std::net::{TcpListener, TcpStream};
-use std::os::fd::OwnedFd;
 use std::sync::Arc;
 use std::thread::{spawn, yield_now, JoinHandle};
 use std::time::{Duration, Instant};
@@ -44,9 +42,7 @@ impl Working {
         let stream = TcpStream::connect(self.listener.local_addr().expect("it is bound")).expect("it listens");
         stream.set_read_timeout(Some(LIMIT)).expect("it is a socket");
         let (accepted, _) = self.listener.accept().expect("one has connected");
-        accepted.set_nonblocking(true).expect("it is a socket");
-        let seat = self.store.seats.take(0).expect("a seat is free");
-        self.inbox.hand(Connection::new(Stream(OwnedFd::from(accepted).into()), seat)).expect("the worker takes it");
+        self.inbox.hand(connection(&self.store, accepted)).expect("the worker takes it");
         stream
     }
 

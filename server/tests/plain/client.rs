@@ -4,10 +4,13 @@ use cefrodild::books::Books;
 use cefrodild::dialogue::{Dialogue, Turn};
 use cefrodild::index::Index;
 use cefrodild::map_index::MapIndex;
-use cefrodild::options::{parse, Asked};
+use cefrodild::options::{parse, Asked, Options};
 use cefrodild::output::{Output, MOST_WAITING};
+use cefrodild::request::{How, Order};
+use cefrodild::rss_limit::RssLimit;
 use cefrodild::slabs;
 use cefrodild::store::Store;
+use std::mem::forget;
 use std::sync::{Arc, Once};
 
 pub const MEGABYTE: usize = 1 << 20;
@@ -47,7 +50,7 @@ impl Client {
     ) -> Client {
         static ONCE: Once = Once::new();
         ONCE.call_once(|| slabs::set_up(256 * MEGABYTE).expect("there are addresses"));
-        let Ok(Asked::Serve(options)) = parse(options.split(' ').map(str::to_owned)) else { panic!("{options}") };
+        let options = options_of(options);
         let books = Arc::new(Books::new(memory as u64, &options));
         let store = Arc::new(Store::new(index(options.items, &books), books, options));
         Client { store, control, dialogue: Dialogue::default(), input: Vec::new() }
@@ -116,4 +119,36 @@ impl Client {
             }
         }));
     }
+}
+
+pub fn options_of(words: &str) -> Options {
+    match parse(words.split(' ').map(str::to_owned)) {
+        Ok(Asked::Serve(options)) => options,
+        asked => panic!("{words}: {asked:?}"),
+    }
+}
+
+/// A store over the index of the server, which has room for 10,000 items. These may take so many bytes.
+pub fn map_store(limit: u64, words: &str) -> Store {
+    let options = options_of(words);
+    let books = Arc::new(Books::new(limit, &options));
+    let index = MapIndex::open(10_000, options.threads, &books, None).expect("there is memory");
+    Store::new(Box::new(index), books, options)
+}
+
+/// An order to store a value of so many bytes.
+pub fn order(how: How, key: &[u8], length: usize) -> Order<'_> {
+    Order { how, key, flags: 0, expiry: 0, length, compare: None }
+}
+
+/// Bounds the process to so many bytes more than it takes, and lets it exceed that from now on, as if it took much more. Returns the room of items.
+pub fn exceed(store: &Store, more: usize) -> u64 {
+    let (taken, budget) = (RssLimit::new(0).and_then(|limit| limit.resident()).expect("the system tells"), &store.books.budget);
+    let most = budget.bound_process(taken + more as u64).expect("the system tells");
+    let mut claim = budget.claim(1 << 40);
+    claim.expect();
+    forget(claim);
+    budget.leave(1 << 40);
+    budget.free(1 << 40);
+    most
 }

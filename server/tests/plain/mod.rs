@@ -1,5 +1,6 @@
 //! A plain index for tests, and clients of a store over it.
 #![allow(dead_code, reason = "no test needs all of it")]
+pub mod both;
 pub mod client;
 pub mod draw;
 
@@ -27,6 +28,8 @@ pub struct Control {
     pub stalled: AtomicU64,
     /// How often what had left was to be freed.
     pub sweeps: AtomicUsize,
+    /// The limit of items at each eviction.
+    pub limits: Mutex<Vec<u64>>,
     /// What is about to be found by a peek never expires from then on: another thread has found it before, and gives it a new time to live now.
     pub touches_before_peek: AtomicBool,
 }
@@ -136,6 +139,7 @@ impl Index for Plain {
 
     /// The item that was stored longest ago.
     fn evict(&self, see: &mut dyn FnMut(&Item)) -> bool {
+        self.control.limits.lock().unwrap().push(self.books.budget.limit());
         let (items, _) = &mut *self.items.lock().unwrap();
         let oldest = items.iter().min_by_key(|(_, entry)| entry.token).map(|(hash, _)| *hash);
         let Some(entry) = oldest.filter(|_| !self.refuses_removal()).and_then(|hash| items.remove(&hash)) else { return false };
