@@ -35,7 +35,7 @@ struct CxxGenerations : rl::test_suite<CxxGenerations, 3> {
 
     static uint64_t word(int value, uint64_t generation) { return generation * 16 + static_cast<uint64_t>(value); }
     int find() const {
-        const uint64_t now = generation.now(), found = entry.load(std::memory_order_acquire);
+        const uint64_t found = entry.load(std::memory_order_acquire), now = generation.now();
         return found / 16 == now || explored::without("generation of an entry") ? static_cast<int>(found % 16) : none;
     }
     // As in cefrodil/inside/table.hpp and cefrodil_map.hpp.

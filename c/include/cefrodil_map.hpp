@@ -145,7 +145,9 @@ template <class Inner> class AnyMap {
 // `Times`: a timed_map has another.
 template <class K, class V, class Hash = SipHash<K>, class Times = inside::Timeless>
 class map : public inside::AnyMap<inside::Opened<K, Hash, inside::Table<V, Times>>> {
-    using Inner = inside::Opened<K, Hash, inside::Table<V, Times>>;
+    using Entries = inside::Table<V, Times>;
+    using Words = typename Entries::Words;
+    using Inner = inside::Opened<K, Hash, Entries>;
     using inside::AnyMap<Inner>::inner_;
     static constexpr bool never_throws = inside::Identities<inside::Taken<K, Hash>, Hash>::never_throws;
 
@@ -167,15 +169,14 @@ class map : public inside::AnyMap<inside::Opened<K, Hash, inside::Table<V, Times
 
     // The key's value. None if the key is absent, the lookup was busy each time, or the map is not open.
     [[nodiscard]] std::optional<V> find(Key key) const noexcept(never_throws) {
-        std::optional<V> value;
-        static_cast<void>(set(value, key));
-        return value;
+        Words packed;
+        return seek(key, packed) == Status::ok ? Entries::value_of(packed) : std::nullopt;
     }
     // The same, with the status: ok, absent, busy or closed.
     [[nodiscard]] Found<V> get(Key key) const noexcept(never_throws) {
-        Found<V> found{Status::closed, std::nullopt};
-        found.status = set(found.value, key);
-        return found;
+        Words packed;
+        const Status status = seek(key, packed);
+        return {status, status == Status::ok ? Entries::value_of(packed) : std::nullopt};
     }
     [[nodiscard]] bool contains(Key key) const noexcept(never_throws) { return get(key).status == Status::ok; }
     // The key's value, which doesn't count as used: it is evicted as if nobody had looked. It takes the turn at the key's shard, as a write does. ok,
@@ -246,7 +247,7 @@ class map : public inside::AnyMap<inside::Opened<K, Hash, inside::Table<V, Times
             return {Status::closed, function(), true};
         }
         const inside::Identity known = inner_->identities.of(key);
-        std::optional<V> found;
+        Words found;
         // The lookup that counts.
         for (Status status = inner_->entries.find(known, found); status != Status::ok; status = inner_->entries.seek(known, found)) {
             inside::Flight flight(inner_->entries.flights.of(known), known);
@@ -261,7 +262,7 @@ class map : public inside::AnyMap<inside::Opened<K, Hash, inside::Table<V, Times
             const V value = function();
             return {flight.land([&] { return inner_->entries.put_if_absent_in(generation, known, value).status; }), value, true};
         }
-        return {Status::ok, *found, false};
+        return {Status::ok, *Entries::value_of(found), false};
     }
 
   private:
@@ -290,8 +291,8 @@ class map : public inside::AnyMap<inside::Opened<K, Hash, inside::Table<V, Times
         });
     }
 
-    Status set(std::optional<V> &value, Key key) const noexcept(never_throws) {
-        return inner_ ? inner_->entries.find(inner_->identities.of(key), value) : Status::closed;
+    Status seek(Key key, Words &packed) const noexcept(never_throws) {
+        return inner_ ? inner_->entries.find(inner_->identities.of(key), packed) : Status::closed;
     }
     // Changes a key's entry by `make`, and outdates its flight first. `closed`: the answer of a map that is not open.
     template <class Result, class Change> Result change(Key key, Result closed, Change make) {

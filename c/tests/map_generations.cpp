@@ -44,9 +44,8 @@ using Table = cefrodil::inside::Table<uint64_t>;
 static const cefrodil::inside::Identity key{1, 1};
 
 static uint64_t found(Table &table) {
-    std::optional<uint64_t> value;
-    static_cast<void>(table.find(key, value));
-    return value.value_or(0);
+    Table::Words packed;
+    return table.find(key, packed) == Status::ok ? *Table::value_of(packed) : 0;
 }
 
 // What the other thread does, before a call of this one: after so many. Its put says this.

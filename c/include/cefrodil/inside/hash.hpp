@@ -97,6 +97,12 @@ template <int Rounds, int FinalRounds> uint64_t sip_hash(const void *data, size_
     state.take<Rounds>(data, size);
     return state.first<FinalRounds>(0xff);
 }
+// The same of up to eight bytes, which the word has. It is passed in a register: a lookup would wait for it in memory.
+template <int Rounds, int FinalRounds, size_t Size> uint64_t sip_hash_few(uint64_t word, const HashSecret &secret) noexcept {
+    SipState state(secret, 0);
+    state.take<Rounds>(&word, Size);
+    return state.first<FinalRounds>(0xff);
+}
 // SipHash of 128 bits: another hash than the one above.
 template <int Rounds, int FinalRounds> HashPair sip_hash_pair(const void *data, size_t size, const HashSecret &secret) noexcept {
     SipState state(secret, 0xee);
@@ -187,7 +193,7 @@ template <class Key, class Hash> class Identities {
         if constexpr (is_own_word<Key, Hash>) {
             uint64_t own = 0;
             std::memcpy(&own, std::addressof(key), sizeof key);
-            return {sip_hash<1, 3>(std::addressof(key), sizeof key, secret_), own};
+            return {sip_hash_few<1, 3, sizeof key>(own, secret_), own};
         } else {
             const HashPair pair = pair_of(key);
             return {is_spread<Hash> ? pair.first : mixed(pair.first), pair.second};

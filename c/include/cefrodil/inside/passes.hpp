@@ -190,7 +190,13 @@ template <size_t Words> class Passes {
     // The slot of this thread. Null: it uses the shared one.
     Slot<Words> *own_slot() noexcept {
         const RecentSlots::Place &last = recent_slots().last;
-        return last.passes == free_.get() ? static_cast<Slot<Words> *>(last.slot) : find_slot();
+        if (__builtin_expect(last.passes != free_.get(), false)) {
+            return find_slot();
+        }
+        if (last.slot == nullptr) {
+            __builtin_unreachable(); // These passes have a slot there.
+        }
+        return static_cast<Slot<Words> *>(last.slot);
     }
     // Makes one call with the slot of this thread, or with the shared one. The call must run no code of the user, since that might call, too.
     template <class Call> auto call(Call made) noexcept { return call_by(own_slot(), made); }

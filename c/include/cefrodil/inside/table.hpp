@@ -53,9 +53,11 @@ template <class V, size_t Moments> struct Packing {
         std::copy_n(packed.begin() + 1, Moments, ends.begin());
         return ends;
     }
-    // Sets the value where it stays: a copy of it would cost.
-    static void set_value(const Words &packed, std::optional<V> &value) noexcept {
+    // The value is copied once, to where it stays.
+    static std::optional<V> value_of(const Words &packed) noexcept {
+        std::optional<V> value;
         std::memcpy(static_cast<void *>(std::addressof(value.emplace())), packed.data() + 1 + Moments, sizeof(V));
+        return value;
     }
 };
 
@@ -68,13 +70,15 @@ inline Identity in_generation(const Identity &key, uint64_t generation) noexcept
 template <class V, class Times = Timeless>
 class Table : public Entries<Packing<V, Times::moments>::words>, private Packing<V, Times::moments>, private Times {
     using Own = Packing<V, Times::moments>;
-    using Own::words, Own::pack, Own::set_value, Own::ends_of, Own::set_ends;
-    using typename Own::Words, typename Own::Ends;
+    using Own::words, Own::pack, Own::ends_of, Own::set_ends;
+    using typename Own::Ends;
     using All = Entries<words>;
     using All::each_listed;
 
   public:
     using All::generations;
+    using typename Own::Words;
+    using Own::value_of;
     using Life = typename Times::Life;
 
     // What is under a key's number. ok: the key's value, and the moment of its put. absent: if `since` is not 0, another key's entry is there, or one of
@@ -90,20 +94,19 @@ class Table : public Entries<Packing<V, Times::moments>::words>, private Packing
     Table() = default;
     explicit Table(const Times &times) : Times(times) {}
 
-    // A lookup for its value, which is set if the status is ok. If it stays busy, that is a miss. It is counted.
-    Status find(const Identity &key, std::optional<V> &value) noexcept {
+    // A lookup for the words of its entry, which are set if the status is ok. If it stays busy, that is a miss. It is counted. The key is passed in
+    // registers: the index would wait for it in memory.
+    Status find(Identity key, Words &packed) noexcept {
         Slot<words> *const slot = this->own_slot();
         if (slot == nullptr) {
-            Found<V> found = find_shared(key);
-            value = found.value;
-            return found.status;
+            return find_shared(key, packed);
         }
-        const Status status = seek_by(slot, key, value);
-        slot->count(static_cast<Counted>(status), 1);
+        const Status status = seek_by(slot, key, packed);
+        slot->count(status == Status::ok ? hits : static_cast<Counted>(status), 1);
         return status;
     }
     // The same, but it isn't counted.
-    Status seek(const Identity &key, std::optional<V> &value) noexcept { return seek_by(this->own_slot(), key, value); }
+    Status seek(Identity key, Words &packed) noexcept { return seek_by(this->own_slot(), key, packed); }
     // Looks a few keys up, by one call of the index. Each is counted. Sets the values that are there. A key that is busy is looked up again by itself.
     static constexpr size_t few = 32;
     void find_few(const Identity *keys, size_t count, std::optional<V> *values) noexcept {
@@ -117,9 +120,10 @@ class Table : public Entries<Packing<V, Times::moments>::words>, private Packing
         for (size_t i = 0; i < count; i++) {
             const bool is_found = answers[i].status == CEFRODIL_OK;
             if (is_found ? Times::is_due(ends_of(found[i])) : answers[i].status == CEFRODIL_BUSY) {
-                static_cast<void>(find(keys[i], values[i]));
+                const Status status = find(keys[i], found[i]);
+                values[i] = status == Status::ok ? value_of(found[i]) : std::nullopt;
             } else if (is_found && is_there(in_generation(keys[i], generation), found[i])) {
-                set_value(found[i], values[i]);
+                values[i] = value_of(found[i]);
                 hits++;
             } else {
                 misses++;
@@ -135,7 +139,7 @@ class Table : public Entries<Packing<V, Times::moments>::words>, private Packing
         const Answer<words> answer = this->repeated([&](Slot<words> &slot) { return slot.handle.try_peek(key.index); });
         Found<V> found{answer.status, std::nullopt};
         if (answer.value && is_there(known, *answer.value)) {
-            set_value(*answer.value, found.value);
+            found.value = value_of(*answer.value);
         } else if (answer.value) {
             found.status = Status::absent;
         }
@@ -145,13 +149,14 @@ class Table : public Entries<Packing<V, Times::moments>::words>, private Packing
     [[gnu::noinline]] Entry look(const Identity &known) noexcept {
         Entry entry{};
         Words packed;
-        const Seen seen = looked(this->own_slot(), known, this->tries(), packed, entry.value);
+        const Seen seen = this->get(this->own_slot(), known.index, this->tries(), packed);
         entry.status = seen.status, entry.since = seen.since;
-        if (seen.status == Status::ok) {
+        if (seen.status == Status::ok && is_there(known, packed)) {
+            entry.value = value_of(packed);
             entry.ends = ends_of(packed);
-        }
-        if constexpr (Times::moments != 0) {
-            entry.has_expired = seen.status == Status::absent && seen.since != 0 && packed[0] == known.check;
+        } else if (seen.status == Status::ok) {
+            entry.status = Status::absent;
+            entry.has_expired = packed[0] == known.check;
         }
         return entry;
     }
@@ -229,29 +234,26 @@ class Table : public Entries<Packing<V, Times::moments>::words>, private Packing
         return packed[0] == known.check && !Times::have_passed(ends_of(packed));
     }
     // Not compiled into the callers, which are quicker then with a slot.
-    [[gnu::cold]] [[gnu::noinline]] Found<V> find_shared(Identity key) noexcept {
-        Found<V> found{};
-        found.status = seek_by(nullptr, key, found.value);
-        this->count(nullptr, static_cast<Counted>(found.status));
-        return found;
+    [[gnu::cold]] [[gnu::noinline]] Status find_shared(Identity key, Words &packed) noexcept {
+        const Status status = seek_by(nullptr, key, packed);
+        this->count(nullptr, static_cast<Counted>(status));
+        return status;
     }
-    [[gnu::always_inline]] Status seek_by(Slot<words> *slot, const Identity &key, std::optional<V> &value) noexcept {
+    // Compiled into `find`. The generation is loaded after the entry, if there is one. An entry of that generation was found while it was the present
+    // one. If it has another, all entries of that one have ended, and at that moment the key was absent.
+    [[gnu::always_inline]] Status seek_by(Slot<words> *slot, const Identity &key, Words &packed) noexcept {
+        const Seen seen = this->get(slot, key.index, this->looks(), packed);
+        if (seen.status != Status::ok) {
+            return seen.status;
+        }
         const Identity known = now(key);
-        Words packed;
-        const Seen seen = looked(slot, known, this->looks(), packed, value);
-        if (seen.status == Status::ok && Times::is_due(ends_of(packed))) {
+        if (!is_there(known, packed)) {
+            return Status::absent;
+        }
+        if (Times::is_due(ends_of(packed))) {
             use(known, seen.since, packed);
         }
-        return seen.status;
-    }
-    // Compiled into `find`.
-    [[gnu::always_inline]] Seen looked(Slot<words> *slot, const Identity &known, const uint32_t &most, Words &packed, std::optional<V> &value) noexcept {
-        const Seen seen = this->get(slot, known.index, most, packed);
-        if (seen.status != Status::ok || !is_there(known, packed)) {
-            return {seen.status == Status::ok ? Status::absent : seen.status, seen.since};
-        }
-        set_value(packed, value);
-        return seen;
+        return Status::ok;
     }
     void get_many(const uint64_t *indices, size_t count, Words *found, cefrodil_answer *answers) noexcept {
         this->call([&](Slot<words> &slot) {
