@@ -13,7 +13,7 @@ FIRST_RULES = "30, 1, 0x1b, 12, 31, 0"
 # Of vector registers only the lower halves are kept: d8 is that of v8.
 KEPT = {f'x{n}': n for n in range(19, 31)} | {f'd{n}': 64 + n for n in range(8, 16)}
 NAMED = re.compile(r'\b(?:[xw](19|2\d|30)|[vqdshb]([89]|1[0-5]))\b')
-PAIR_OR_ONE = r'([xd]\d+|xzr)(?:, ([xd]\d+|xzr))?'
+PAIR_OR_ONE = r'([xdq]\d+|xzr)(?:, ([xdq]\d+|xzr))?'
 SAVES = re.compile(PAIR_OR_ONE + r', \[sp(?:, #(-?\d+))?\](!?)')
 RESTORES = re.compile(PAIR_OR_ONE + r', \[sp(?:, #(\d+))?\](?:, #(\d+))?')
 MOVES = re.compile(r'sp, sp, #0x([0-9a-f]+)(, lsl #12)?')
