@@ -21,7 +21,7 @@ static std::atomic<bool> is_over{false};
 
 static void wait_for(const Number &number, uint64_t round) {
     for (uint32_t spins = 0; number.value.load(std::memory_order_acquire) < round && !is_over; spins++) {
-        spins < 10000 ? __builtin_ia32_pause() : std::this_thread::yield();
+        spins < 10000 ? cefrodil::inside::pause() : std::this_thread::yield();
     }
 }
 
@@ -29,7 +29,7 @@ static void wait_for(const Number &number, uint64_t round) {
 static void spin(uint64_t &state) {
     state = state * 6364136223846793005u + 1442695040888963407u;
     for (uint64_t spins = (state >> 33) % 60; spins != 0; spins--) {
-        __builtin_ia32_pause();
+        cefrodil::inside::pause();
     }
 }
 
