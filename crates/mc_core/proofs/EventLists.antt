@@ -8,7 +8,7 @@ use Rattle.mc_core.specs.Inside.Writers.{room_of}
 use Rattle.mc_core.specs.Seen.{WorldView, Shows}
 use Rattle.mc_theory.specs.Plain.{events_made}
 use Rattle.mc_theory.specs.Traces as traces
-use Rattle.mc_theory.specs.Traces.{Trace, OpenLookup, Ended, given_of, bit_of, Steps, EventGives, StepsAll, IsReached, StopsAt, HasRun, first_trace}
+use Rattle.mc_theory.specs.Traces.{Trace, OpenLookup, Ended, given_of, bit_of, StepsByClock, EventGives, StepsAllByClock, IsReached, StopsAt, HasRun, first_trace}
 use Rattle.mc_theory.specs.declared.act.Act.{Act}
 use Rattle.mc_theory.specs.declared.act.Act.TheVariants as act
 use Rattle.mc_theory.specs.declared.event.Done.{Done}
@@ -44,7 +44,7 @@ tells_none : {V : ℕ} (w x : Trace V) (done : List (Done V)) → x.ended ≡ w.
 tells_none {V} w x done same none = ([], same ∙ sym (append-nil w.ended), none)
 
 -- an event reports the lookups that it ends
-event_tells : (V : ℕ) (sh : Shape) (w x : Trace V) (e : Event) (out : Stepped V) → Steps V sh w e x → EventGives {V = V} w e x out → Tells {V = V} w x (done_of {V = V} out)
+event_tells : (V : ℕ) (sh : Shape) (w x : Trace V) (e : Event) (out : Stepped V) → StepsByClock V sh w e x → EventGives {V = V} w e x out → Tells {V = V} w x (done_of {V = V} out)
 event_tells V sh w x (Write a) out s gives = tells_none {V = V} w x (done_of {V = V} out) (ap (λ (y : Trace V). y.ended) s.2) (ap (λ (o : Stepped V). done_of {V = V} o) gives ∙ act_tells_none V (bit_of w.bits a) a)
 event_tells V sh w x (Begin r k) out s gives = tells_none {V = V} w x (done_of {V = V} out) (ap (λ (y : Trace V). y.ended) s.3) (ap (λ (o : Stepped V). done_of {V = V} o) gives)
 event_tells V sh w x (Read r) (stepped.Done done) s gives = (gives.0 ∷ [], gives.1, ap (λ d. d ∷ []) (sym gives.2))
@@ -78,7 +78,7 @@ made_then {V} old mid new es ds before between after first second = record {
       let now = first.made seen s in
       let next = second.made now.0 now.2 in
       let told : Ended V → Done V = λ e. e.told in
-      let runs = subst (λ (sh : Shape). StepsAll V sh now.0 ds next.0) first.shape next.1 in (
+      let runs = subst (λ (sh : Shape). StepsAllByClock V sh now.0 ds next.0) first.shape next.1 in (
         next.0,
         runs_append V (shape_of_parts {V = V} old) seen now.0 next.0 es ds now.1 runs,
         next.2,

@@ -11,8 +11,9 @@ use Rattle.std.proofs.lemmas.Nat.{or_lt}
 use Rattle.mc_words.specs.Places.{word_count}
 use Rattle.mc_words.specs.Recency.{recency_bit, recency_word}
 use Rattle.mc_words.specs.declared.shape.Shape.{Shape}
-use Rattle.mc_theory.specs.Traces.{Trace, IsBit, IsReached}
+use Rattle.mc_theory.specs.Traces.{Trace, IsBit, IsReached, first_trace}
 use Rattle.mc_theory.proofs.Events.Bits.{bits_stay}
+use Rattle.mc_theory.proofs.Events.Orders.{all_by_clock}
 use Rattle.mc_core.specs.Seen.{WorldView, Shows}
 use Rattle.mc_core.specs.Packed.{HasBits}
 use Rattle.mc_core.specs.Inside.Packed.{IsPacked}
@@ -81,4 +82,5 @@ packed_bits V sh bits n word many all past packed =
 
 -- the bits that are shown are those of the events
 pub bits_now : (V : ℕ) (now : WorldView V) (seen : Trace V) → Shows {V = V} now seen → IsReached V now.shape seen → (length now.bits ≡ now.shape.items) × All IsBit now.bits
-bits_now V now seen shows reached = subst (λ (bits : List ℕ). (length bits ≡ now.shape.items) × All IsBit bits) (sym shows.bits) (bits_stay V now.shape seen reached)
+bits_now V now seen shows reached = subst (λ (bits : List ℕ). (length bits ≡ now.shape.items) × All IsBit bits) (sym shows.bits)
+    (bits_stay V now.shape reached.readers reached.events seen (all_by_clock V now.shape (first_trace V now.shape reached.readers) seen reached.events reached.runs))

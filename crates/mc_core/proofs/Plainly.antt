@@ -5,6 +5,7 @@ use Rattle.std.proofs.lemmas.List.Elements.{All-map}
 use Rattle.mc_core.specs.Runs.{RunsTruly}
 use Rattle.mc_core.specs.Seen.{WorldView, Shows}
 use Rattle.mc_core.specs.declared.outcome.Run.{Run}
+use Rattle.mc_theory.proofs.Events.Orders.{all_by_clock}
 use Rattle.mc_theory.proofs.Events.Spans.{traces_are_plainly_true}
 use Rattle.mc_theory.specs.Plain.{IsPlainlyTrue, events_made}
 use Rattle.mc_theory.specs.Traces.{Ended, HasRun, Trace, first_trace}
@@ -26,6 +27,6 @@ pub plainly_anew : {V : ℕ} (sh : Shape) (readers : ℕ) (x : Trace V) (events 
     All (IsPlainlyTrue (events_made events stopped)) done
 plainly_anew {V} sh readers x events done stopped shape ran =
     let es = events_made events stopped in
-    let all = traces_are_plainly_true V sh readers es x shape ran.runs in
+    let all = traces_are_plainly_true V sh readers es x shape (all_by_clock V sh (first_trace V sh readers) x es ran.runs) in
     subst (λ (ds : List (Done V)). All (IsPlainlyTrue es) ds) (sym ran.told)
     (All-map (IsPlainlyTrue es) (λ (e : Ended V). e.told) ran.ended (subst (λ (ys : List (Ended V)). All (λ e. IsPlainlyTrue es e.told) ys) ran.more all))

@@ -142,7 +142,7 @@ pub access_ends : {V : ℕ} (old new : Parts V) (seen : traces.Trace V) (r : ℕ
     IsWordOf V (shape_of_parts {V = V} old) (words_of_writer {V = V} old.writer) a word → Consumes {V = V} reader.lookup a word next → reply_now {V = V} next ≡ Some reply →
     done ≡ record { reader = r; key = next.key; reply = reply; first = unwrap_or reader.first old.events; last = old.events } →
     new.writer ≡ old.writer → new.bits.items ≡ bits_read old.bits.items a → mid ≡ old.readers.items → new.readers.items ≡ slice_set mid r None → new.events ≡ old.events + 1 →
-    (x : traces.Trace V) × traces.Steps V (shape_of_parts {V = V} old) seen (event.Read r) x × traces.EventGives {V = V} seen (event.Read r) x (stepped.Done done) × StandFor {V = V} new x
+    (x : traces.Trace V) × traces.StepsByClock V (shape_of_parts {V = V} old) seen (event.Read r) x × traces.EventGives {V = V} seen (event.Read r) x (stepped.Done done) × StandFor {V = V} new x
 access_ends {V} old new seen r reader a word next reply done mid s at below reads takes over told writer bits kept readers events =
     let sh = shape_of_parts {V = V} old in
     let found = running_of {V = V} old seen r reader s at in
@@ -166,7 +166,7 @@ pub access_goes_on : {V : ℕ} (old new : Parts V) (seen : traces.Trace V) (r : 
     IsWordOf V (shape_of_parts {V = V} old) (words_of_writer {V = V} old.writer) a word → Consumes {V = V} reader.lookup a word next → reply_now {V = V} next ≡ None →
     after.lookup ≡ next → after.first ≡ Some (unwrap_or reader.first old.events) →
     new.writer ≡ old.writer → new.bits.items ≡ bits_read old.bits.items a → mid ≡ old.readers.items → new.readers.items ≡ slice_set mid r (Some after) → new.events ≡ old.events + 1 →
-    (x : traces.Trace V) × traces.Steps V (shape_of_parts {V = V} old) seen (event.Read r) x × traces.EventGives {V = V} seen (event.Read r) x (stepped.Word word) × StandFor {V = V} new x
+    (x : traces.Trace V) × traces.StepsByClock V (shape_of_parts {V = V} old) seen (event.Read r) x × traces.EventGives {V = V} seen (event.Read r) x (stepped.Word word) × StandFor {V = V} new x
 access_goes_on {V} old new seen r reader a word next after mid s at below reads takes on lookup_is first_is writer bits kept readers events =
     let sh = shape_of_parts {V = V} old in
     let found = running_of {V = V} old seen r reader s at in
@@ -196,7 +196,7 @@ access_goes_on {V} old new seen r reader a word next after mid s at below reads 
 pub begins : {V : ℕ} (old new : Parts V) (seen : traces.Trace V) (r key : ℕ) (after : Reader V) → StandFor {V = V} old seen → slice_get seen.readers r ≡ Some None → key < 2 ^ 64 → old.events < 2 ^ 64 - 1 →
     shape_for {V = V} after.lookup ≡ shape_of_parts {V = V} old → after.lookup.key ≡ key → ((rs : List Reading) (reply : Reply V) → IsRemainder {V = V} after.lookup rs reply ↔ IsLookup V (shape_of_parts {V = V} old) key (shape_of_parts {V = V} old).tries rs reply) → IsSome (next_access {V = V} after.lookup) → after.first ≡ None →
     new.writer ≡ old.writer → new.bits.items ≡ old.bits.items → new.readers.items ≡ slice_set old.readers.items r (Some after) → new.events ≡ old.events + 1 →
-    (x : traces.Trace V) × traces.Steps V (shape_of_parts {V = V} old) seen (event.Begin r key) x × traces.EventGives {V = V} seen (event.Begin r key) x stepped.Nothing × StandFor {V = V} new x
+    (x : traces.Trace V) × traces.StepsByClock V (shape_of_parts {V = V} old) seen (event.Begin r key) x × traces.EventGives {V = V} seen (event.Begin r key) x stepped.Nothing × StandFor {V = V} new x
 begins {V} old new seen r key after s idle range below shape key_is left more first writer bits readers events =
     let run : OpenLookup = record { key = key; sofar = []; first = 0 } in
     let running : IsOpenLookup V (shape_of_parts {V = V} old) after run = record {

@@ -13,33 +13,34 @@ use Rattle.mc_words.specs.declared.shape.Shape.{Shape}
 use Rattle.mc_core.specs.Inside.Parts.{shape_of_parts, view_of, StandFor, AreReached, MakesEvent, PartsRefuse}
 use Rattle.mc_core.specs.Seen.{WorldView, Shows, MayAct}
 use Rattle.mc_theory.specs.Traces as traces
-use Rattle.mc_theory.specs.Traces.{Trace, IsWithin, HasVersionSteps, bit_of, given_of, Steps, EventGives, StepsAll, IsReached, IsTrueEnd, first_trace}
+use Rattle.mc_theory.specs.Traces.{Trace, IsWithin, HasVersionSteps, bit_of, given_of, StepsByClock, EventGives, StepsAllByClock, IsReached, IsTrueEnd, first_trace}
 use Rattle.mc_theory.specs.declared.event.Event.{Event}
 use Rattle.mc_theory.specs.declared.event.Stepped.{Stepped}
 use Rattle.mc_theory.specs.declared.event.Unlawful.{Unlawful}
 use Rattle.mc_core.specs.declared.parts.Parts.{Parts}
+use Rattle.mc_theory.proofs.Events.Orders.{all_by_clock}
 use Rattle.mc_theory.proofs.Events.ReachedTraces.{traces_are_true}
 
 -- one event more
-pub runs_push : (V : ℕ) (sh : Shape) (w : Trace V) (es : List Event) (x y : Trace V) (e : Event) → StepsAll V sh w es x → Steps V sh x e y → StepsAll V sh w (es ++ e ∷ []) y
-runs_push V sh w [] x y e r s = (y, subst (λ (z : Trace V). Steps V sh z e y) r s, refl)
+pub runs_push : (V : ℕ) (sh : Shape) (w : Trace V) (es : List Event) (x y : Trace V) (e : Event) → StepsAllByClock V sh w es x → StepsByClock V sh x e y → StepsAllByClock V sh w (es ++ e ∷ []) y
+runs_push V sh w [] x y e r s = (y, subst (λ (z : Trace V). StepsByClock V sh z e y) r s, refl)
 runs_push V sh w (d ∷ ds) x y e r s = (r.0, r.1, runs_push V sh r.0 ds x y e r.2 s)
 
 -- more events, one after the other
-pub runs_append : (V : ℕ) (sh : Shape) (w x y : Trace V) (es ds : List Event) → StepsAll V sh w es x → StepsAll V sh x ds y → StepsAll V sh w (es ++ ds) y
-runs_append V sh w x y [] ds r s = subst (λ (z : Trace V). StepsAll V sh z ds y) r s
+pub runs_append : (V : ℕ) (sh : Shape) (w x y : Trace V) (es ds : List Event) → StepsAllByClock V sh w es x → StepsAllByClock V sh x ds y → StepsAllByClock V sh w (es ++ ds) y
+runs_append V sh w x y [] ds r s = subst (λ (z : Trace V). StepsAllByClock V sh z ds y) r s
 runs_append V sh w x y (e ∷ es) ds r s = (r.0, r.1, runs_append V sh r.0 x y es ds r.2 s)
 
 -- a trace is reached from a reached one by more events
-pub reached_append : (V : ℕ) (sh : Shape) (x y : Trace V) (es : List Event) → IsReached V sh x → StepsAll V sh x es y → IsReached V sh y
+pub reached_append : (V : ℕ) (sh : Shape) (x y : Trace V) (es : List Event) → IsReached V sh x → StepsAllByClock V sh x es y → IsReached V sh y
 reached_append V sh x y es r s = record { readers = r.readers; events = r.events ++ es; runs = runs_append V sh (first_trace V sh r.readers) x y r.events es r.runs s }
 
 -- what has ended in a world that is reached replied truly
 pub reached_true : (V : ℕ) (sh : Shape) (x : Trace V) → IsShape sh → IsReached V sh x → All (IsTrueEnd V sh x) x.ended
-reached_true V sh x sound r = (traces_are_true V sh r.readers r.events x sound r.runs).1
+reached_true V sh x sound r = (traces_are_true V sh r.readers r.events x sound (all_by_clock V sh (first_trace V sh r.readers) x r.events r.runs)).1
 
 -- and by one
-pub reached_push : (V : ℕ) (sh : Shape) (x y : Trace V) (e : Event) → IsReached V sh x → Steps V sh x e y → IsReached V sh y
+pub reached_push : (V : ℕ) (sh : Shape) (x y : Trace V) (e : Event) → IsReached V sh x → StepsByClock V sh x e y → IsReached V sh y
 reached_push V sh x y e r s = record { readers = r.readers; events = r.events ++ e ∷ []; runs = runs_push V sh (first_trace V sh r.readers) r.events x y e r.runs s }
 
 -- what a step makes of parts that are reached
@@ -64,7 +65,7 @@ shape_after old new e (Ok out) made refused = made.shape
 shape_after {V} old new e (Err why) made refused = ap (λ (s : WorldView V). s.shape) refused.kept
 
 -- every event is counted
-steps_count : (V : ℕ) (sh : Shape) (w x : Trace V) (e : Event) → Steps V sh w e x → x.events ≡ w.events + 1
+steps_count : (V : ℕ) (sh : Shape) (w x : Trace V) (e : Event) → StepsByClock V sh w e x → x.events ≡ w.events + 1
 steps_count V sh w x (Write a) s = ap (λ (y : Trace V). y.events) s.2
 steps_count V sh w x (Begin r k) s = ap (λ (y : Trace V). y.events) s.3
 steps_count V sh w x (Read r) s = elim s.5 [
@@ -118,7 +119,7 @@ stand_for {V} p seen reached shows = record { shows = shows; used = reached.stan
 
 -- and so of every trace of events that is shown
 pub leads_shown : {V : ℕ} (old new : Parts V) (e : Event) (r : Result (Stepped V) Unlawful) → AreReached {V = V} old → IfOk r (λ out. MakesEvent {V = V} old new e out) →
-    IfOk r (λ out. (seen : Trace V) → Shows {V = V} (view_of {V = V} old) seen → (next : Trace V) × Steps V (shape_of_parts {V = V} old) seen e next × EventGives {V = V} seen e next out × Shows {V = V} (view_of {V = V} new) next)
+    IfOk r (λ out. (seen : Trace V) → Shows {V = V} (view_of {V = V} old) seen → (next : Trace V) × StepsByClock V (shape_of_parts {V = V} old) seen e next × EventGives {V = V} seen e next out × Shows {V = V} (view_of {V = V} new) next)
 leads_shown {V} old new e (Ok out) reached made = λ seen shows. let next = made.leads seen (stand_for {V = V} old seen reached shows) in (next.0, next.1, next.2, next.3.shows)
 leads_shown old new e (Err why) reached made = made
 

@@ -72,11 +72,11 @@ impl<const V: usize> World<V> {
     /// Makes one event, or refuses it.
     pub fn step(&mut self, event: Event) -> Result<Stepped<V>, Unlawful>
         ensures ok { IfOk result (λ out. (seen : traces.Trace V) → Shows {V = V} self.old seen →
-            (next : traces.Trace V) × traces.Steps V self.old.shape seen event next ×
+            (next : traces.Trace V) × traces.StepsByClock V self.old.shape seen event next ×
             traces.EventGives {V = V} seen event next out × Shows {V = V} self.new next) }
         ensures told { IfOk result (λ out. (seen : traces.Trace V) → Shows {V = V} self.old seen →
             traces.IsReached V self.old.shape seen → (next : traces.Trace V) ×
-            traces.Steps V self.old.shape seen event next × traces.EventGives {V = V} seen event next out ×
+            traces.StepsByClock V self.old.shape seen event next × traces.EventGives {V = V} seen event next out ×
             Shows {V = V} self.new next × traces.IsReached V self.old.shape next ×
             All (traces.IsTrueEnd V self.old.shape next) next.ended) }
         ensures refused { IfErr result (λ why. (seen : traces.Trace V) → Shows {V = V} self.old seen →

@@ -15,31 +15,9 @@ use Rattle.mc_shared.proofs.Coherence.{total_set}
 use Rattle.mc_shared.proofs.ExactSteps.{seat_counts}
 use Rattle.mc_shared.proofs.ReaderRecords.{front_self, front_trans, front_length}
 use Rattle.mc_executions.specs.Executions.{TableState, IsExecution, HasRecord, HasActs}
-use Rattle.mc_executions.specs.TimeOrder.{RecordIsOne}
-use Rattle.mc_executions.proofs.ExecutionSteps.{hit, log_is, is_reader, LogStep, rests, grows, keeps, enters, IsHonest}
-use Rattle.mc_executions.proofs.SeatMoves.{Moves}
-use Rattle.mc_executions.proofs.StepMoves.{moves}
-
--- a reader has one record
-pub record_is_one : RecordIsOne
-record_is_one l s a d e r h h' = dite (ℕ_discrete h'.seat h.seat)
-    (λ y. let same : h'.view ≡ h.view = some-injective _ _ (sym h'.mine ∙ (ap (λ (n : ℕ). get_elem? s.views n) y ∙ h.mine)) in sym h.is ∙ (ap done_of (sym same) ∙ h'.is))
-    (λ n.
-    let one = r.single a (is_reader l s r h.seat a h.view h.mine h.reader) in
-    let c = total_set (λ (u : View). seated_in a u.role) s.views h.seat h.view spent_view h.mine in
-    let more = seat_counts a (set s.views h.seat spent_view) h'.seat h'.view (set_else s.views h.seat h'.seat spent_view n ∙ h'.mine) in
-    absurd (omega (arith, one, c, more, h.reader, h'.reader)))
-
--- lists of the same length at the head of one list are the same
-pub same_parts : {A : Type 0} (xs ys xs' ys' : List A) → length xs ≡ length xs' → xs ++ ys ≡ xs' ++ ys' → (xs ≡ xs') × (ys ≡ ys')
-same_parts [] ys [] ys' n e = (refl, e)
-same_parts [] ys (x' ∷ xs') ys' n e = absurd (omega (arith, n))
-same_parts (x ∷ xs) ys [] ys' n e = absurd (omega (arith, n))
-same_parts {A} (x ∷ xs) ys (x' ∷ xs') ys' n e =
-    let head : x ≡ x' = ap (λ (z : List A). get_or z 0 x) e in
-    let tail : xs ++ ys ≡ xs' ++ ys' = ap (drop 1) e in
-    let p = same_parts xs ys xs' ys' (omega (arith, n)) tail in
-    ((λ i. head i ∷ p.0 i), p.1)
+use Rattle.mc_executions.proofs.ExecutionSteps.{hit, log_is, LogStep, rests, grows, OneMove, IsHonest}
+use Rattle.mc_executions.proofs.ListParts.{same_parts}
+use Rattle.mc_executions.proofs.StepMoves.{moves, record_is_one, log_step, keeps, adds, record_step}
 
 -- the last element of a list
 got_at_end : (xs ys : List Made) (m : Made) → slice_get ((xs ++ m ∷ []) ++ ys) (length xs) ≡ Some m
@@ -58,7 +36,7 @@ module _ (l : Layout) (states : ℕ → TableState) (run : IsExecution l states)
   abbrev log : ℕ → List Made
   log n = (run.ruled n).log
 
-  pub move : (n : ℕ) → Moves l (states n) (states (suc n)) (run.ruled n) (run.ruled (suc n))
+  pub move : (n : ℕ) → OneMove l (states n) (states (suc n)) (run.ruled n) (run.ruled (suc n))
   move n = moves l (states n) (states (suc n)) (run.ruled n) (run.ruled (suc n)) (run.steps n)
 
   log_grows_by : (n : ℕ) → LogStep l (states n) (states (suc n)) (run.ruled n) (run.ruled (suc n)) → IsFrontOf (log n) (log (suc n))
@@ -68,16 +46,16 @@ module _ (l : Layout) (states : ℕ → TableState) (run : IsExecution l states)
   -- the list of acts only grows
   pub logs_grow : (m i : ℕ) → IsFrontOf (log i) (log (i + m))
   logs_grow zero i = subst (λ (n : ℕ). IsFrontOf (log i) (log n)) (omega arith) (front_self (log i))
-  logs_grow (suc m) i = subst (λ (n : ℕ). IsFrontOf (log i) (log n)) (omega arith) (front_trans (log i) (log (suc i)) (log (suc i + m)) (log_grows_by i (move i).log) (logs_grow m (suc i)))
+  logs_grow (suc m) i = subst (λ (n : ℕ). IsFrontOf (log i) (log n)) (omega arith) (front_trans (log i) (log (suc i)) (log (suc i + m)) (log_grows_by i (log_step (move i))) (logs_grow m (suc i)))
 
   -- and so does each record
   records_grow : (m i a : ℕ) (d e : List Reading) → HasRecord a (states i) d → HasRecord a (states (i + m)) e → (more : List Reading) × (e ≡ d ++ more)
   records_grow zero i a d e h h' = ([], record_is_one l (states i) a e d (run.ruled i) (subst (λ (n : ℕ). HasRecord a (states n) e) (omega arith) h') h ∙ sym (append-nil d))
   records_grow (suc m) i a d e h h' =
       let end : HasRecord a (states (suc i + m)) e = subst (λ (n : ℕ). HasRecord a (states n) e) (omega arith) h' in
-      elim ((move i).records a d h) [
+      elim (record_step a d (move i) h) [
         | keeps k ↦ records_grow m (suc i) a d e k end
-        | enters x entry is number k ↦ let q = records_grow m (suc i) a (d ++ x ∷ []) e k end in (x ∷ q.0, q.1 ∙ append_assoc d (x ∷ []) q.0)
+        | adds x entry is number k ↦ let q = records_grow m (suc i) a (d ++ x ∷ []) e k end in (x ∷ q.0, q.1 ∙ append_assoc d (x ∷ []) q.0)
       ]
 
   -- the step between states i and j that entered entry n of a reader whose record is e at state j
@@ -101,9 +79,9 @@ module _ (l : Layout) (states : ℕ → TableState) (run : IsExecution l states)
       absurd (omega (arith, ap length same, le, lt))
   find_entry (suc m) i n a d e h h' le lt =
       let end : HasRecord a (states (suc i + m)) e = subst (λ (n : ℕ). HasRecord a (states n) e) (omega arith) h' in
-      elim ((move i).records a d h) [
+      elim (record_step a d (move i) h) [
         | keeps k ↦ wider i m a n e (find_entry m (suc i) n a d e k end le lt)
-        | enters x entry is number k ↦ dite (ℕ_discrete (length d) n)
+        | adds x entry is number k ↦ dite (ℕ_discrete (length d) n)
             (λ y.
             let q = records_grow m (suc i) a (d ++ x ∷ []) e k end in
             record {
@@ -143,7 +121,7 @@ module _ (l : Layout) (states : ℕ → TableState) (run : IsExecution l states)
       absurd (omega (arith, ap length same, le, lt))
   find_act (suc m) i n le lt =
       let end : n < length (log (suc i + m)) = subst (λ (k : ℕ). n < length (log k)) (omega arith) lt in
-      elim ((move i).log) [
+      elim (log_step (move i)) [
         | rests e ↦ wider_act i m n (find_act m (suc i) n (omega (arith, le, ap length e)) end)
         | grows d seat note knows step e honest ↦ dite (ℕ_discrete (length (log i)) n)
             (λ y. record { p = i; from = omega arith; until = omega arith; place = y; m = d; seat = seat; note = note; knows = knows; step = step; more = e; honest = honest })

@@ -3,7 +3,7 @@ use Rattle.std.specs.Prelude.{if◌then◌else◌}
 use Rattle.std.specs.Int.{bit_at}
 use mathlib.Core.Logic.{dite}
 use native.Mathlib.Decide.{ℕ_discrete, dec_le}
-use Rattle.std.proofs.Common.{◌≡◌, ◌≢◌, ◌⊎◌, ⊎_elim, inl, inr, Bool, eqb, eq-eqb, ℕ, ◌+◌, ◌<◌, List, [], ◌∷◌, ◌++◌, get_or, set, refl, ap, sym, ◌∙◌, subst, arith}
+use Rattle.std.proofs.Common.{◌≡◌, ◌≢◌, ◌⊎◌, ⊎_elim, inl, inr, Bool, eqb, eq-eqb, ℕ, ◌+◌, ◌<◌, ◌≤◌, List, [], ◌∷◌, ◌++◌, get_or, set, refl, ap, sym, ◌∙◌, subst, arith}
 use Rattle.std.proofs.lemmas.Nat.Bits.{bit_at-lt}
 use mathlib.Core.Option.{some, some-injective}
 use lib.ListN.{get_elem?}
@@ -145,11 +145,31 @@ is_reader l s r j a u at here = dite (dec_le r.tally.readers a)
     (λ over. let none = r.unseated a over in let some' = seat_counts a s.views j u at in absurd (omega (arith, none, some', here)))
     (λ under. omega (arith, under))
 
--- ---- and to the record of a reader
--- it leaves it, or adds one entry
-pub data RecordStep (l : Layout) (s t : TableState) (r : Ruled l s) (a : ℕ) (done : List Reading) : Type 0 where
-  keeps : HasRecord a t done → RecordStep l s t r a done
-  enters : (e : Reading) (x : AddsEntry l s t r.log e) → x.done ≡ done → x.number ≡ a → HasRecord a t (done ++ e ∷ []) → RecordStep l s t r a done
+-- ---- all in all: it does nothing to them, makes one act, or enters one reading or mark
+abbrev pub AllKept : TableState → TableState → Type 0
+AllKept s t = (a : ℕ) (done : List Reading) → HasRecord a s done → HasRecord a t done
+
+-- readers that come have empty records
+abbrev pub AllNew : (l : Layout) (s t : TableState) → Ruled l s → Ruled l t → Type 0
+AllNew l s t r r' = (a : ℕ) → r.tally.readers ≤ a → a < r'.tally.readers → HasRecord a t []
+
+pub data OneMove (l : Layout) (s t : TableState) (r : Ruled l s) (r' : Ruled l t) : Type 0 where
+  nothing : r.tally.readers ≤ r'.tally.readers → r'.log ≡ r.log → AllNew l s t r r' → AllKept s t → OneMove l s t r r'
+  one_act : (m : Made) (seat : ℕ) (note : Note) → get_elem? s.views seat ≡ some (writer_view l r.log r.tally) → t.views ≡ set s.views seat (writer_view l (r.log ++ m ∷ []) (with_note r.tally note)) → r'.log ≡ r.log ++ m ∷ [] → IsHonest l s m →
+      r'.tally.readers ≡ r.tally.readers → AllKept s t → OneMove l s t r r'
+  one_entry : (a : ℕ) (done : List Reading) (e : Reading) (x : AddsEntry l s t r.log e) → x.done ≡ done → x.number ≡ a → HasRecord a s done → HasRecord a t (done ++ e ∷ []) → r'.log ≡ r.log → r'.tally.readers ≡ r.tally.readers →
+      ((b : ℕ) (d : List Reading) → b ≢ a → HasRecord b s d → HasRecord b t d) → OneMove l s t r r'
+
+by_log : {l : Layout} {s t : TableState} {r : Ruled l s} {r' : Ruled l t} → r'.tally.readers ≡ r.tally.readers → AllKept s t → LogStep l s t r r' → OneMove l s t r r'
+by_log same kept (rests e) = nothing (omega (arith, same)) e (λ a over under. absurd (omega (arith, same, over, under))) kept
+by_log same kept (grows m seat note knows step e honest) = one_act m seat note knows step e honest same kept
+
+-- one reader is on a seat
+one_seated : (a b : ℕ) (u : Role) → seated_in a u ≡ 1 → seated_in b u ≡ 1 → a ≡ b
+one_seated a b Spent one two = absurd (omega (arith, one))
+one_seated a b (Writes acts tally) one two = absurd (omega (arith, one))
+one_seated a b (Reads number front done) one two = sym (is_hit number a one) ∙ is_hit number b two
+one_seated a b (Both acts tally number front done) one two = sym (is_hit number a one) ∙ is_hit number b two
 
 module _ (l : Layout) (s t : TableState) (r : Ruled l s) (r' : Ruled l t) (k : ℕ) (v w : View) (mine : get_elem? s.views k ≡ some v) (next : t.views ≡ set s.views k w) where
   here : get_elem? t.views k ≡ some w
@@ -234,36 +254,66 @@ module _ (l : Layout) (s t : TableState) (r : Ruled l s) (r' : Ruled l t) (k : �
   record_away : (a : ℕ) (done : List Reading) (h : HasRecord a s done) → h.seat ≢ k → HasRecord a t done
   record_away a done h n = record { seat = h.seat; view = h.view; mine = there h.seat n ∙ h.mine; reader = h.reader; is = h.is }
 
-  pub record_turn : (a : ℕ) (done : List Reading) → Turn l s v w → HasRecord a s done → RecordStep l s t r a done
-  record_turn a done turn h = dite (ℕ_discrete h.seat k)
+  -- a record stays if it does where the seat is its reader's
+  record_keeps : (a : ℕ) (done : List Reading) → (seated_in a v.role ≡ 1 → (seated_in a w.role ≡ 1) × (done_of w ≡ done_of v)) → HasRecord a s done → HasRecord a t done
+  record_keeps a done kept h = dite (ℕ_discrete h.seat k)
       (λ y.
       let same : h.view ≡ v = some-injective _ _ (sym h.mine ∙ (ap (λ (n : ℕ). get_elem? s.views n) y ∙ mine)) in
-      own a done turn (ap (λ (x : View). seated_in a x.role) (sym same) ∙ h.reader) (ap done_of (sym same) ∙ h.is))
-      (λ n. keeps (record_away a done h n))
-    where
-      own : (a : ℕ) (done : List Reading) → Turn l s v w → seated_in a v.role ≡ 1 → done_of v ≡ done → RecordStep l s t r a done
-      own a done (stays e) seated is = keeps (record { seat = k; view = w; mine = here; reader = ap (λ (x : View). seated_in a x.role) e ∙ seated; is = ap done_of e ∙ is })
-      own a done (made m note e honest) seated is = absurd (not_dropped a (readers_turn (made m note e honest)) seated (ap (λ (x : View). seated_in a x.role) e))
-      own a done (entered new x e) seated is = ⊎_elim
-          (λ (one : (number : ℕ) × (front : List Made) × (v ≡ reader_view l number front (done_of v)) × (number ≡ a)).
-          let layout : v.layout ≡ l = ap (λ (u : View). u.layout) one.2 in
-          let number : number_of v ≡ one.0 = ap number_of one.2 in
-          let after : w ≡ reader_view l a new (done ++ x ∷ []) = e ∙ (λ i. reader_view (layout i) ((number ∙ one.3) i) new (is i ++ x ∷ [])) in
-          let before : v ≡ reader_view l a one.1 done = one.2 ∙ (λ i. reader_view l (one.3 i) one.1 (is i)) in
-          enters x (record {
-            before = r;
-            after = r';
-            made = refl;
-            seat = k;
-            number = a;
-            number' = a;
-            old = one.1;
-            new = new;
-            done = done;
-            reads = mine ∙ ap some before;
-            step = next ∙ ap (λ (u : View). set s.views k u) after;
-          }) refl refl (record { seat = k; view = w; mine = here; reader = ap (λ (u : View). seated_in a u.role) after ∙ hit a; is = ap done_of after }))
-          (λ (is : IsWriters v.role).
-          let y : k ≡ r.at = (log_is l s r k v mine is).2 in
-          absurd (not_lost (sym y) (λ is. subst (λ (u : View). IsWriters u.role) e is)))
-          (reader_is l v.layout r.log r.tally r.at k a v.role seated (r.views k v mine))
+      let x = kept (ap (λ (u : View). seated_in a u.role) (sym same) ∙ h.reader) in
+      record { seat = k; view = w; mine = here; reader = x.0; is = x.1 ∙ (ap done_of (sym same) ∙ h.is) })
+      (λ n. record_away a done h n)
+
+  stays_keeps : (a : ℕ) (done : List Reading) → w ≡ v → HasRecord a s done → HasRecord a t done
+  stays_keeps a done e = record_keeps a done (λ on. (ap (λ (x : View). seated_in a x.role) e ∙ on, ap done_of e))
+
+  made_keeps : (a : ℕ) (done : List Reading) (m : Made) (note : Note) → w ≡ writer_view v.layout (acts_of v ++ m ∷ []) (with_note (tally_of v) note) → IsHonest l s m → HasRecord a s done → HasRecord a t done
+  made_keeps a done m note e honest = record_keeps a done (λ on. absurd (not_dropped a (readers_turn (made m note e honest)) on (ap (λ (x : View). seated_in a x.role) e)))
+
+  -- a seat that is entered on is a reader's
+  is_entered : (new : List Made) (x : Reading) → w ≡ reader_view v.layout (number_of v) new (done_of v ++ x ∷ []) → r.at ≢ k
+  is_entered new x e y = not_lost y (λ is. subst (λ (u : View). IsWriters u.role) e is)
+
+  entered_seat : (new : List Made) (x : Reading) (e : w ≡ reader_view v.layout (number_of v) new (done_of v ++ x ∷ [])) → seated_in (number_of v) v.role ≡ 1
+  entered_seat new x e =
+      let a = number_of v in
+      let on : seated_in a w.role ≡ 1 = ap (λ (u : View). seated_in a u.role) e ∙ hit a in
+      let below = is_reader l t r' k a w here on in
+      let one = r'.single a below in
+      let one' = r.single a (omega (arith, below, readers_turn (entered new x e))) in
+      omega (arith, one, one', seats_change a, on)
+
+  -- its record has one entry more
+  adds_entry : (a : ℕ) (done : List Reading) (new : List Made) (x : Reading) → w ≡ reader_view v.layout (number_of v) new (done_of v ++ x ∷ []) → seated_in a v.role ≡ 1 → done_of v ≡ done →
+      (y : AddsEntry l s t r.log x) × (y.done ≡ done) × (y.number ≡ a) × HasRecord a t (done ++ x ∷ [])
+  adds_entry a done new x e seated is = ⊎_elim
+      (λ (one : (number : ℕ) × (front : List Made) × (v ≡ reader_view l number front (done_of v)) × (number ≡ a)).
+      let layout : v.layout ≡ l = ap (λ (u : View). u.layout) one.2 in
+      let number : number_of v ≡ one.0 = ap number_of one.2 in
+      let after : w ≡ reader_view l a new (done ++ x ∷ []) = e ∙ (λ i. reader_view (layout i) ((number ∙ one.3) i) new (is i ++ x ∷ [])) in
+      let before : v ≡ reader_view l a one.1 done = one.2 ∙ (λ i. reader_view l (one.3 i) one.1 (is i)) in
+      (record {
+        before = r;
+        after = r';
+        made = refl;
+        seat = k;
+        number = a;
+        number' = a;
+        old = one.1;
+        new = new;
+        done = done;
+        reads = mine ∙ ap some before;
+        step = next ∙ ap (λ (u : View). set s.views k u) after;
+      }, refl, refl, record { seat = k; view = w; mine = here; reader = ap (λ (u : View). seated_in a u.role) after ∙ hit a; is = ap done_of after }))
+      (λ (is : IsWriters v.role). absurd (is_entered new x e (sym (log_is l s r k v mine is).2)))
+      (reader_is l v.layout r.log r.tally r.at k a v.role seated (r.views k v mine))
+
+  -- so a step does one thing
+  pub one_turn : Turn l s v w → OneMove l s t r r'
+  one_turn (stays e) = by_log (readers_turn (stays e)) (λ a done h. stays_keeps a done e h) (log_turn (stays e))
+  one_turn (made m note e honest) = by_log (readers_turn (made m note e honest)) (λ a done h. made_keeps a done m note e honest h) (log_turn (made m note e honest))
+  one_turn (entered new x e) =
+      let a = number_of v in
+      let on = entered_seat new x e in
+      let z = adds_entry a (done_of v) new x e on refl in
+      one_entry a (done_of v) x z.0 z.1 z.2 (record { seat = k; view = v; mine = mine; reader = on; is = refl }) z.3 (away (is_entered new x e)).0 (readers_turn (entered new x e))
+      (λ b done differs h. record_keeps b done (λ there. absurd (differs (one_seated b a v.role there on))) h)

@@ -16,13 +16,7 @@ use Rattle.mc_shared.proofs.Coherence.{total_set, total_push}
 use Rattle.mc_shared.proofs.EachStep.{got_below}
 use Rattle.mc_shared.proofs.ExactSteps.{seat_counts}
 use Rattle.mc_executions.specs.Executions.{TableState, IsCut, IsJoined, HasRecord}
-use Rattle.mc_executions.proofs.ExecutionSteps.{hit, is_reader, log_is, LogStep, rests, RecordStep, keeps}
-
--- what a step does: readers are no fewer, the acts are the same or one more, and each record is the same or has one entry more
-pub record Moves (l : Layout) (s t : TableState) (r : Ruled l s) (r' : Ruled l t) : Type 0 where
-  pub readers : r.tally.readers ≤ r'.tally.readers
-  pub log : LogStep l s t r r'
-  pub records : (a : ℕ) (done : List Reading) → HasRecord a s done → RecordStep l s t r a done
+use Rattle.mc_executions.proofs.ExecutionSteps.{hit, is_reader, log_is, AllNew, OneMove, nothing}
 
 -- the writer's seat has the writer's view, alone or with a reader's
 writer_alone : (l own : Layout) (log : List Made) (all : Tally) (at seat : ℕ) (u : Role) → IsWriters u → FitsRole l own log all at seat u →
@@ -99,20 +93,16 @@ module _ (l : Layout) (s t : TableState) (r : Ruled l s) (r' : Ruled l t) where
         writer_alone l v.layout r.log r.tally r.at k v.role (subst (λ (x : View). IsWriters x.role) same r.writer.2) (r.views k v mine)
 
     -- what is known where the record of no reader changes
-    moves_cut : r.tally.readers ≤ r'.tally.readers → r'.log ≡ r.log → ((a : ℕ) → seated_in a v.role ≡ 1 → (seated_in a new.role ≡ 1) × (done_of new ≡ done_of v)) → Moves l s t r r'
-    moves_cut more log kept = record {
-      readers = more;
-      log = rests log;
-      records = λ a done h. dite (ℕ_discrete h.seat k)
-          (λ e.
-          let is : h.view ≡ v = some-injective _ _ (sym h.mine ∙ (ap (λ (n : ℕ). get_elem? s.views n) e ∙ mine)) in
-          let x = kept a (ap (λ (u : View). seated_in a u.role) (sym is) ∙ h.reader) in
-          keeps (record { seat = length (set s.views k left); view = new; mine = at_new; reader = x.0; is = x.1 ∙ (ap done_of (sym is) ∙ h.is) }))
-          (λ n. keeps (record { seat = h.seat; view = h.view; mine = at_other h.seat h.view n h.mine; reader = h.reader; is = h.is }));
-    }
+    moves_cut : r.tally.readers ≤ r'.tally.readers → r'.log ≡ r.log → AllNew l s t r r' → ((a : ℕ) → seated_in a v.role ≡ 1 → (seated_in a new.role ≡ 1) × (done_of new ≡ done_of v)) → OneMove l s t r r'
+    moves_cut more log fresh kept = nothing more log fresh (λ a done h. dite (ℕ_discrete h.seat k)
+        (λ e.
+        let is : h.view ≡ v = some-injective _ _ (sym h.mine ∙ (ap (λ (n : ℕ). get_elem? s.views n) e ∙ mine)) in
+        let x = kept a (ap (λ (u : View). seated_in a u.role) (sym is) ∙ h.reader) in
+        record { seat = length (set s.views k left); view = new; mine = at_new; reader = x.0; is = x.1 ∙ (ap done_of (sym is) ∙ h.is) })
+        (λ n. record { seat = h.seat; view = h.view; mine = at_other h.seat h.view n h.mine; reader = h.reader; is = h.is }))
 
   -- a new reader is split off the writer: no reader is joined to it, for that one would be dropped
-  pub moves_seated : IsCut with_reader_view new_reader_view s t → Moves l s t r r'
+  pub moves_seated : IsCut with_reader_view new_reader_view s t → OneMove l s t r r'
   moves_seated p =
       let v = p.v in
       let left : View = with_reader_view v in
@@ -125,6 +115,9 @@ module _ (l : Layout) (s t : TableState) (r : Ruled l s) (r' : Ruled l t) where
       (cut_writer p.seat v left new p.mine views tt) in
       let more : r'.tally.readers ≡ r.tally.readers + 1 = ap (λ (z : Tally). z.readers) (sym after.1) ∙ ap (λ (z : Tally). z.readers + 1) before.1 in
       moves_cut p.seat v left new p.mine views (omega (arith, more)) (sym after.0 ∙ before.0)
+      (λ a over under.
+      let number : (tally_of v).readers ≡ a = omega (arith, more, over, under, ap (λ (z : Tally). z.readers) before.1) in
+      record { seat = length (set s.views p.seat left); view = new; mine = at_new p.seat v left new p.mine views; reader = ap (λ (n : ℕ). seated_in a (reader_view v.layout n [] []).role) number ∙ hit a; is = refl })
       (λ a here. ⊎_elim
       (λ alone. let zero = ap (λ (u : View). seated_in a u.role) alone in absurd (omega (arith, here, zero)))
       (λ joined.
@@ -137,7 +130,7 @@ module _ (l : Layout) (s t : TableState) (r : Ruled l s) (r' : Ruled l t) where
       (cut_writer p.seat v left new p.mine views tt))
 
   -- a reader is split off the writer again: one is joined to it, for otherwise reader 0 would be there twice
-  pub moves_parted : IsCut writer_part reader_part s t → Moves l s t r r'
+  pub moves_parted : IsCut writer_part reader_part s t → OneMove l s t r r'
   moves_parted p =
       let v = p.v in
       let left : View = writer_part v in
@@ -156,7 +149,7 @@ module _ (l : Layout) (s t : TableState) (r : Ruled l s) (r' : Ruled l t) where
       (λ n. let one = r.single 0 (omega (arith, n)) in let still = r'.single 0 (omega (arith, n, same)) in absurd (omega (arith, one, still, counts, none, new_here))))
       (λ joined.
       let same : r'.tally.readers ≡ r.tally.readers = ap (λ (z : Tally). z.readers) (sym after.1 ∙ ap tally_of joined.3) in
-      moves_cut p.seat v left new p.mine views (omega (arith, same)) (sym after.0 ∙ ap acts_of joined.3)
+      moves_cut p.seat v left new p.mine views (omega (arith, same)) (sym after.0 ∙ ap acts_of joined.3) (λ a over under. absurd (omega (arith, same, over, under)))
       (λ a here. (ap (λ (u : View). seated_in a (reader_part u).role) joined.3 ∙ (ap (λ (u : View). seated_in a u.role) (sym joined.3) ∙ here), refl)))
       (cut_writer p.seat v left new p.mine views tt)
 
@@ -228,18 +221,14 @@ module _ (l : Layout) (s t : TableState) (r : Ruled l s) (r' : Ruled l t) where
         absurd (omega (arith, one, still, seats_join n, on, w_here n)))
         (writer_alone l p.v.layout r.log r.tally r.at p.seat p.v.role v_writes (r.views p.seat p.v p.mine))
 
-    pub moves_joined : Moves l s t r r'
+    pub moves_joined : OneMove l s t r r'
     moves_joined =
         let after = log_is l t r' p.seat both at_both tt in
         let same : r'.tally.readers ≡ r.tally.readers = ap (λ (z : Tally). z.readers) (sym after.1 ∙ known.1) in
-        record {
-          readers = omega (arith, same);
-          log = rests (sym after.0 ∙ known.0);
-          records = λ a done h.
-              let n = elsewhere a p.seat s done p.v h p.mine (v_alone a) in
-              dite (ℕ_discrete h.seat p.other)
-              (λ e.
-              let is : h.view ≡ p.w = some-injective _ _ (sym h.mine ∙ (ap (λ (n : ℕ). get_elem? s.views n) e ∙ p.yours)) in
-              keeps (record { seat = p.seat; view = both; mine = at_both; reader = w_here a ∙ (ap (λ (u : View). seated_in a u.role) (sym is) ∙ h.reader); is = ap done_of (sym is) ∙ h.is }))
-              (λ o. keeps (record { seat = h.seat; view = h.view; mine = at_third h.seat h.view n o h.mine; reader = h.reader; is = h.is }));
-        }
+        nothing (omega (arith, same)) (sym after.0 ∙ known.0) (λ a over under. absurd (omega (arith, same, over, under))) (λ a done h.
+        let n = elsewhere a p.seat s done p.v h p.mine (v_alone a) in
+        dite (ℕ_discrete h.seat p.other)
+        (λ e.
+        let is : h.view ≡ p.w = some-injective _ _ (sym h.mine ∙ (ap (λ (n : ℕ). get_elem? s.views n) e ∙ p.yours)) in
+        record { seat = p.seat; view = both; mine = at_both; reader = w_here a ∙ (ap (λ (u : View). seated_in a u.role) (sym is) ∙ h.reader); is = ap done_of (sym is) ∙ h.is })
+        (λ o. record { seat = h.seat; view = h.view; mine = at_third h.seat h.view n o h.mine; reader = h.reader; is = h.is }))

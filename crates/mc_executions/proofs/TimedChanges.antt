@@ -24,6 +24,7 @@ use Rattle.mc_executions.specs.TimedLookups.{HoldsNow, history_at}
 use Rattle.mc_executions.specs.TimeOrder.{ChangesAreSteps}
 use Rattle.mc_executions.proofs.ExecutionRuns.{move, front_between, acts_are}
 use Rattle.mc_executions.proofs.ExecutionSteps.{LogStep, rests, grows}
+use Rattle.mc_executions.proofs.StepMoves.{log_step}
 
 -- a deed makes at most one change
 few : (V : ℕ) (p : Phase) → length (change_of {V = V} p) ≤ 1
@@ -64,7 +65,7 @@ module _ (V : ℕ) {policy : Policy} (sh : Shape) (states : ℕ → TableState) 
   many n = length (history_at V sh states run n)
 
   many_step : (n : ℕ) → (many n ≤ many (suc n)) × (many (suc n) ≤ many n + 1)
-  many_step n = by_log (move (layout_with V policy sh) states run n).log
+  many_step n = by_log (log_step (move (layout_with V policy sh) states run n))
     where
       by_log : LogStep (layout_with V policy sh) (states n) (states (suc n)) (run.ruled n) (run.ruled (suc n)) → (many n ≤ many (suc n)) × (many (suc n) ≤ many n + 1)
       by_log (rests e) = let same = ap (λ (z : List Made). length (state_of V sh z).history) e in (omega (arith, same), omega (arith, same))

@@ -24,7 +24,8 @@ use Rattle.mc_reader.specs.Records.{HaveLooked}
 use Rattle.mc_writer.specs.WriterCalls.{RepliesNow}
 use Rattle.mc_executions.specs.Executions.{TableState, IsExecution, HasRecord, HasActs}
 use Rattle.mc_executions.specs.TimedLookups.{HoldsNow, history_at, IsTimed, LooksBetween, LookupsAreTimed, GetsAreTimed, ManyAreTimed, WritersGetsAreTimed, BesideIsTimed}
-use Rattle.mc_executions.proofs.ExecutionRuns.{FoundEntry, same_parts, entry_between, record_there, front_between, acts_are, records_pass}
+use Rattle.mc_executions.proofs.ExecutionRuns.{FoundEntry, entry_between, record_there, front_between, acts_are, records_pass}
+use Rattle.mc_executions.proofs.ListParts.{same_parts}
 use Rattle.mc_executions.proofs.TimedChanges.{begins_all, holds_between, many_rise}
 
 -- a lookup with a try left reads something

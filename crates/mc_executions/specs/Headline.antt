@@ -5,6 +5,7 @@ use Rattle.std.specs.Prelude.{ℕ}
 use Rattle.mc_executions.specs.ClearVictims.{VictimsWereClear}
 use Rattle.mc_executions.specs.EvictionExample.{EvictedThenMet}
 use Rattle.mc_executions.specs.Example.{PutBesideGet}
+use Rattle.mc_executions.specs.ExecutionTraces.{ExecutionsAreTraces}
 use Rattle.mc_executions.specs.GrownExecutions.{AllExecutionsGrow, AllReadersMayCome, AllWritersMayAct}
 use Rattle.mc_executions.specs.Linearizable.{CallsAreLinearizable}
 use Rattle.mc_executions.specs.RunningSteps.{EachIsAStep}
@@ -17,6 +18,8 @@ pub record Headline (V : ℕ) : Type 0 where
   -- every order that keeps the rule is an execution, and what follows holds of every execution. Any reader may come and read any word next,
   -- and the writer may make any lawful act next
   pub every_order : AllExecutionsGrow × AllReadersMayCome × AllWritersMayAct
+  -- each is a trace of the sequential model
+  pub one_model : ExecutionsAreTraces V
   -- a lookup's moment is between its first step and its last
   pub each_completed_lookup : LookupsAreTimed V
   -- so the reply of each call is true at a moment between call and return: by itself, in a batch, in a turn, and of shards all together

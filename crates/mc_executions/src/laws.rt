@@ -1,5 +1,6 @@
 //! The laws of executions, one function each. A body does nothing: what it ensures is the law.
 ghost use Rattle.mc_executions.specs.Headline.{Headline};
+ghost use Rattle.mc_executions.specs.ExecutionTraces.{ExecutionsAreTraces};
 ghost use Rattle.mc_executions.specs.GrownExecutions.{AllExecutionsGrow, AllReadersMayCome, AllWritersMayAct};
 ghost use Rattle.mc_executions.specs.TimedLookups.{LookupsAreTimed, GetsAreTimed, ManyAreTimed, WritersGetsAreTimed, BesideIsTimed, FallbacksAreTimed};
 ghost use Rattle.mc_executions.specs.ShardedTime.{ShardsAreTimed};
@@ -23,6 +24,11 @@ pub fn executions_grow()
     ensures { AllExecutionsGrow }
 {}
 
+/// Each execution is a trace of the sequential model, with the same acts and the same lookups.
+pub fn executions_are_traces<const V: usize>()
+    ensures { ExecutionsAreTraces V }
+{}
+
 /// A reader may be seated on a new table, and may read any word next.
 pub fn readers_may_come()
     ensures { AllReadersMayCome }
@@ -35,7 +41,7 @@ pub fn put_beside_get()
 {}
 
 /// There is an execution with two readers in which a key is put and evicted. One reader meets the writer then, and its lookup beside the writer
-/// is told that the key is gone.
+/// replies that it is absent.
 pub fn evicted_then_met()
     ensures { EvictedThenMet }
 {}

@@ -9,7 +9,7 @@ use Rattle.mc_words.specs.declared.shape.Shape.{Shape}
 use Rattle.mc_core.proofs.PairedLists.{set_there}
 use Rattle.mc_theory.proofs.Replies.Lengths.{lookup_length}
 use Rattle.mc_theory.specs.Readings.{Reading}
-use Rattle.mc_theory.specs.Traces.{Trace, OpenLookup, Steps, ReadsNext, first_read}
+use Rattle.mc_theory.specs.Traces.{Trace, OpenLookup, StepsByClock, ReadsNext, first_read}
 use Rattle.mc_theory.specs.declared.event.Event.TheVariants as event
 use Rattle.mc_replay.specs.Inside.Players.{HasAccessed, most_accesses}
 
@@ -36,7 +36,7 @@ same_run : (a b : OpenLookup) → Some (Some a) ≡ Some (Some b) → a ≡ b
 same_run a b e = cc
 
 -- each access is one more of the lookup that runs, and there are not many
-pub made_more : (V : ℕ) (sh : Shape) (w x : Trace V) (r n : ℕ) → IsShape sh → IsWidth V → Steps V sh w (event.Read r) x → HasAccessed w r n → HasAccessed x r (n + 1) × (n < most_accesses)
+pub made_more : (V : ℕ) (sh : Shape) (w x : Trace V) (r n : ℕ) → IsShape sh → IsWidth V → StepsByClock V sh w (event.Read r) x → HasAccessed w r n → HasAccessed x r (n + 1) × (n < most_accesses)
 made_more V sh w x r n sound width steps made =
     let run = steps.0 in
     let reading = steps.1 in

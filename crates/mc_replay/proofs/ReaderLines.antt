@@ -13,7 +13,7 @@ use Rattle.mc_core.proofs.PairedLists.{set_there}
 use Rattle.mc_core.proofs.WorldSteps.{reached_push}
 use Rattle.mc_theory.specs.Lists.{after_all, state_of}
 use Rattle.mc_core.specs.Seen.{WorldView, Shows, Both, IsOpenLookup}
-use Rattle.mc_theory.specs.Traces.{Trace, OpenLookup, Ended, IsReached, IsTrueEnd, Steps, EventGives, RefusesEvent}
+use Rattle.mc_theory.specs.Traces.{Trace, OpenLookup, Ended, IsReached, IsTrueEnd, StepsByClock, EventGives, RefusesEvent}
 use Rattle.mc_theory.specs.declared.event.Done.{Done}
 use Rattle.mc_theory.specs.declared.event.Event.TheVariants as event
 use Rattle.mc_theory.specs.declared.event.Stepped.{Stepped}
@@ -38,7 +38,7 @@ pub record KeepsWriter (V : ℕ) (w x : Trace V) : Type 0 where
   pub events : x.events ≡ w.events + 1
 
 -- beginning a lookup leaves the writer
-begin_keeps : (V : ℕ) (sh : Shape) (w x : Trace V) (r k : ℕ) → Steps V sh w (event.Begin r k) x → KeepsWriter V w x
+begin_keeps : (V : ℕ) (sh : Shape) (w x : Trace V) (r k : ℕ) → StepsByClock V sh w (event.Begin r k) x → KeepsWriter V w x
 begin_keeps V sh w x r k steps = record {
   acts = ap (λ (y : Trace V). y.acts) steps.3;
   readers = ap (λ (y : Trace V). length y.readers) steps.3 ∙ length-set w.readers r _;
@@ -46,7 +46,7 @@ begin_keeps V sh w x r k steps = record {
 }
 
 -- and so does a reading
-read_keeps : (V : ℕ) (sh : Shape) (w x : Trace V) (r : ℕ) → Steps V sh w (event.Read r) x → KeepsWriter V w x
+read_keeps : (V : ℕ) (sh : Shape) (w x : Trace V) (r : ℕ) → StepsByClock V sh w (event.Read r) x → KeepsWriter V w x
 read_keeps V sh w x r steps = elim steps.5 [
   | inl ends ↦ record {
     acts = ap (λ (y : Trace V). y.acts) ends.2;
@@ -122,7 +122,7 @@ fits_more V player most more running w le fits = go running fits
     go (Some p) fits = (record { at = wider fits.0.at; on = fits.0.on; now = fits.0.now; few = fits.0.few }, fits.1)
 
 -- ---- a lookup begins
-pub look_up_begins : (V : ℕ) (old new : Player V) (most r k : ℕ) (s : Replay V) (x : Trace V) → Fits V old most s → r < length old.world.readers → SameWriter V old new → Shows {V = V} new.world x → Steps V (shape_of_player old) s.world (event.Begin r k) x
+pub look_up_begins : (V : ℕ) (old new : Player V) (most r k : ℕ) (s : Replay V) (x : Trace V) → Fits V old most s → r < length old.world.readers → SameWriter V old new → Shows {V = V} new.world x → StepsByClock V (shape_of_player old) s.world (event.Begin r k) x
     → (t : Replay V) × LookUpDoes (shape_of_player old) s r k [] None t × Fits V new (most + most_steps) t
 look_up_begins V old new most r k s x fits there same shows steps =
     let at = at_of V old most s.running s.world fits in (
@@ -144,7 +144,7 @@ no_reader V old most r s fits past =
 
 -- ---- an access
 -- it leaves as many readers as there were
-pub readers_after : (V : ℕ) (sh : Shape) (old new : WorldView V) (w x : Trace V) (r : ℕ) → Shows {V = V} old w → Shows {V = V} new x → Steps V sh w (event.Read r) x → length new.readers ≡ length old.readers
+pub readers_after : (V : ℕ) (sh : Shape) (old new : WorldView V) (w x : Trace V) (r : ℕ) → Shows {V = V} old w → Shows {V = V} new x → StepsByClock V sh w (event.Read r) x → length new.readers ≡ length old.readers
 readers_after V sh old new w x r before after steps = sym (readers_of V new x after) ∙ (read_keeps V sh w x r steps).readers ∙ readers_of V old w before
 
 -- the world after an access, in the replay
@@ -156,7 +156,7 @@ ended_none : (run other : OpenLookup) → Some None ≡ Some (Some run) → ⊥
 ended_none run other e = absurd (cc (e))
 
 -- an access that gave a word ended no lookup
-told_nothing : (V : ℕ) (sh : Shape) (w x : Trace V) (r n : ℕ) → Steps V sh w (event.Read r) x → EventGives {V = V} w (event.Read r) x (stepped.Word n) → x.ended ≡ w.ended
+told_nothing : (V : ℕ) (sh : Shape) (w x : Trace V) (r n : ℕ) → StepsByClock V sh w (event.Read r) x → EventGives {V = V} w (event.Read r) x (stepped.Word n) → x.ended ≡ w.ended
 told_nothing V sh w x r n steps gives = elim steps.5 [
   | inl ends ↦ absurd (ended_none gives.0 gives.0 (sym (ap (λ (y : Trace V). slice_get y.readers r) ends.2 ∙ set_there w.readers r None (Some steps.0) steps.2) ∙ gives.3))
   | inr on ↦ ap (λ (y : Trace V). y.ended) on.1
@@ -167,7 +167,7 @@ last_ended : (V : ℕ) (sh : Shape) (w x : Trace V) (e : Ended V) → x.ended �
 last_ended V sh w x e is true = All-head (IsTrueEnd V sh x) e [] (subst (All (IsTrueEnd V sh x)) (drop-append_seam w.ended (e ∷ [])) (All-drop (IsTrueEnd V sh x) (length w.ended) (w.ended ++ e ∷ []) (subst (All (IsTrueEnd V sh x)) is true)))
 
 -- one access more
-pub access_done : (V : ℕ) (sh : Shape) (s : Replay V) (x : Trace V) (r : ℕ) (given : Stepped V) → Steps V sh s.world (event.Read r) x → EventGives {V = V} s.world (event.Read r) x given → All (IsTrueEnd V sh x) x.ended → AccessDoes V sh s r (end_text given) (after_access s x)
+pub access_done : (V : ℕ) (sh : Shape) (s : Replay V) (x : Trace V) (r : ℕ) (given : Stepped V) → StepsByClock V sh s.world (event.Read r) x → EventGives {V = V} s.world (event.Read r) x given → All (IsTrueEnd V sh x) x.ended → AccessDoes V sh s r (end_text given) (after_access s x)
 unfolding after_access
 access_done V sh s x r (stepped.Word n) steps gives true = record { steps = steps; told = inl (told_nothing V sh s.world x r n steps gives, refl); writer = refl }
 access_done V sh s x r (stepped.Done done) steps gives true =
@@ -175,7 +175,7 @@ access_done V sh s x r (stepped.Done done) steps gives true =
 access_done V sh s x r stepped.Nothing steps gives true = absurd gives
 
 -- accesses so far, and one more
-pub reads_more : (V : ℕ) (old new : Player V) (most r n : ℕ) (m : Replay V) (x : Trace V) → IsShape (shape_of_player old) → IsWidth V → ReadsSoFar V old most r n m → SameWriter V old new → Shows {V = V} new.world x → Steps V (shape_of_player old) m.world (event.Read r) x
+pub reads_more : (V : ℕ) (old new : Player V) (most r n : ℕ) (m : Replay V) (x : Trace V) → IsShape (shape_of_player old) → IsWidth V → ReadsSoFar V old most r n m → SameWriter V old new → Shows {V = V} new.world x → StepsByClock V (shape_of_player old) m.world (event.Read r) x
     → ReadsSoFar V new most r (n + 1) (after_access m x)
 unfolding after_access
 reads_more V old new most r n m x sound width so_far same shows steps =

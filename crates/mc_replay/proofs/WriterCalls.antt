@@ -15,7 +15,7 @@ use Rattle.mc_theory.specs.Lists.{Made, after_all, state_of}
 use Rattle.mc_theory.specs.Phases.{Phase, Quiet, deed_key}
 use Rattle.mc_core.specs.Seen.{WorldView, Shows, MayAct, state_after}
 use Rattle.mc_theory.specs.States.{State}
-use Rattle.mc_theory.specs.Traces.{Trace, IsReached, Steps, StepsAll, HasVersionSteps, bit_of, given_of}
+use Rattle.mc_theory.specs.Traces.{Trace, IsReached, StepsByClock, StepsAllByClock, HasVersionSteps, bit_of, given_of}
 use Rattle.mc_theory.specs.declared.act.Act.{Act}
 use Rattle.mc_theory.specs.declared.act.Act.TheVariants.{Open, Slot, Item, Moment, Close, Hand, Mark}
 use Rattle.mc_theory.specs.declared.event.Event.TheVariants as event
@@ -43,12 +43,12 @@ abbrev pub made_of : {V : ℕ} → Trace V → Act → Made
 made_of w a = record { act = a; bit = bit_of w.bits a }
 
 -- a write event makes one act
-pub makes_one : (V : ℕ) (sh : Shape) (w x : Trace V) (a : Act) → Steps V sh w (event.Write a) x → WriterMakes V sh w (made_of w a ∷ []) x
+pub makes_one : (V : ℕ) (sh : Shape) (w x : Trace V) (a : Act) → StepsByClock V sh w (event.Write a) x → WriterMakes V sh w (made_of w a ∷ []) x
 makes_one V sh w x a steps = ((x, steps, refl), ap (λ (y : Trace V). y.acts) steps.2)
 
 -- events of two lists run one after the other
-runs_append : (V : ℕ) (sh : Shape) (w m x : Trace V) (xs ys : List Made) → StepsAll V sh w (map (λ (m : Made). event.Write m.act) xs) m → StepsAll V sh m (map (λ (m : Made). event.Write m.act) ys) x → StepsAll V sh w (map (λ (m : Made). event.Write m.act) (xs ++ ys)) x
-runs_append V sh w m x [] ys first second = subst (λ (y : Trace V). StepsAll V sh y (map (λ (m : Made). event.Write m.act) ys) x) first second
+runs_append : (V : ℕ) (sh : Shape) (w m x : Trace V) (xs ys : List Made) → StepsAllByClock V sh w (map (λ (m : Made). event.Write m.act) xs) m → StepsAllByClock V sh m (map (λ (m : Made). event.Write m.act) ys) x → StepsAllByClock V sh w (map (λ (m : Made). event.Write m.act) (xs ++ ys)) x
+runs_append V sh w m x [] ys first second = subst (λ (y : Trace V). StepsAllByClock V sh y (map (λ (m : Made). event.Write m.act) ys) x) first second
 runs_append V sh w m x (a ∷ xs) ys first second = (first.0, first.1, runs_append V sh first.0 m x xs ys first.2 second)
 
 -- acts, and then others

@@ -12,7 +12,7 @@ use Rattle.mc_theory.specs.States.{State, opening}
 use Rattle.mc_search.specs.Entries.{AreEntriesOf, AreInOrder}
 use Rattle.mc_plan.specs.Loads.{Loads}
 use Rattle.mc_plan.specs.declared.answer.Why.{Why}
-use Rattle.mc_theory.specs.Traces.{Trace, OpenLookup, Ended, IsTrueEnd, first_trace, Steps, StepsAll}
+use Rattle.mc_theory.specs.Traces.{Trace, OpenLookup, Ended, IsTrueEnd, first_trace, StepsByClock, StepsAllByClock}
 use Rattle.mc_theory.specs.declared.act.Act.TheVariants.{Mark}
 use Rattle.mc_theory.specs.declared.event.Event.TheVariants as event
 use Rattle.mc_plan.specs.WholeCalls.{Call, PutCall, PutIfCall, RemoveCall, Answered, quiet_of}
@@ -44,7 +44,7 @@ state_now {V} sh s = state_of V sh s.world.acts
 
 -- the writer makes these acts, with the bits that they read, and nothing else happens
 abbrev pub WriterMakes : (V : ℕ) → Shape → Trace V → List Made → Trace V → Type 0
-WriterMakes V sh w acts x = StepsAll V sh w (map (λ (m : Made). event.Write m.act) acts) x × (x.acts ≡ w.acts ++ acts)
+WriterMakes V sh w acts x = StepsAllByClock V sh w (map (λ (m : Made). event.Write m.act) acts) x × (x.acts ≡ w.acts ++ acts)
 
 -- the line does what P says, unless a call of the writer runs
 abbrev pub WhereIdle : {V : ℕ} → Replay V → List ℕ → Option Fault → Replay V → Type 0 → Type 0
@@ -120,7 +120,7 @@ IsTold {V} sh w x text = ((x.ended ≡ w.ended) × (text ≡ [])) ⊎ ((e : Ende
 
 -- one access of a reader's lookup; after its last access the lookup's reply is written
 pub record AccessDoes (V : ℕ) (sh : Shape) (s : Replay V) (r : ℕ) (text : List ℕ) (t : Replay V) : Type 0 where
-  pub steps : Steps V sh s.world (event.Read r) t.world
+  pub steps : StepsByClock V sh s.world (event.Read r) t.world
   pub told : IsTold sh s.world t.world text
   pub writer : t.running ≡ s.running
 
@@ -140,7 +140,7 @@ OfReader s r text fault t P =
 abbrev pub LookUpDoes : {V : ℕ} → Shape → Replay V → ℕ → ℕ → List ℕ → Option Fault → Replay V → Type 0
 LookUpDoes {V} sh s r k text fault t =
     OfReader s r text fault t ((text ≡ []) × (
-    ((fault ≡ None) × Steps V sh s.world (event.Begin r k) t.world × (t.running ≡ s.running)) ⊎
+    ((fault ≡ None) × StepsByClock V sh s.world (event.Begin r k) t.world × (t.running ≡ s.running)) ⊎
     ((fault ≡ Some StillRunning) × ((run : OpenLookup) × (slice_get s.world.readers r ≡ Some (Some run))) × (t ≡ s))
     ))
 

@@ -1,5 +1,5 @@
 //! Sets of items.
-ghost use Rattle.std.specs.Prelude.{ℕ, ◌≡◌, ◌≢◌, ◌^◌, ◌<◌, ◌≤◌, ◌↔◌, IfOk, IsTrue, MatchOption};
+ghost use Rattle.std.specs.Prelude.{ℕ, ◌≡◌, ◌≢◌, ◌*◌, ◌^◌, ◌<◌, ◌≤◌, ◌↔◌, IfOk, IsTrue, MatchOption};
 ghost use Rattle.std.specs.Int.{bit_at};
 
 use std::alloc::{AllocError, Global};
@@ -76,17 +76,12 @@ impl ItemSet {
         self.len -= 1;
     }
 
-    /// An item of the set from this one on: the first, though no clause says so.
-    fn next_from(&self, from: u32) -> Option<u32>
+    /// An item of the set in this word of 64 or a later one: the first, though no clause says so.
+    fn first_from(&self, word: u32) -> Option<u32>
         requires kept { IsItemSet self.now }
-        requires in_items { from < self.now.items }
-        ensures { MatchOption result ((j : ℕ) → from ≤ j → bit_in self.now j ≡ 0) (λ i. bit_in self.now i ≡ 1) }
+        ensures { MatchOption result ((j : ℕ) → word * 64 ≤ j → bit_in self.now j ≡ 0) (λ i. bit_in self.now i ≡ 1) }
     {
-        let at = from / 64;
-        if let Some(bit) = lowest(bits_from(self.words[at as usize], from % 64)) {
-            return Some(at * 64 + bit);
-        }
-        'words: for next in at + 1..self.items / 64 + 1 {
+        'words: for next in word..self.items / 64 + 1 {
             if let Some(bit) = lowest(self.words[next as usize]) {
                 return Some(next * 64 + bit);
             }
@@ -95,15 +90,20 @@ impl ItemSet {
     }
 
     /// An item of the set, from this one on round the items.
+    #[inline(always)]
     pub(crate) fn next_round(&self, from: u32) -> Option<u32>
         requires kept { IsItemSet self.now }
         requires in_items { from < self.now.items }
         ensures { MatchOption result ((j : ℕ) → bit_in self.now j ≡ 0) (λ i. bit_in self.now i ≡ 1) }
     {
-        if let Some(item) = self.next_from(from) {
+        let at = from / 64;
+        if let Some(bit) = lowest(bits_from(self.words[at as usize], from % 64)) {
+            return Some(at * 64 + bit);
+        }
+        if let Some(item) = self.first_from(at + 1) {
             return Some(item);
         }
-        self.next_from(0)
+        self.first_from(0)
     }
 }
 

@@ -1,4 +1,5 @@
 pub mod ReachedTraces
+pub mod Orders
 pub mod Bits
 pub mod ToldHistories
 pub mod Spans

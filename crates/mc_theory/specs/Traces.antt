@@ -4,7 +4,7 @@ use Rattle.mc_words.specs.History.{IsTrueAnswer}
 use Rattle.mc_words.specs.Shapes.{IsShape}
 use Rattle.mc_words.specs.declared.history.Reply.{Reply}
 use Rattle.mc_words.specs.declared.shape.Shape.{Shape}
-use Rattle.mc_theory.specs.Acts.{IsAllowedByClock}
+use Rattle.mc_theory.specs.Acts.{IsAllowed, IsAllowedByClock}
 use Rattle.mc_theory.specs.Lists.{Made, IsLawful, state_of, front}
 use Rattle.mc_theory.specs.Lookups.{IsLookup}
 use Rattle.mc_theory.specs.Plain.{IsBetween, events_made}
@@ -132,17 +132,32 @@ ContinuesRead V sh w r run reading x =
       events = w.events + 1;
     })
 
--- the event leads from one trace to the other
-abbrev pub Steps : (V : ℕ) → Shape → Trace V → Event → Trace V → Type 0
-Steps V sh w (Write a) x =
-    IsAllowedByClock sh (state_of V sh w.acts) a × IsWithin sh w (Write a) ×
-    (x ≡ record w { acts = w.acts ++ record { act = a; bit = bit_of w.bits a } ∷ []; bits = bits_after w.bits a; events = w.events + 1 })
-Steps V sh w (Begin r k) x =
+-- the trace with one act more, and the bit that it read
+abbrev pub with_act : {V : ℕ} → Trace V → Act → ℕ → Trace V
+with_act w a bit = record w { acts = w.acts ++ record { act = a; bit = bit } ∷ []; bits = bits_after w.bits a; events = w.events + 1 }
+
+-- a reader begins a lookup, or reads a word
+abbrev pub Begins : (V : ℕ) → Shape → Trace V → ℕ → ℕ → Trace V → Type 0
+Begins V sh w r k x =
     (slice_get w.readers r ≡ Some None) × (k < 2 ^ 64) × IsWithin sh w (Begin r k) ×
     (x ≡ record w { readers = slice_set w.readers r (Some (record { key = k; sofar = []; first = 0 })); events = w.events + 1 })
-Steps V sh w (Read r) x =
+
+abbrev pub ReadsOn : (V : ℕ) → Shape → Trace V → ℕ → Trace V → Type 0
+ReadsOn V sh w r x =
     (run : OpenLookup) × (reading : Reading) × (slice_get w.readers r ≡ Some (Some run)) × ReadsNext V sh w run reading × IsWithin sh w (Read r) × (
     EndsRead V sh w r run reading x ⊎ ContinuesRead V sh w r run reading x)
+
+-- the event leads from one trace to the other: an act is any lawful one, and the hand reads whatever bit
+abbrev pub Steps : (V : ℕ) → Shape → Trace V → Event → Trace V → Type 0
+Steps V sh w (Write a) x = (bit : ℕ) × IsAllowed sh (state_of V sh w.acts) a × IsWithin sh w (Write a) × (x ≡ with_act w a bit)
+Steps V sh w (Begin r k) x = Begins V sh w r k x
+Steps V sh w (Read r) x = ReadsOn V sh w r x
+
+-- the same in CLOCK's order, and the hand reads the bit that its item has
+abbrev pub StepsByClock : (V : ℕ) → Shape → Trace V → Event → Trace V → Type 0
+StepsByClock V sh w (Write a) x = IsAllowedByClock sh (state_of V sh w.acts) a × IsWithin sh w (Write a) × (x ≡ with_act w a (bit_of w.bits a))
+StepsByClock V sh w (Begin r k) x = Begins V sh w r k x
+StepsByClock V sh w (Read r) x = ReadsOn V sh w r x
 
 -- what an event that leads from one trace to the other gives: an access gives the word that it read, and the access that ends a lookup
 -- gives what is then returned
@@ -158,6 +173,10 @@ abbrev pub StepsAll : (V : ℕ) → Shape → Trace V → List Event → Trace V
 StepsAll V sh w [] x = x ≡ w
 StepsAll V sh w (e ∷ es) x = (mid : Trace V) × Steps V sh w e mid × StepsAll V sh mid es x
 
+abbrev pub StepsAllByClock : (V : ℕ) → Shape → Trace V → List Event → Trace V → Type 0
+StepsAllByClock V sh w [] x = x ≡ w
+StepsAllByClock V sh w (e ∷ es) x = (mid : Trace V) × StepsByClock V sh w e mid × StepsAllByClock V sh mid es x
+
 -- when a run stopped, the next event is refused, and not because there is no memory
 abbrev pub StopsAt : {V : ℕ} → Shape → Trace V → List Event → Option (ℕ × Unlawful) → Type 0
 StopsAt sh w events None = Unit {0}
@@ -165,17 +184,17 @@ StopsAt sh w events (Some stop) = (e : Event) × (slice_get events stop.0 ≡ So
 
 -- the events lead from one trace to the other, up to the first that is refused; done is what the lookups that ended returned
 pub record HasRun (V : ℕ) (sh : Shape) (w x : Trace V) (events : List Event) (done : List (Done V)) (stopped : Option (ℕ × Unlawful)) : Type 0 where
-  pub runs : StepsAll V sh w (events_made events stopped) x
+  pub runs : StepsAllByClock V sh w (events_made events stopped) x
   pub ended : List (Ended V)
   pub more : x.ended ≡ w.ended ++ ended
   pub told : done ≡ map (λ e. e.told) ended
   pub stops : StopsAt sh x events stopped
 
--- some events lead to the trace from a new one
+-- some events lead to the trace from a new one, in CLOCK's order
 pub record IsReached (V : ℕ) (sh : Shape) (w : Trace V) : Type 0 where
   pub readers : ℕ
   pub events : List Event
-  pub runs : StepsAll V sh (first_trace V sh readers) events w
+  pub runs : StepsAllByClock V sh (first_trace V sh readers) events w
 
 -- the front of the first reading
 abbrev pub start_of : List Reading → ℕ
@@ -196,4 +215,5 @@ TracesAreTrue V =
 
 -- whatever the events are: there is a recency bit for each item, and each is 0 or 1
 abbrev pub BitsStay : ℕ → Type 0
-BitsStay V = (sh : Shape) (w : Trace V) → IsReached V sh w → (length w.bits ≡ sh.items) × All IsBit w.bits
+BitsStay V =
+    (sh : Shape) (readers : ℕ) (es : List Event) (w : Trace V) → StepsAll V sh (first_trace V sh readers) es w → (length w.bits ≡ sh.items) × All IsBit w.bits

@@ -36,7 +36,7 @@ pub record MakesEvent {V : ℕ} (old new : Parts V) (e : Event) (out : Stepped V
   pub shape : shape_of_parts new ≡ shape_of_parts old
   pub state : (view_of new).state ≡ state_after (view_of old) e
   pub room : room_of old.writer ≤ room_of new.writer + 1
-  pub leads : (seen : traces.Trace V) → StandFor old seen → (next : traces.Trace V) × traces.Steps V (shape_of_parts old) seen e next × traces.EventGives seen e next out × StandFor new next
+  pub leads : (seen : traces.Trace V) → StandFor old seen → (next : traces.Trace V) × traces.StepsByClock V (shape_of_parts old) seen e next × traces.EventGives seen e next out × StandFor new next
 
 -- the event was refused, and nothing is changed; the reason is memory only if there was no room for a change
 pub record PartsRefuse {V : ℕ} (old new : Parts V) (e : Event) (why : Unlawful) : Type 0 where
@@ -48,5 +48,5 @@ pub record PartsRefuse {V : ℕ} (old new : Parts V) (e : Event) (why : Unlawful
 -- these events were made, and `after` is `before` with what the lookups that ended in them returned
 pub record MakesEvents {V : ℕ} (old new : Parts V) (events : List Event) (before after : List (Done V)) : Type 0 where
   pub shape : shape_of_parts new ≡ shape_of_parts old
-  pub made : (seen : traces.Trace V) → StandFor old seen → (x : traces.Trace V) × traces.StepsAll V (shape_of_parts old) seen events x × StandFor new x ×
+  pub made : (seen : traces.Trace V) → StandFor old seen → (x : traces.Trace V) × traces.StepsAllByClock V (shape_of_parts old) seen events x × StandFor new x ×
       ((ended : List (traces.Ended V)) × (x.ended ≡ seen.ended ++ ended) × (after ≡ before ++ map (λ e. e.told) ended))

@@ -43,7 +43,7 @@ access_keeps n bits access.Moment all = all
 
 -- each event keeps them
 step_keeps : (V : ℕ) (sh : Shape) (n : ℕ) (w x : Trace V) (e : Event) → Steps V sh w e x → AreBits n w.bits → AreBits n x.bits
-step_keeps V sh n w x (Write a) s all = subst (λ (y : Trace V). AreBits n y.bits) (sym s.2) (act_keeps n w.bits a all)
+step_keeps V sh n w x (Write a) s all = subst (λ (y : Trace V). AreBits n y.bits) (sym s.3) (act_keeps n w.bits a all)
 step_keeps V sh n w x (Begin r k) s all = subst (λ (y : Trace V). AreBits n y.bits) (sym s.3) all
 step_keeps V sh n w x (Read r) s all = elim s.5 [
   | inl over ↦ subst (λ (y : Trace V). AreBits n y.bits) (sym over.2) (access_keeps n w.bits s.1.access all)
@@ -57,7 +57,7 @@ run_keeps V sh n w x (e ∷ es) r all = run_keeps V sh n r.0 x es r.2 (step_keep
 
 -- a new trace has a bit for each item, and so has every one that is reached
 pub bits_stay : (V : ℕ) → BitsStay V
-bits_stay V sh w reached =
-    let new : AreBits sh.items (first_trace V sh reached.readers).bits = record { many = length-replicate {A = ℕ} sh.items 0; each = All-replicate IsBit sh.items 0 (inl refl) } in
-    let all = run_keeps V sh sh.items (first_trace V sh reached.readers) w reached.events reached.runs new in
+bits_stay V sh readers es w runs =
+    let new : AreBits sh.items (first_trace V sh readers).bits = record { many = length-replicate {A = ℕ} sh.items 0; each = All-replicate IsBit sh.items 0 (inl refl) } in
+    let all = run_keeps V sh sh.items (first_trace V sh readers) w es runs new in
     (all.many, all.each)

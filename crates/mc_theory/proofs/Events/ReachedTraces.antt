@@ -9,7 +9,7 @@ use Rattle.mc_theory.specs.Lookups.{IsLookup}
 use Rattle.mc_theory.specs.Phases.{close_owed}
 use Rattle.mc_theory.specs.Readings.{AreRead, IsWordOf, Reading, RiseTo}
 use Rattle.mc_theory.specs.States.{State}
-use Rattle.mc_theory.specs.Traces.{OpenLookup, Ended, Trace, bit_of, ReadsNext, Steps, StepsAll, start_of, first_trace, first_read, IsTrueEnd, TracesAreTrue}
+use Rattle.mc_theory.specs.Traces.{OpenLookup, Ended, Trace, ReadsNext, Steps, StepsAll, start_of, first_trace, first_read, IsTrueEnd, TracesAreTrue}
 use Rattle.mc_theory.specs.declared.event.Event.{Event}
 use Rattle.mc_theory.specs.declared.event.Event.TheVariants.{Write, Begin, Read}
 use Rattle.mc_words.specs.Shapes.{IsShape}
@@ -86,9 +86,9 @@ sound_of V sh acts a b e s =
 -- each event keeps it
 pub step_holds : (V : ℕ) (sh : Shape) (w x : Trace V) (e : Event) → WorldHolds V sh w → Steps V sh w e x → WorldHolds V sh x
 step_holds V sh w x (Write a) h s =
-    let y : Made = record { act = a; bit = bit_of w.bits a } in
-    subst (λ (z : Trace V). WorldHolds V sh z) (sym s.2) (record {
-      lawful = lawful_push V sh w.acts y h.lawful s.0.0;
+    let y : Made = record { act = a; bit = s.0 } in
+    subst (λ (z : Trace V). WorldHolds V sh z) (sym s.3) (record {
+      lawful = lawful_push V sh w.acts y h.lawful s.1;
       running = λ r run e. sound_push V sh w.acts y run.key run.sofar (length w.acts) (length (w.acts ++ y ∷ [])) (omega (arith, length_push w.acts y)) (omega (arith, length_push w.acts y)) (h.running r run e);
       ended = ended_push V sh w.acts y w.ended h.ended;
     })

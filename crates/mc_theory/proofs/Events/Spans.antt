@@ -233,7 +233,7 @@ open_as es r q a b same e o =
 step_traces : (V : ℕ) (sh : Shape) (es : List Event) (w x : Trace V) (e : Event) → Traces V es w → Steps V sh w e x → Traces V (es ++ e ∷ []) x
 step_traces V sh es w x (Write a) h s =
     let e : Event = Write a in
-    subst (λ (z : Trace V). Traces V (es ++ e ∷ []) z) (sym s.2) (record {
+    subst (λ (z : Trace V). Traces V (es ++ e ∷ []) z) (sym s.3) (record {
       counted = omega (arith, h.counted, length_push es e);
       acts = map-append act_of w.acts _ ∙ ap (λ (made : List Act). made ++ a ∷ []) h.acts ∙ sym (acts_in-append es (e ∷ []));
       running = λ r run is. open_longer es e r run (λ k f. absurd (cc (f))) (λ f. absurd (cc (f))) (h.running r run is);

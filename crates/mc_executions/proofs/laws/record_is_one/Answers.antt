@@ -1,4 +1,4 @@
-use Rattle.mc_executions.proofs.ExecutionRuns.{record_is_one}
+use Rattle.mc_executions.proofs.StepMoves.{record_is_one}
 use Rattle.mc_executions.proofs.laws.record_is_one.Goals as goal
 
 pub returns : goal.returns

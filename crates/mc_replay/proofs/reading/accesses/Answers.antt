@@ -1,6 +1,6 @@
 use Rattle.std.proofs.Common.{◌≡◌, ℕ, ◌+◌, ◌++◌, All, List, refl, subst, sym, ◌∙◌, arith, Some, None, string_bytes, rules, ◌<◌, ◌≤◌, length}
 use Rattle.mc_words.specs.declared.shape.Shape.{Shape}
-use Rattle.mc_theory.specs.Traces.{IsTrueEnd, Steps}
+use Rattle.mc_theory.specs.Traces.{IsTrueEnd, StepsByClock}
 use Rattle.mc_theory.specs.declared.event.Event.TheVariants as event
 use Rattle.mc_replay.specs.declared.player.Player.{Player}
 use Rattle.mc_replay.specs.declared.fault.Fault.TheVariants.{NothingToStep}
@@ -30,7 +30,7 @@ accesses-preserved g c =
           let m = so_far.0 in
           let at = at_of g.row.V mid _ m.running m.world so_far.2.fits in
           let did = c.in-Ok.ensures.told m.world at.world at.reached in
-          let steps : Steps g.row.V (shape_of_player old) m.world (event.Read c.args.reader) did.0 = subst (λ (y : Shape). Steps g.row.V y m.world (event.Read c.args.reader) did.0) c.accesses.invariant.shape did.1 in
+          let steps : StepsByClock g.row.V (shape_of_player old) m.world (event.Read c.args.reader) did.0 = subst (λ (y : Shape). StepsByClock g.row.V y m.world (event.Read c.args.reader) did.0) c.accesses.invariant.shape did.1 in
           let true = subst (λ (y : Shape). All (IsTrueEnd g.row.V y did.0) did.0.ended) c.accesses.invariant.shape did.5 in
           let access = access_done g.row.V (shape_of_player old) m did.0 c.args.reader c.in-Ok.given steps did.2 true in
           let pushed = accesses_push (shape_of_player old) c.accesses.counter s m (after_access m did.0) c.args.reader (string_bytes c.accesses.text) (end_text c.in-Ok.given) so_far.1 access in

@@ -4,15 +4,15 @@ use Rattle.std.specs.Prelude.{All}
 use Rattle.mc_core.specs.Inside.Parts.{shape_of_parts, view_of}
 use Rattle.mc_core.specs.Seen.{WorldView, Shows}
 use Rattle.mc_theory.specs.Traces.{Trace, IsBit, IsReached, IsTrueEnd}
-use Rattle.mc_theory.proofs.Events.ReachedTraces.{traces_are_true}
 use Rattle.mc_core.proofs.PackedBits.{bits_now}
+use Rattle.mc_core.proofs.WorldSteps.{reached_true}
 use Rattle.mc_core.proofs.world.World.reached.Goals as goal
 
 pub returns-clause-events : goal.returns-clause-events
 returns-clause-events g c =
     let is = c.self.invariant in
     let p = c.self.inside.parts in
-    let true = (traces_are_true g.row.V (shape_of_parts p) is.reached.readers is.reached.events is.seen p.writer.table.checked.sound is.reached.runs).1 in
+    let true = reached_true g.row.V (shape_of_parts p) is.seen p.writer.table.checked.sound is.reached in
     subst (λ (now : WorldView g.row.V). (seen : Trace g.row.V) × IsReached g.row.V now.shape seen × Shows {V = g.row.V} now seen × All (IsTrueEnd g.row.V now.shape seen) seen.ended) c.self.view_is
     (is.seen, is.reached, is.stand.shows, true)
 

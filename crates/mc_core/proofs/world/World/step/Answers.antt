@@ -4,7 +4,7 @@ use Rattle.mc_theory.specs.declared.act.Act.TheVariants as act
 use Rattle.mc_theory.specs.declared.event.Event.TheVariants.{Write}
 use Rattle.mc_theory.specs.declared.event.Unlawful.TheVariants as unlawful
 use Rattle.mc_core.specs.Seen.{WorldView, Shows, MayAct, state_after}
-use Rattle.mc_theory.specs.Traces.{Trace, bit_of, given_of, Steps, EventGives, RefusesEvent, IsReached, IsTrueEnd}
+use Rattle.mc_theory.specs.Traces.{Trace, bit_of, given_of, StepsByClock, EventGives, RefusesEvent, IsReached, IsTrueEnd}
 use Rattle.mc_words.specs.Shapes.{IsShape}
 use Rattle.std.specs.Prelude.{All}
 use Rattle.std.proofs.lemmas.Result.{IfOk-weaker, IfErr-weaker}
@@ -21,7 +21,7 @@ invariant_of-self g c = reached_after c.self.inside.parts c.step.new.self c.args
 
 pub returns-clause-ok : goal.returns-clause-ok
 returns-clause-ok g c =
-    subst (λ (old : WorldView g.row.V). IfOk c.step.result (λ out. (seen : Trace g.row.V) → Shows {V = g.row.V} old seen → (next : Trace g.row.V) × Steps g.row.V old.shape seen c.args.event next × EventGives {V = g.row.V} seen c.args.event next out × Shows {V = g.row.V} (view_of {V = g.row.V} c.step.new.self) next)) c.self.view_is
+    subst (λ (old : WorldView g.row.V). IfOk c.step.result (λ out. (seen : Trace g.row.V) → Shows {V = g.row.V} old seen → (next : Trace g.row.V) × StepsByClock g.row.V old.shape seen c.args.event next × EventGives {V = g.row.V} seen c.args.event next out × Shows {V = g.row.V} (view_of {V = g.row.V} c.step.new.self) next)) c.self.view_is
     (leads_shown c.self.inside.parts c.step.new.self c.args.event c.step.result c.self.invariant c.step.ensures.made)
 
 pub returns-clause-refused : goal.returns-clause-refused
@@ -48,7 +48,7 @@ pub returns-clause-told : goal.returns-clause-told
 returns-clause-told g c =
     let sound : IsShape (view_of {V = g.row.V} c.self.inside.parts).shape = c.self.inside.parts.writer.table.checked.sound in
     subst (λ (old : WorldView g.row.V). IfOk c.step.result (λ out. (seen : Trace g.row.V) → Shows {V = g.row.V} old seen → IsReached g.row.V old.shape seen →
-    (next : Trace g.row.V) × Steps g.row.V old.shape seen c.args.event next × EventGives {V = g.row.V} seen c.args.event next out × Shows {V = g.row.V} (view_of {V = g.row.V} c.step.new.self) next ×
+    (next : Trace g.row.V) × StepsByClock g.row.V old.shape seen c.args.event next × EventGives {V = g.row.V} seen c.args.event next out × Shows {V = g.row.V} (view_of {V = g.row.V} c.step.new.self) next ×
     IsReached g.row.V old.shape next × All (IsTrueEnd g.row.V old.shape next) next.ended)) c.self.view_is
     (IfOk-weaker c.step.result _ _ (λ out leads seen shows reached.
     let n = leads seen shows in
