@@ -13,12 +13,13 @@ use Rattle.mc_executions.proofs.RunningSteps.{each_is_a_step}
 use Rattle.mc_executions.proofs.ShardedTime.{shards_are_timed}
 use Rattle.mc_executions.proofs.TimedChanges.{changes_are_steps}
 use Rattle.mc_executions.proofs.TimedLookups.{gets_are_timed, lookups_are_timed, many_are_timed}
+use Rattle.mc_executions.proofs.TracedCalls.{calls_keep_whole}
 use Rattle.mc_executions.proofs.TimeOrder.{moments_keep_order, writes_are_seen}
 
 pub headline : (V : ℕ) → Headline V
 headline V = record {
   every_order = (executions_grow, readers_may_come, writers_may_act);
-  one_model = executions_are_traces V;
+  one_model = (executions_are_traces V, calls_keep_whole V);
   each_completed_lookup = lookups_are_timed V;
   each_call = (gets_are_timed V, many_are_timed V, fallbacks_are_timed V, shards_are_timed V);
   each_change = changes_are_steps V;

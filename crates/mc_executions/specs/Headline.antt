@@ -11,6 +11,7 @@ use Rattle.mc_executions.specs.Linearizable.{CallsAreLinearizable}
 use Rattle.mc_executions.specs.RunningSteps.{EachIsAStep}
 use Rattle.mc_executions.specs.ShardedTime.{ShardsAreTimed}
 use Rattle.mc_executions.specs.TimedLookups.{FallbacksAreTimed, GetsAreTimed, LookupsAreTimed, ManyAreTimed}
+use Rattle.mc_executions.specs.TracedCalls.{CallsKeepWhole}
 use Rattle.mc_executions.specs.TimeOrder.{ChangesAreSteps, MomentsKeepOrder, WritesAreSeen}
 
 -- the values have V words
@@ -18,8 +19,8 @@ pub record Headline (V : ℕ) : Type 0 where
   -- every order that keeps the rule is an execution, and what follows holds of every execution. Any reader may come and read any word next,
   -- and the writer may make any lawful act next
   pub every_order : AllExecutionsGrow × AllReadersMayCome × AllWritersMayAct
-  -- each is a trace of the sequential model
-  pub one_model : ExecutionsAreTraces V
+  -- each is a trace of the sequential model, if readers' records are made of lookups and marks. Their calls make them so
+  pub one_model : ExecutionsAreTraces V × CallsKeepWhole V
   -- a lookup's moment is between its first step and its last
   pub each_completed_lookup : LookupsAreTimed V
   -- so the reply of each call is true at a moment between call and return: by itself, in a batch, in a turn, and of shards all together

@@ -9,6 +9,7 @@ ghost use Rattle.mc_executions.specs.ClearVictims.{VictimsWereClear};
 ghost use Rattle.mc_executions.specs.Linearizable.{CallsAreLinearizable};
 ghost use Rattle.mc_executions.specs.RunningDoor.{AnswersAreTimed};
 ghost use Rattle.mc_executions.specs.RunningSteps.{EachIsAStep};
+ghost use Rattle.mc_executions.specs.TracedCalls.{CallsKeepWhole};
 ghost use Rattle.mc_executions.specs.EvictionExample.{EvictedThenMet};
 ghost use Rattle.mc_executions.specs.Example.{PutBesideGet};
 
@@ -27,6 +28,11 @@ pub fn executions_grow()
 /// Each execution is a trace of the sequential model, with the same acts and the same lookups.
 pub fn executions_are_traces<const V: usize>()
     ensures { ExecutionsAreTraces V }
+{}
+
+/// The calls of readers add whole lookups and single marks to their records, and nothing else.
+pub fn calls_keep_whole<const V: usize>()
+    ensures { CallsKeepWhole V }
 {}
 
 /// A reader may be seated on a new table, and may read any word next.
