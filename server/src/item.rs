@@ -5,7 +5,7 @@ use crate::slabs;
 use cefrodil_map::{Block, Bytes, Head};
 use std::alloc::Layout;
 use std::mem::offset_of;
-use std::sync::atomic::{AtomicBool, AtomicU64, Ordering::Relaxed};
+use std::sync::atomic::{AtomicU64, AtomicU8, Ordering::Relaxed};
 
 /// A key, its value, and what belongs to them.
 pub type Item = Bytes<About>;
@@ -21,9 +21,15 @@ pub struct About {
     deadline: AtomicU64,
     pub flags: u32,
     value: u32,
-    is_fetched: AtomicBool,
+    marks: AtomicU8,
     key: u8,
 }
+
+/// Marks of an item: a client has fetched it; its value is out of date; a client was told to fetch the value anew from where it comes.
+// Each is one step, and says nothing of other memory.
+const FETCHED: u8 = 1;
+pub const STALE: u8 = 2;
+pub const WON: u8 = 4;
 
 // SAFETY: `key` is the last field, and has one byte. Nobody changes the lengths. The memory is that of an allocator.
 unsafe impl Head for About {
@@ -53,7 +59,7 @@ pub fn new_item(born: u64, flags: u32, deadline: u64, key: &[u8], value: &[&[u8]
         flags,
         value: length.try_into().expect("the longest value has 128 MB"),
         key: key.len().try_into().expect("the longest key has 250 bytes"),
-        is_fetched: AtomicBool::new(false),
+        marks: AtomicU8::new(0),
     };
     let item = may_fail(|| NewItem::try_new(about, key, value))?;
     slabs::note(&item).then_some(item)
@@ -85,12 +91,26 @@ impl About {
 
     pub fn note_fetched(&self) {
         if !self.was_fetched() {
-            self.is_fetched.store(true, Relaxed);
+            self.mark(FETCHED);
         }
     }
 
     pub fn was_fetched(&self) -> bool {
-        // A hint, for counts alone.
-        self.is_fetched.load(Relaxed)
+        self.has(FETCHED)
+    }
+
+    /// Sets this mark. Returns whether it was clear: of two clients that set it, one is told so.
+    pub fn mark(&self, mark: u8) -> bool {
+        self.marks.fetch_or(mark, Relaxed) & mark == 0
+    }
+
+    /// Makes an item that is not in the index stale, with this deadline.
+    pub fn make_stale(&self, deadline: u64, is_won: bool) {
+        self.touch(deadline);
+        self.mark(if is_won { STALE | WON } else { STALE });
+    }
+
+    pub fn has(&self, mark: u8) -> bool {
+        self.marks.load(Relaxed) & mark != 0
     }
 }

@@ -31,6 +31,12 @@ pub struct Meta<'a> {
     pub with_value: bool,
     /// `T`: the new time to live.
     pub expiry: Option<i64>,
+    /// `N` of `mg`: the time to live of an empty item that is made if there is none.
+    pub vivified: Option<i64>,
+    /// `R`: with less time to live the item is to be fetched anew.
+    pub recached: Option<i64>,
+    /// `I` of `md`: whether the item becomes stale, and stays.
+    pub invalidates: bool,
     /// `M` of `ma`: whether it subtracts.
     pub subtracts: bool,
     /// `D`: what is added or subtracted.
@@ -105,6 +111,11 @@ impl Meta<'_> {
                 self.made_expiry = self.order.expiry;
             }
             (b'C', _) => self.order.compare = Some(number::unsigned(token).ok_or(self.bad_token())?),
+            (b'h', Verb::Get) => {}
+            (b'N', Verb::Get) => self.vivified = Some(number::integer(token).ok_or(self.bad_token())?),
+            (b'R', Verb::Get) => self.recached = Some(number::integer(token).ok_or(self.bad_token())?),
+            (b'I', Verb::Set) => self.order.may_be_stale = true,
+            (b'I', Verb::Delete) => self.invalidates = true,
             (b'F', Verb::Set) => self.order.flags = number::flags(token).ok_or(FORMAT)?,
             (b'D', Verb::Arithmetic) => self.delta = number::unsigned(token).ok_or(self.bad_token())?,
             (b'J', Verb::Arithmetic) => self.initial = number::unsigned(token).ok_or(self.bad_token())?,

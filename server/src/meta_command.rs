@@ -2,7 +2,7 @@
 use crate::command::{count_change, line, text, NOT_NUMERIC};
 use crate::counts::Count;
 use crate::index::Token;
-use crate::item::Item;
+use crate::item::{Item, STALE, WON};
 use crate::meta::{Meta, Verb};
 use crate::number;
 use crate::output::Output;
@@ -18,6 +18,9 @@ struct Facts {
     flags: Option<i64>,
     size: Option<i64>,
     left: Option<i64>,
+    hit: Option<i64>,
+    /// What comes behind all flags.
+    marks: &'static str,
 }
 
 fn with(token: Token) -> Facts {
@@ -30,17 +33,44 @@ pub fn run(store: &Store, meta: &Meta, data: &[u8], out: &mut Output) {
     match meta.verb {
         Verb::Get => get(store, meta, out),
         Verb::Set => tell(meta, store.store(&meta.order, data), out),
+        Verb::Delete if meta.invalidates => {
+            let deadline = meta.expiry.map(|expiry| store.books.clock.deadline(expiry));
+            tell(meta, store.invalidate(meta.order.key, meta.order.compare, deadline), out)
+        }
         Verb::Delete => tell(meta, store.delete(meta.order.key, meta.order.compare), out),
         Verb::Arithmetic => change(store, meta, out),
     }
 }
 
 fn get(store: &Store, meta: &Meta, out: &mut Output) {
+    if look(store, meta, false, out) {
+        return;
+    }
+    if let Some(expiry) = meta.vivified {
+        let order = Order { how: How::Add, expiry, is_won: true, ..meta.order };
+        match store.store(&order, b"") {
+            Ok(made) if look(store, meta, matches!(made, Answer::Done(_)), out) => return,
+            // It has gone again.
+            Ok(_) => {}
+            Err(why) => return line(out, why.text()),
+        }
+    }
+    if !meta.is_quiet {
+        answer(meta, "EN", &Facts::default(), out);
+    }
+}
+
+/// Answers with the key's item, if there is one. Returns whether there is.
+fn look(store: &Store, meta: &Meta, is_made: bool, out: &mut Output) -> bool {
     let mut is_found = false;
     let each = |_, item: &Item, token| {
         is_found = true;
         let (size, left) = (item.value().len(), store.books.clock.left(item.deadline()));
-        let facts = Facts { flags: Some(item.flags.into()), size: Some(size as i64), left: Some(left), ..with(token) };
+        let mut facts = Facts { flags: Some(item.flags.into()), size: Some(size as i64), left: Some(left), ..with(token) };
+        facts.hit = Some(item.was_fetched().into());
+        // -1: it stays.
+        let ends_soon = meta.recached.is_some_and(|time| (0..time).contains(&left));
+        facts.marks = marks(item, is_made, ends_soon);
         if meta.with_value {
             out.extend_from_slice(b"VA ");
             number::write(out, size);
@@ -55,8 +85,19 @@ fn get(store: &Store, meta: &Meta, out: &mut Output) {
         Some(expiry) => store.look_and_touch(&[meta.order.key], store.books.clock.deadline(expiry), each),
         None => store.look(&[meta.order.key], each),
     };
-    if !is_found && !meta.is_quiet {
-        answer(meta, "EN", &Facts::default(), out);
+    is_found
+}
+
+/// What a client is told beside what it asks for: that another one fetches the value anew, that it is stale, and that this client is to fetch it.
+fn marks(item: &Item, is_made: bool, ends_soon: bool) -> &'static str {
+    let is_stale = item.has(STALE);
+    let wins = is_made || (is_stale || ends_soon) && item.mark(WON);
+    match (wins, is_stale) {
+        (true, true) => " X W",
+        (true, false) => " W",
+        (false, true) => " Z X",
+        (false, false) if item.has(WON) => " Z",
+        (false, false) => "",
     }
 }
 
@@ -134,6 +175,7 @@ fn write_flags(meta: &Meta, facts: &Facts, out: &mut Vec<u8>) {
             b'f' => (None, facts.flags),
             b's' => (None, facts.size),
             b't' => (None, facts.left),
+            b'h' => (None, facts.hit),
             _ => (None, None),
         };
         if text.is_some() || fact.is_some() {
@@ -142,4 +184,5 @@ fn write_flags(meta: &Meta, facts: &Facts, out: &mut Vec<u8>) {
             fact.into_iter().for_each(|fact| number::write(out, fact));
         }
     }
+    out.extend_from_slice(facts.marks.as_bytes());
 }

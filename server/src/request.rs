@@ -76,6 +76,10 @@ pub struct Order<'a> {
     pub length: usize,
     /// The token that the item must have.
     pub compare: Option<u64>,
+    /// Whether it is stored as stale over an item with a newer token.
+    pub may_be_stale: bool,
+    /// Whether it is marked as won.
+    pub is_won: bool,
 }
 
 /// What becomes of a number.
@@ -179,7 +183,7 @@ fn store<'a>(how: How, words: &[&'a [u8]], compare: Option<u64>) -> Result<Reque
     let flags = number::flags(words[2]).ok_or(FORMAT)?;
     let expiry = number::integer(words[3]).ok_or(FORMAT)?;
     let length = number::length(words[4]).ok_or(FORMAT)?;
-    Ok(Request::Store(Order { how, key: key(words[1])?, flags, expiry, length, compare }))
+    Ok(Request::Store(Order { how, key: key(words[1])?, flags, expiry, length, compare, ..Order::default() }))
 }
 
 fn change<'a>(words: &[&'a [u8]], change: fn(u64) -> Change) -> Result<Request<'a>, Refusal> {

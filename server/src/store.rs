@@ -49,11 +49,11 @@ pub enum Answer {
     NotFound,
 }
 
-/// What came of arithmetic.
+/// What came of a change of a value, as arithmetic is.
 #[derive(Clone, Copy, Debug, PartialEq, Eq)]
-pub enum Changed {
+pub enum Changed<T = u64> {
     /// The new number, its token and its deadline.
-    Changed(u64, Token, u64),
+    Changed(T, Token, u64),
     NotFound,
     /// The item has another token.
     Exists,
@@ -85,9 +85,9 @@ impl Store {
             looked += 1;
             match seen {
                 Ok(Some((item, token))) if item.is_live(now, &self.books.flushes) => {
-                    item.note_fetched();
                     self.books.counts.add(Count::GetHits);
                     goes_on = each(position, item, token);
+                    item.note_fetched();
                 }
                 seen => self.count_miss(seen, now),
             }

@@ -2,7 +2,7 @@
 use crate::budget::{cost, Claim};
 use crate::counts::Count;
 use crate::index::{Over, Refused, Token};
-use crate::item::{new_item, Item, NewItem};
+use crate::item::{new_item, Item, NewItem, WON};
 use crate::number;
 use crate::request::{Change, How, Order};
 use crate::store::{Answer, Changed, Fault, Found, Store};
@@ -55,7 +55,11 @@ impl Store {
     }
 
     fn fresh(&self, order: &Order, born: u64, data: &[u8]) -> Option<NewItem> {
-        new_item(born, order.flags, self.books.clock.deadline(order.expiry), order.key, &[data])
+        let item = new_item(born, order.flags, self.books.clock.deadline(order.expiry), order.key, &[data])?;
+        if order.is_won {
+            item.mark(WON);
+        }
+        Some(item)
     }
 
     /// What is to be put over an item that was found at this time.
@@ -71,18 +75,18 @@ impl Store {
     fn store_if(&self, order: &Order, data: &[u8]) -> Result<Answer, Fault> {
         let _lock = matches!(order.how, How::Append | How::Prepend).then(|| self.lock(order.key));
         for _ in 0..TRIES {
-            let found = self.find(order.key, |item, now| {
-                item.note_fetched();
-                self.over(order, data, item, now)
-            })?;
+            let found = self.find(order.key, |item, now| (self.over(order, data, item, now), item.deadline(), item.has(WON)))?;
             let (next, over) = match (found, order.how, order.compare) {
                 (Found::Absent | Found::Dead(..), How::Set | How::Replace, Some(_)) => return Ok(Answer::NotFound),
                 (Found::Live(..), How::Add, _) => return Ok(Answer::NotStored),
+                (Found::Live((next, deadline, is_won), token), How::Set | How::Replace, Some(compare)) if order.may_be_stale && compare < token => {
+                    (next.inspect(|next| next.make_stale(deadline, is_won)), Found::Live((), token))
+                }
                 (Found::Live(_, token), _, Some(compare)) if token != compare => return Ok(Answer::Exists),
                 (Found::Absent | Found::Dead(..), How::Replace | How::Append | How::Prepend, _) => return Ok(Answer::NotStored),
                 (Found::Absent, ..) => (self.fresh(order, self.books.clock.now(), data), Found::Absent),
                 (Found::Dead(token), ..) => (self.fresh(order, self.books.clock.now(), data), Found::Dead(token)),
-                (Found::Live(next, token), ..) => (next, Found::Live((), token)),
+                (Found::Live((next, ..), token), ..) => (next, Found::Live((), token)),
             };
             let next = next.ok_or(Fault::NoRoom)?;
             if next.value().len() > self.options.longest {
@@ -165,24 +169,46 @@ impl Store {
 
     /// Adds to the key's number or subtracts from it. The item gets the deadline, if there is one.
     pub fn change(&self, key: &[u8], change: Change, compare: Option<Token>, deadline: Option<u64>) -> Result<Changed, Fault> {
+        self.put_changed(key, compare, |item, born| {
+            let number = change.of(number::unsigned(item.value())?);
+            let deadline = deadline.unwrap_or(item.deadline());
+            Some((new_item(born, item.flags, deadline, key, &[number.to_string().as_bytes()]), number))
+        })
+    }
+
+    /// Makes the key's value stale, if it has this token. The item gets the deadline, if there is one.
+    pub fn invalidate(&self, key: &[u8], compare: Option<Token>, deadline: Option<u64>) -> Result<Answer, Fault> {
+        let stale = self.put_changed(key, compare, |item, born| {
+            let next = new_item(born, item.flags, item.deadline(), key, &[item.value()]);
+            Some((next.inspect(|next| next.make_stale(deadline.unwrap_or(item.deadline()), false)), ()))
+        })?;
+        match stale {
+            Changed::Changed((), token, _) => return Ok(Answer::Done(token)),
+            Changed::Exists => return Ok(Answer::Exists),
+            Changed::NotFound | Changed::NotNumeric => self.books.counts.add(Count::DeleteMisses),
+        }
+        Ok(Answer::NotFound)
+    }
+
+    /// Puts over the key's item, if it has this token, what is made of it.
+    fn put_changed<T>(
+        &self,
+        key: &[u8],
+        compare: Option<Token>,
+        change: impl Fn(&Item, u64) -> Option<(Option<NewItem>, T)>,
+    ) -> Result<Changed<T>, Fault> {
         let _lock = self.lock(key);
         for _ in 0..TRIES {
-            let found = self.find(key, |item, born| {
-                item.note_fetched();
-                let number = change.of(number::unsigned(item.value())?);
-                let deadline = deadline.unwrap_or(item.deadline());
-                Some((new_item(born, item.flags, deadline, key, &[number.to_string().as_bytes()]), number))
-            })?;
-            let (next, number, token) = match found {
+            let (next, told, token) = match self.find(key, &change)? {
                 Found::Absent | Found::Dead(..) => return Ok(Changed::NotFound),
                 Found::Live(_, token) if compare.is_some_and(|compare| compare != token) => return Ok(Changed::Exists),
                 Found::Live(None, _) => return Ok(Changed::NotNumeric),
-                Found::Live(Some((next, number)), token) => (next, number, token),
+                Found::Live(Some((next, told)), token) => (next, told, token),
             };
             let next = next.ok_or(Fault::NoRoom)?;
             let deadline = next.deadline();
             if let Some(token) = self.put_over(key, Found::Live((), token), next)? {
-                return Ok(Changed::Changed(number, token, deadline));
+                return Ok(Changed::Changed(told, token, deadline));
             }
         }
         Err(Fault::Disturbed)

@@ -95,6 +95,13 @@ def command(draw):
 def meta(draw, key, counter, value):
     flags = [b'k', b'O%d' % draw.randrange(99), b'q', b'c', b'f', b's', b't', b'v', b'T%s' % draw.choice([b'0', b'100'])]
     verb = draw.choice([b'mg', b'ms', b'md', b'ma'])
+    if verb == b'mg':
+        flags += [b'h', b'N%s' % draw.choice([b'0', b'60']), b'R%s' % draw.choice([b'0', b'30', b'200', b'-1'])]
+    if verb == b'md':
+        flags += [b'I', b'T60']
+    if verb == b'ms' and draw.random() < 0.2:
+        # Each item has a newer token.
+        flags += [b'I C1', b'I C1']
     if verb == b'ms':
         flags += [b'F%d' % draw.randrange(99), b'M%s' % draw.choice(b'E A P R S X SS'.split()), b'T-1']
     if verb == b'ma':
@@ -116,7 +123,7 @@ def wrong(draw, key):
 
 
 # Drawn lines that the two answer differently: the time that is left, asked for before it is changed, and a new one for a number.
-DIFFERENT = re.compile(rb'^mg .* t.* T|^ma .*( T| t.* N)')
+DIFFERENT = re.compile(rb'^mg .*( [tR].* T| [tT].* N)|^ma .*( T| t.* N)')
 
 
 def is_known(parts):

@@ -13,7 +13,7 @@ fn refused(line: &str) -> &'static str {
 }
 
 fn stored<'a>(how: How, compare: Option<u64>) -> Request<'a> {
-    Request::Store(Order { how, key: b"key", flags: 7, expiry: -1, length: 5, compare })
+    Request::Store(Order { how, key: b"key", flags: 7, expiry: -1, length: 5, compare, ..Order::default() })
 }
 
 #[test]
@@ -167,7 +167,7 @@ const META: [&str; 4] = ["mg k", "ms k 1", "md k", "ma k"];
 
 #[test]
 fn the_flags_of_each_meta_command() {
-    let (all, more) = ("qvkcfstOTCPL", ["", "FM", "", "MDJN"]);
+    let (all, more) = ("qvkcfstOTCPL", ["hNR", "FMI", "I", "MDJN"]);
     for (line, more) in META.iter().zip(more) {
         for flag in (b'!'..=b'~').map(char::from) {
             // The token is right for each flag that takes one.
@@ -196,7 +196,7 @@ fn the_flags_of_each_meta_command() {
 fn tokens_of_meta_flags_that_are_wrong() {
     let (token, number) = ("CLIENT_ERROR bad token in command line format", "CLIENT_ERROR bad command line format");
     for (line, flags, text) in [
-        ("mg k", "TC", token),
+        ("mg k", "TCNR", token),
         ("ms k 1", "TC", token),
         ("ms k 1", "F", number),
         ("md k", "TC", "CLIENT_ERROR invalid or duplicate flag"),

@@ -138,7 +138,7 @@ pub fn map_store(limit: u64, words: &str) -> Store {
 
 /// An order to store a value of so many bytes.
 pub fn order(how: How, key: &[u8], length: usize) -> Order<'_> {
-    Order { how, key, flags: 0, expiry: 0, length, compare: None }
+    Order { how, key, length, ..Order::default() }
 }
 
 /// Bounds the process to so many bytes more than it takes, and lets it exceed that from now on, as if it took much more. Returns the room of items.
