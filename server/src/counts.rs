@@ -45,6 +45,8 @@ counts! {
     Busy "busy",
     Held "held",
     Refused "refused",
+    Logins "auth_cmds",
+    BadLogins "auth_errors",
     BytesRead "bytes_read",
     BytesWritten "bytes_written",
     Connections "total_connections",

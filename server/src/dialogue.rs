@@ -4,6 +4,7 @@ use crate::counts::Count;
 use crate::item::Item;
 use crate::listing::Listing;
 use crate::meta::Verb;
+use crate::number;
 use crate::output::Output;
 use crate::request::{parse, refusal, words, Keys, Order, Refusal, Request, ERROR, FORMAT, LONGEST_KEY};
 use crate::store::{Fault, Store};
@@ -49,6 +50,8 @@ pub struct Dialogue {
 enum State {
     #[default]
     New,
+    /// It has not said who it is.
+    Stranger,
     Line,
     /// So many bytes belong to a command that was refused.
     Block(usize),
@@ -100,12 +103,13 @@ impl Dialogue {
     }
 
     pub fn is_within(&self) -> bool {
-        !matches!(self.state, State::New | State::Line)
+        !matches!(self.state, State::New | State::Stranger | State::Line)
     }
 
     fn step(&mut self, store: &Store, input: &[u8], out: &mut Output) -> Step {
         match self.state {
-            State::New => self.first(input),
+            State::New => self.first(store, input),
+            State::Stranger => self.stranger(store, input, out),
             State::Line => self.line(store, input, out),
             State::Block(bytes) => self.skip(bytes, input),
             State::Keys(keys) => self.keys(keys, store, input, out),
@@ -115,8 +119,8 @@ impl Dialogue {
     }
 
     /// A client of the binary protocol would wait for an answer that never comes.
-    fn first(&mut self, input: &[u8]) -> Step {
-        self.state = State::Line;
+    fn first(&mut self, store: &Store, input: &[u8]) -> Step {
+        self.state = if store.users.is_some() { State::Stranger } else { State::Line };
         Step(0, (input.first() == Some(&BINARY)).then_some(Turn::Ends))
     }
 
@@ -147,6 +151,41 @@ impl Dialogue {
             Err(why) => self.refuse(why, is_quiet, out),
         }
         Step(end, None)
+    }
+
+    /// A client says who it is by a `set` of any key, whose value is its name and its password.
+    fn stranger(&mut self, store: &Store, input: &[u8], out: &mut Output) -> Step {
+        let Some(end) = memchr(b'\n', &input[..input.len().min(LONGEST_LINE)]).map(|end| end + 1) else {
+            return Step(0, Some(if input.len() < LONGEST_LINE { Turn::Needs(input.len() + 1) } else { Turn::Ends }));
+        };
+        let length =
+            words(&input[..end - 1]).nth(4).map(|word| word.strip_suffix(b"\r").unwrap_or(word)).and_then(number::length);
+        let Some(length) = length.filter(|length| input.starts_with(b"set ") && *length < LONGEST_LINE) else {
+            line(out, "CLIENT_ERROR unauthenticated");
+            return Step(end, None);
+        };
+        let whole = end + length + END.len();
+        if input.len() < whole {
+            return Step(0, Some(Turn::Needs(whole)));
+        }
+        let mut said = words(&input[end..end + length]);
+        let answer = match (said.next(), said.next()) {
+            _ if input[end + length..whole] != *END => "CLIENT_ERROR bad command line termination",
+            (Some(name), Some(password)) => self.log_in(store, name, password),
+            _ => "CLIENT_ERROR bad authentication token format",
+        };
+        line(out, answer);
+        Step(whole, None)
+    }
+
+    fn log_in(&mut self, store: &Store, name: &[u8], password: &[u8]) -> &'static str {
+        store.books.counts.add(Count::Logins);
+        if store.users.as_ref().is_none_or(|users| users.has(name, password)) {
+            self.state = State::Line;
+            return "STORED";
+        }
+        store.books.counts.add(Count::BadLogins);
+        "CLIENT_ERROR authentication failure"
     }
 
     /// The line has not ended yet, or is too long.

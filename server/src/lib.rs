@@ -41,6 +41,7 @@ pub mod slabs;
 mod stats;
 pub mod store;
 pub mod user;
+pub mod users;
 mod walk;
 pub mod worker;
 mod writes;

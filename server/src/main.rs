@@ -13,6 +13,7 @@ use cefrodild::server::{named, Server};
 use cefrodild::slabs;
 use cefrodild::store::Store;
 use cefrodild::user::{become_user, is_root};
+use cefrodild::users::Users;
 use std::alloc::System;
 use std::env;
 use std::error::Error;
@@ -70,6 +71,8 @@ fn serve(options: Options) -> Result<(), Box<dyn Error>> {
         log(format_args!("{word} changes nothing here"));
     }
     let starter = options.detaches.then(daemon::detach).transpose()?;
+    // Perhaps only root can read it.
+    let users = options.users.as_deref().map(|file| Users::read(file).map_err(|why| named(&file.display(), &why))).transpose()?;
     let listeners = prepare(&options)?;
     let file = options.process_file.as_deref();
     let _own_file = file.map(|file| daemon::write_number(file).map_err(|why| named(&file.display(), &why))).transpose()?;
@@ -83,7 +86,9 @@ fn serve(options: Options) -> Result<(), Box<dyn Error>> {
     if books.budget.bound_process((memory + memory / PART_OF_LOSS) as u64)? == 0 {
         return Err("the index takes all of the memory limit: choose a smaller -n".into());
     }
-    let store = Arc::new(Store::new(Box::new(index), books, options));
+    let mut store = Store::new(Box::new(index), books, options);
+    store.users = users;
+    let store = Arc::new(store);
     let told: String = listeners.iter().map(|listener| format!("cefrodild: listening on {listener}\n")).collect();
     Server::run(store, listeners, || {
         // If nobody reads that, the server goes on.

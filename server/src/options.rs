@@ -25,6 +25,8 @@ cefrodild: a cache server that speaks memcached's text protocol
 -I, --max-item-size=N    longest value in bytes, or with k or m behind it, 1k to 128m (1m), and at most
                          half of the memory limit
 -o, --extended=LIST      idle_timeout=N: leave clients that are silent for N seconds (0: none)
+-Y, --auth-file=FILE     a client says first who it is, by a name and a password of this file, which has
+                         name:password on each line
     --audit=FILE         log changes and answers for mccheck; one shard
 -h, --help               print this
 -V, --version            print the version
@@ -72,6 +74,8 @@ pub struct Options {
     pub longest: usize,
     /// For so many seconds a client may be silent.
     pub idle_timeout: Option<u32>,
+    /// Where the names and passwords of those are who may use it. `None`: all may.
+    pub users: Option<PathBuf>,
     /// Memcached's options that were given and change nothing here.
     pub idle: Vec<String>,
     /// Where the log for `mccheck` goes.
@@ -156,6 +160,7 @@ impl Given {
             'n' => self.items = Some(within(word, &value, 1..=MOST_ITEMS)?),
             'c' => options.connections = within(word, &value, 1..=1 << 20)?,
             'I' => options.longest = size(word, &value)?,
+            'Y' => options.users = Some(path(word, value)?),
             'o' => value.split(',').try_for_each(|one| extended(options, word, one))?,
             'B' if value != "ascii" => return Err(format!("{word}: there is no protocol but ascii: leave it out")),
             'R' | 'b' | 'k' | 'B' | 'f' => options.idle.push(word.to_owned()),

@@ -6,6 +6,7 @@ use crate::index::{Index, Refused, Seen, Token};
 use crate::item::Item;
 use crate::options::Options;
 use crate::seat::Seats;
+use crate::users::Users;
 use std::sync::atomic::AtomicU64;
 use std::sync::{Arc, Mutex, MutexGuard, PoisonError};
 
@@ -22,6 +23,8 @@ pub struct Store {
     pub(crate) helpless: AtomicU64,
     pub options: Options,
     pub seats: Arc<Seats>,
+    /// Who may use it. `None`: all clients.
+    pub users: Option<Users>,
 }
 
 /// Why a command was not carried out.
@@ -71,7 +74,7 @@ impl Store {
     pub fn new(index: Box<dyn Index>, books: Arc<Books>, options: Options) -> Store {
         let (key_locks, round, helpless) = ([const { Mutex::new(()) }; LOCKS], Mutex::default(), AtomicU64::new(u64::MAX));
         let seats = Seats::new(options.connections, Arc::clone(&books));
-        Store { index, books, key_locks, round, helpless, seats, options }
+        Store { index, books, key_locks, round, helpless, seats, users: None, options }
     }
 
     /// Looks the keys up in order, and calls `each` with the position of each that has a value. It returns whether it goes on: if not, the

@@ -79,7 +79,9 @@ impl Store {
             let (next, over) = match (found, order.how, order.compare) {
                 (Found::Absent | Found::Dead(..), How::Set | How::Replace, Some(_)) => return Ok(Answer::NotFound),
                 (Found::Live(..), How::Add, _) => return Ok(Answer::NotStored),
-                (Found::Live((next, deadline, is_won), token), How::Set | How::Replace, Some(compare)) if order.may_be_stale && compare < token => {
+                (Found::Live((next, deadline, is_won), token), How::Set | How::Replace, Some(compare))
+                    if order.may_be_stale && compare < token =>
+                {
                     (next.inspect(|next| next.make_stale(deadline, is_won)), Found::Live((), token))
                 }
                 (Found::Live(_, token), _, Some(compare)) if token != compare => return Ok(Answer::Exists),

@@ -57,7 +57,7 @@ fn each_name_is_told_once() {
     let mut client = Client::new(MEGABYTE);
     let mut expected: Vec<_> = "pid uptime time version cefrodild pointer_size max_connections curr_connections threads evictions bytes curr_items \
         limit_maxbytes cmd_get cmd_set cmd_flush cmd_touch cmd_meta get_hits get_misses get_expired get_flushed delete_misses delete_hits incr_misses incr_hits \
-        decr_misses decr_hits cas_misses cas_hits cas_badval touch_hits touch_misses store_too_large store_no_memory total_items busy held \
+        decr_misses decr_hits cas_misses cas_hits cas_badval touch_hits touch_misses store_too_large store_no_memory total_items auth_cmds auth_errors busy held \
         refused crawler_reclaimed connections_out_of_memory idle_kicks buffer_bytes bytes_limit bytes_waiting bytes_read bytes_written total_connections rejected_connections \
         stalled_seconds rusage_user rusage_system accepting_conns listen_disabled_num connection_structures \
         evicted_unfetched reclaimed expired_unfetched"
