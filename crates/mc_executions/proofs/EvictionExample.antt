@@ -1,13 +1,12 @@
 -- The example of an eviction, step by step.
-use Rattle.std.proofs.Common.{◌≡◌, ℕ, suc, ◌+◌, ◌*◌, ◌<◌, ◌≤◌, ◌^◌, List, [], ◌∷◌, ◌++◌, get_or, set, refl, ap, sym, ◌∙◌, arith, Some}
+use Rattle.std.proofs.Common.{ℕ, List, [], ◌∷◌, ◌++◌, set, refl, ap, arith}
 use Rattle.std.specs.Prelude.{slice_get}
-use mathlib.Core.Option.{some}
 use lib.ListN.{get_elem?}
 use Rattle.atomic_table.specs.Table.{opening as table_opening}
 use Rattle.mc_words.specs.declared.policy.Policy.TheVariants.{Clock}
 use Rattle.mc_words.specs.declared.history.Reply.TheVariants.{Absent}
 use Rattle.mc_words.specs.History.{map_value}
-use Rattle.mc_words.specs.Keys.{mixed_key, tag_of, stripe_of, first_of, slot_word}
+use Rattle.mc_words.specs.Keys.{mixed_key, stripe_of, slot_word}
 use Rattle.mc_words.specs.Places.{payload, moment, version, slot, with_moment, with_version, with_slot, with_item, item}
 use Rattle.mc_words.specs.Recency.{recency_word, recency_words}
 use Rattle.mc_words.specs.Standing.{Stands}

@@ -2,17 +2,14 @@
 use mathlib.Core.Logic.{dite}
 use native.Mathlib.Decide.{ℕ_discrete, dec_le}
 use Rattle.std.specs.Prelude.{slice_get}
-use Rattle.std.proofs.Common.{◌≡◌, ℕ, zero, suc, ◌+◌, ◌-◌, ◌<◌, ◌≤◌, List, [], ◌∷◌, ◌++◌, length, set, get_or, drop, refl, ap, sym, ◌∙◌, subst, arith, append_assoc, append-nil, length-append, Some}
-use mathlib.Core.Option.{some, some-injective}
+use Rattle.std.proofs.Common.{◌≡◌, ℕ, zero, suc, ◌+◌, ◌-◌, ◌<◌, ◌≤◌, List, [], ◌∷◌, ◌++◌, length, set, refl, ap, sym, ◌∙◌, subst, arith, append_assoc, append-nil, length-append, Some}
+use mathlib.Core.Option.{some}
 use lib.ListN.{get_elem?}
-use Rattle.atomic_table.proofs.Lists.{set_else}
 use Rattle.mc_theory.specs.Lists.{Made}
 use Rattle.mc_theory.specs.Readings.{Reading}
 use Rattle.mc_shared.specs.ExactLaws.{AddsEntry}
-use Rattle.mc_shared.specs.Views.{Note, View, spent_view, writer_view, reader_view, new_writer_view, seated_in, done_of, with_note, IsFrontOf}
+use Rattle.mc_shared.specs.Views.{Note, View, writer_view, reader_view, new_writer_view, seated_in, with_note, IsFrontOf}
 use Rattle.mc_shared.specs.declared.layout.Layout.{Layout}
-use Rattle.mc_shared.proofs.Coherence.{total_set}
-use Rattle.mc_shared.proofs.ExactSteps.{seat_counts}
 use Rattle.mc_shared.proofs.ReaderRecords.{front_self, front_trans, front_length}
 use Rattle.mc_executions.specs.Executions.{TableState, IsExecution, HasRecord, HasActs}
 use Rattle.mc_executions.proofs.ExecutionSteps.{hit, log_is, LogStep, rests, grows, OneMove, IsHonest}

@@ -290,20 +290,24 @@ module _ (l : Layout) (s t : TableState) (r : Ruled l s) (r' : Ruled l t) (k : �
       let layout : v.layout ≡ l = ap (λ (u : View). u.layout) one.2 in
       let number : number_of v ≡ one.0 = ap number_of one.2 in
       let after : w ≡ reader_view l a new (done ++ x ∷ []) = e ∙ (λ i. reader_view (layout i) ((number ∙ one.3) i) new (is i ++ x ∷ [])) in
-      let before : v ≡ reader_view l a one.1 done = one.2 ∙ (λ i. reader_view l (one.3 i) one.1 (is i)) in
-      (record {
-        before = r;
-        after = r';
-        made = refl;
-        seat = k;
-        number = a;
-        number' = a;
-        old = one.1;
-        new = new;
-        done = done;
-        reads = mine ∙ ap some before;
-        step = next ∙ ap (λ (u : View). set s.views k u) after;
-      }, refl, refl, record { seat = k; view = w; mine = here; reader = ap (λ (u : View). seated_in a u.role) after ∙ hit a; is = ap done_of after }))
+      let before : v ≡ reader_view l a one.1 done = one.2 ∙ (λ i. reader_view l (one.3 i) one.1 (is i)) in (
+        record {
+          before = r;
+          after = r';
+          made = refl;
+          seat = k;
+          number = a;
+          number' = a;
+          old = one.1;
+          new = new;
+          done = done;
+          reads = mine ∙ ap some before;
+          step = next ∙ ap (λ (u : View). set s.views k u) after;
+        },
+        refl,
+        refl,
+        record { seat = k; view = w; mine = here; reader = ap (λ (u : View). seated_in a u.role) after ∙ hit a; is = ap done_of after },
+      ))
       (λ (is : IsWriters v.role). absurd (is_entered new x e (sym (log_is l s r k v mine is).2)))
       (reader_is l v.layout r.log r.tally r.at k a v.role seated (r.views k v mine))
 

@@ -1,6 +1,6 @@
 -- Each execution is a trace: by induction over its states.
 use Rattle.std.specs.Prelude.{slice_get}
-use Rattle.std.proofs.Common.{◌≡◌, ◌≢◌, ℕ, zero, suc, ◌+◌, ◌*◌, ◌-◌, ◌^◌, ◌<◌, ◌≤◌, List, [], ◌∷◌, ◌++◌, length, replicate, refl, ap, sym, ◌∙◌, subst, arith, Option, Some, None}
+use Rattle.std.proofs.Common.{◌≡◌, ◌≢◌, ℕ, zero, suc, ◌*◌, ◌-◌, ◌^◌, ◌<◌, ◌≤◌, List, [], ◌∷◌, ◌++◌, replicate, refl, ap, sym, ◌∙◌, subst, arith, Some, None}
 use mathlib.Core.Logic.{dite}
 use native.Mathlib.Decide.{ℕ_discrete, dec_le}
 use Rattle.mc_words.specs.declared.policy.Policy.{Policy}
@@ -16,12 +16,10 @@ use Rattle.mc_theory.specs.declared.act.Act.{Act}
 use Rattle.mc_theory.specs.declared.act.Act.TheVariants.{Open, Slot, Item, Moment, Close, Hand, Mark}
 use Rattle.mc_theory.proofs.Lists.Fronts.{state_push}
 use Rattle.mc_shared.specs.Views.{Tally, layout_with, new_writer_view}
-use Rattle.mc_shared.specs.ExactLaws.{AddsEntry}
-use Rattle.mc_shared.specs.TableRule.{Ruled}
 use Rattle.mc_shared.proofs.ExactReadings.{readings_are_newest}
 use lib.ListN.{get_elem?}
 use Rattle.mc_executions.specs.Executions.{TableState, IsExecution, HasRecord}
-use Rattle.mc_executions.specs.ExecutionTraces.{Parts, no_parts, AreEnded, IsOpen, AreMadeOf, IsMadeOf, IsTraceOf, ExecutionsAreTraces}
+use Rattle.mc_executions.specs.ExecutionTraces.{Parts, no_parts, AreEnded, IsOpen, AreMadeOf, IsMadeOf, ExecutionsAreTraces}
 use Rattle.mc_executions.proofs.ExecutionSteps.{OneMove, nothing, one_act, one_entry, is_reader, log_is}
 use Rattle.mc_executions.proofs.ExecutionRuns.{move}
 use Rattle.mc_executions.proofs.StepMoves.{record_is_one}

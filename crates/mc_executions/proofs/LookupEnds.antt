@@ -1,12 +1,11 @@
 -- Where a lookup ends: none begins another of the same key, and a mark is its last entry.
-use Rattle.std.proofs.Common.{◌≡◌, ◌≢◌, ◌⊎◌, inl, inr, ℕ, zero, suc, ◌+◌, ◌%◌, ◌<◌, List, [], ◌∷◌, ◌++◌, length, drop, get_or, refl, ap, sym, ◌∙◌, subst, arith, append_assoc, append-nil, length-append, Option, Some, None}
+use Rattle.std.proofs.Common.{◌≡◌, inl, inr, ℕ, zero, suc, ◌+◌, ◌%◌, ◌<◌, List, [], ◌∷◌, ◌++◌, length, refl, ap, sym, ◌∙◌, subst, arith, append_assoc, append-nil, length-append, Option, Some, None}
 use Rattle.mc_words.specs.declared.history.Reply.{Reply}
 use Rattle.mc_words.specs.declared.place.Place.{Place}
 use Rattle.mc_words.specs.declared.shape.Shape.{Shape}
 use Rattle.mc_theory.specs.Lookups.{IsLookup, IsSpoiled, MarksHit, ReadsHit, ReadsValues, Scans, Tries, slots_for}
 use Rattle.mc_theory.specs.Readings.{Reading}
-use Rattle.mc_theory.specs.declared.access.Access.{Access}
-use Rattle.mc_theory.specs.declared.access.Access.TheVariants.{Version, Slot, Key, Value, Stamp, Moment, Mark}
+use Rattle.mc_theory.specs.declared.access.Access.TheVariants.{Key, Mark}
 use Rattle.mc_shared.specs.ExactFronts.{IsReading}
 use Rattle.mc_executions.proofs.ListParts.{same_head, same_parts, same_rest, cut_at}
 
@@ -172,16 +171,22 @@ scan_none : (sh : Shape) (k : ℕ) (ps : List Place) (rs : List Reading) (hit : 
 scan_none sh k [] rs hit scan = subst NoMarks (sym scan.0) tt
 scan_none sh k (p ∷ ps) rs hit scan =
     let first : IsReading scan.0.access = subst IsReading (sym scan.3) tt in
-    subst NoMarks (sym scan.2) (first, elim scan.4 [
-      | inl missed ↦ scan_none sh k ps scan.1 hit missed.1
-      | inr met ↦ (
-          let key : IsReading met.1.access = subst IsReading (sym met.5) tt in
-          subst NoMarks (sym met.4) (key, elim met.6 [
-            | inl is ↦ subst NoMarks (sym is.1) tt
-            | inr other ↦ scan_none sh k ps met.2 hit other.1
-          ])
-          )
-    ])
+    subst NoMarks (sym scan.2) (
+      first,
+      elim scan.4 [
+        | inl missed ↦ scan_none sh k ps scan.1 hit missed.1
+        | inr met ↦ (
+            let key : IsReading met.1.access = subst IsReading (sym met.5) tt in
+            subst NoMarks (sym met.4) (
+              key,
+              elim met.6 [
+                | inl is ↦ subst NoMarks (sym is.1) tt
+                | inr other ↦ scan_none sh k ps met.2 hit other.1
+              ],
+            )
+            )
+      ],
+    )
 
 values_none : (i j : ℕ) (rs : List Reading) (v : List ℕ) → ReadsValues i j rs v → NoMarks rs
 values_none i j [] [] reads = tt
@@ -232,30 +237,29 @@ mark_moves V sh k (suc t) i xs e q reply is mark a = elim a [
   | inl m ↦ elim (cut_at xs [] m.0 m.1 e m.2) [
     | inl first ↦ absurd (subst IsReading is (none_at xs first.0 e (subst NoMarks first.1 (spoiled_none V sh k m.0 m.3))))
     | inr second ↦ inl (
-        m.0,
-        second.0 ++ q ∷ [],
-        ap (λ (z : List Reading). z ++ q ∷ []) second.1 ∙ append_assoc m.0 second.0 (q ∷ []),
-        m.3,
-        mark_moves V sh k t i second.0 e q reply is mark (subst (λ (z : List Reading). IsLookup V sh k t z reply) second.2 m.4),
+      m.0,
+      second.0 ++ q ∷ [],
+      ap (λ (z : List Reading). z ++ q ∷ []) second.1 ∙ append_assoc m.0 second.0 (q ∷ []),
+      m.3,
+      mark_moves V sh k t i second.0 e q reply is mark (subst (λ (z : List Reading). IsLookup V sh k t z reply) second.2 m.4),
     )
   ]
   | inr m ↦ elim (cut_at xs [] m.0 m.1 e m.6) [
     | inl first ↦ absurd (subst IsReading is (none_at xs first.0 e (subst NoMarks first.1 (try_none V sh k m.0 m.2 m.3 m.4 m.4 m.5 m.7))))
     | inr second ↦ inr (
-        let alone = marks_alone m.2 second.0 m.1 second.2 m.8 in
-        (
-        m.0,
-        q ∷ [],
-        m.2,
-        m.3,
-        m.4,
-        m.5,
-        ap (λ (z : List Reading). z ++ q ∷ []) (second.1 ∙ ap (λ (z : List Reading). m.0 ++ z) alone.0 ∙ append-nil m.0),
-        m.7,
-        alone.1,
-        m.9,
+        let alone = marks_alone m.2 second.0 m.1 second.2 m.8 in (
+          m.0,
+          q ∷ [],
+          m.2,
+          m.3,
+          m.4,
+          m.5,
+          ap (λ (z : List Reading). z ++ q ∷ []) (second.1 ∙ ap (λ (z : List Reading). m.0 ++ z) alone.0 ∙ append-nil m.0),
+          m.7,
+          alone.1,
+          m.9,
         )
-    )
+        )
   ]
 ]
   where

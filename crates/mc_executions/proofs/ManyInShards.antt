@@ -1,7 +1,7 @@
 -- When the answers of `get_many` of a pass are true.
 use mathlib.Core.Logic.{dite}
 use native.Mathlib.Decide.{ℕ_discrete}
-use Rattle.std.proofs.Common.{◌≡◌, ◌≢◌, ℕ, zero, suc, ◌^◌, ◌<◌, ◌≤◌, List, [], ◌∷◌, ◌++◌, All, append-nil, append_assoc, ap, refl, sym, ◌∙◌, subst, arith}
+use Rattle.std.proofs.Common.{◌≡◌, ◌≢◌, ℕ, zero, suc, ◌^◌, ◌<◌, ◌≤◌, List, [], ◌∷◌, ◌++◌, append-nil, append_assoc, ap, refl, sym, ◌∙◌, subst, arith}
 use Rattle.std.proofs.lemmas.Option.{same_Some}
 use Rattle.std.specs.Prelude.{Some, slice_get, slice_set}
 use Rattle.mc_words.specs.declared.policy.Policy.{Policy}
@@ -12,7 +12,7 @@ use Rattle.mc_shared.specs.Views.{layout_with}
 use Rattle.mc_reader.specs.Records.{HasLooked}
 use Rattle.mc_shards.specs.Sharded.{ChangesAt, HaveLookedAt, Sharded, shard_in}
 use Rattle.mc_shards.proofs.ListedShards.{get_set_same}
-use Rattle.mc_executions.specs.Executions.{HasReader, HasRecord, TableState}
+use Rattle.mc_executions.specs.Executions.{HasReader, HasRecord}
 use Rattle.mc_executions.specs.RunningCalls.{IsTimedWithin}
 use Rattle.mc_executions.specs.RunningShards.{PassManyAreTimed, Together}
 use Rattle.mc_executions.proofs.ExecutionRuns.{records_pass}

@@ -1,6 +1,5 @@
 -- Each operation on a seat is a step.
 use Rattle.std.proofs.Common.{get_or, refl, sym, ◌∙◌}
-use Rattle.atomic_table.specs.Table as table
 use Rattle.atomic_table.proofs.Lists.{set_else}
 use Rattle.mc_shared.specs.Steps.{joined_view}
 use Rattle.mc_executions.specs.Executions.{plays, cuts, joins}

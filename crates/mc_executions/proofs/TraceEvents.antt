@@ -1,6 +1,6 @@
 -- A trace grows by an act, or by an entry of a reader's record.
 use Rattle.std.specs.Prelude.{slice_get, slice_set, if◌then◌else◌}
-use Rattle.std.proofs.Common.{◌≡◌, ◌≢◌, ◌⊎◌, inl, inr, Bool, true, false, eqb, eq-eqb, ne_eqb, ℕ, zero, suc, ◌+◌, ◌*◌, ◌-◌, ◌^◌, ◌<◌, ◌≤◌, List, [], ◌∷◌, ◌++◌, length, refl, ap, sym, ◌∙◌, subst, arith, append_assoc, Option, Some, None}
+use Rattle.std.proofs.Common.{◌≡◌, ◌≢◌, ◌⊎◌, inl, inr, Bool, true, false, eqb, eq-eqb, ne_eqb, ℕ, ◌+◌, ◌-◌, ◌^◌, ◌<◌, ◌≤◌, List, [], ◌∷◌, ◌++◌, length, refl, ap, sym, ◌∙◌, subst, arith, append_assoc, Option, Some, None}
 use mathlib.Core.Logic.{dite}
 use native.Mathlib.Decide.{ℕ_discrete}
 use Rattle.mc_words.specs.declared.history.Reply.{Reply}
@@ -9,14 +9,13 @@ use Rattle.mc_theory.specs.Acts.{IsAllowed}
 use Rattle.mc_theory.specs.Lists.{Made, state_of}
 use Rattle.mc_theory.specs.Lookups.{IsLookup}
 use Rattle.mc_theory.specs.Readings.{Reading, IsWordOf}
-use Rattle.mc_theory.specs.States.{State}
 use Rattle.mc_theory.specs.Traces.{Trace, Ended, OpenLookup, ReadsNext, HasVersionSteps, Steps, StepsAll, bits_read, first_read, first_trace, with_act}
 use Rattle.mc_theory.specs.declared.access.Access.{Access}
 use Rattle.mc_theory.specs.declared.access.Access.TheVariants.{Version, Slot, Key, Value, Stamp, Moment, Mark}
 use Rattle.mc_theory.specs.declared.event.Event.{Event}
 use Rattle.mc_theory.specs.declared.event.Event.TheVariants.{Write, Begin, Read}
 use Rattle.mc_shared.specs.ExactFronts.{IsReading, StandsAt}
-use Rattle.mc_executions.specs.ExecutionTraces.{Part, looked, marked, Parts, IsSame, AreSame, ended_by, IsEnded, AreEnded, IsOpen}
+use Rattle.mc_executions.specs.ExecutionTraces.{Parts, IsSame, AreSame, ended_by, AreEnded, IsOpen}
 use Rattle.mc_executions.proofs.ListParts.{got_here, got_else}
 use Rattle.mc_executions.proofs.LookupEnds.{lookup_ends, mark_ends, mark_moves}
 use Rattle.mc_executions.proofs.TracedParts.{running_with, LastEntry, goes_on, ends, alone}
@@ -178,17 +177,17 @@ module _ (V : ℕ) (sh : Shape) (readers most : ℕ) (made : List Made) (parts :
     -- is not the last of its lookup
     read_more : (rest : List Reading) (next : Reading) (reply : Reply V) → most + 1 < 2 ^ 64 - 1 → IsLookup V sh k sh.tries (rs ++ q ∷ next ∷ rest) reply → StepsAll V sh (first_trace V sh readers) (o.events ++ Read a ∷ []) more
     read_more rest next reply few looks = steps_push V sh (first_trace V sh readers) o.trace more o.events (Read a) o.leads (
-        o.run,
-        q,
-        o.at,
-        reads_next (next ∷ rest) reply looks,
-        omega (arith, o.counted, few),
-        inr (
-            (λ other over. lookup_ends V sh k sh.tries (rs ++ q ∷ []) rest next other reply
-              (subst (λ (n : ℕ). IsLookup V sh n sh.tries (rs ++ q ∷ []) other) o.key (subst (λ (z : List Reading). IsLookup V sh o.run.key sh.tries (z ++ q ∷ []) other) o.sofar over))
-              (subst (λ (z : List Reading). IsLookup V sh k sh.tries z reply) (sym (append_assoc rs (q ∷ []) (next ∷ rest))) looks)),
-            refl,
-        ),
+      o.run,
+      q,
+      o.at,
+      reads_next (next ∷ rest) reply looks,
+      omega (arith, o.counted, few),
+      inr (
+        (λ other over. lookup_ends V sh k sh.tries (rs ++ q ∷ []) rest next other reply
+            (subst (λ (n : ℕ). IsLookup V sh n sh.tries (rs ++ q ∷ []) other) o.key (subst (λ (z : List Reading). IsLookup V sh o.run.key sh.tries (z ++ q ∷ []) other) o.sofar over))
+            (subst (λ (z : List Reading). IsLookup V sh k sh.tries z reply) (sym (append_assoc rs (q ∷ []) (next ∷ rest))) looks)),
+        refl,
+      ),
     )
 
     abbrev done : Reply V → Ended V
@@ -203,7 +202,7 @@ module _ (V : ℕ) (sh : Shape) (readers most : ℕ) (made : List Made) (parts :
     read_last reply few looks = steps_push V sh (first_trace V sh readers) o.trace (last reply) o.events (Read a) o.leads (
         let next = reads_next [] reply looks in
         (o.run, q, o.at, next, omega (arith, o.counted, few), inl (reply, next.next, refl))
-    )
+        )
 
   -- the parts of one reader change
   module _ (a : ℕ) (after : Parts V) (parts' : ℕ → Parts V) (is : parts' a ≡ after) (same : (b : ℕ) → b ≢ a → parts' b ≡ parts b) (below : a < readers) where
@@ -252,11 +251,11 @@ module _ (V : ℕ) (sh : Shape) (readers most : ℕ) (made : List Made) (parts :
         let alike : IsSame e (q a k rs e o stands word) = (refl, refl, λ reads. sym (front_now e.access e.front (length o.trace.acts) reads here)) in
         changed y (o.events ++ Read a ∷ []) leads o.acts (omega (arith, o.counted))
         (subst (λ (p : Parts V). AreEnded p.ended (ended_by a y.ended)) (sym now) (
-            ended_by a s.trace.ended,
-            over,
-            ended_here a o.trace.ended over refl ∙ ap (λ (z : List (Ended V)). ended_by a z ++ over ∷ []) o.ended,
-            (o.key, refl, subst (λ (z : List Reading). AreSame (rs ++ e ∷ []) (z ++ q a k rs e o stands word ∷ [])) (sym o.sofar) (same_push rs e (q a k rs e o stands word) alike)),
-            s.ended a,
+          ended_by a s.trace.ended,
+          over,
+          ended_here a o.trace.ended over refl ∙ ap (λ (z : List (Ended V)). ended_by a z ++ over ∷ []) o.ended,
+          (o.key, refl, subst (λ (z : List Reading). AreSame (rs ++ e ∷ []) (z ++ q a k rs e o stands word ∷ [])) (sym o.sofar) (same_push rs e (q a k rs e o stands word) alike)),
+          s.ended a,
         ))
         (λ b n. ended_else b o.trace.ended over (λ e. n (sym e)) ∙ ap (ended_by b) o.ended)
         (subst (λ (p : Parts V). IsOpen p.running (slice_get y.readers a)) (sym now) (got_here o.trace.readers a (Some o.run) None o.at))

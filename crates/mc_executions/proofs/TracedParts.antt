@@ -1,10 +1,9 @@
 -- The last entry of a record: what the record was made of before it.
-use Rattle.std.proofs.Common.{◌≡◌, ◌≢◌, ◌⊎◌, inl, inr, ℕ, zero, suc, ◌+◌, ◌^◌, ◌<◌, ◌≤◌, List, [], ◌∷◌, ◌++◌, length, refl, ap, sym, ◌∙◌, subst, arith, append_assoc, append-nil, length-append, Option, Some, None}
+use Rattle.std.proofs.Common.{◌≡◌, inl, inr, ℕ, zero, suc, ◌^◌, ◌<◌, ◌≤◌, List, [], ◌∷◌, ◌++◌, length, refl, ap, sym, ◌∙◌, subst, arith, append_assoc, append-nil, length-append, Option, Some, None}
 use Rattle.mc_words.specs.declared.history.Reply.{Reply}
 use Rattle.mc_words.specs.declared.shape.Shape.{Shape}
-use Rattle.mc_theory.specs.Lookups.{IsLookup, IsSpoiled}
+use Rattle.mc_theory.specs.Lookups.{IsLookup}
 use Rattle.mc_theory.specs.Readings.{Reading}
-use Rattle.mc_theory.specs.declared.access.Access.TheVariants.{Mark}
 use Rattle.mc_executions.specs.ExecutionTraces.{Part, looked, marked, Parts, no_parts, read_by, read_so_far, AreParts, Runs, IsMadeOf}
 use Rattle.mc_executions.proofs.ListParts.{last_of, same_last}
 

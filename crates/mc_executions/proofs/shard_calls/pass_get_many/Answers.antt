@@ -1,5 +1,5 @@
 use Rattle.std.proofs.Common.{arith, sym}
-use Rattle.std.proofs.lemmas.Option.{get_or_from_slice_get, slice_get_within}
+use Rattle.std.proofs.lemmas.Option.{get_or_from_slice_get}
 use Rattle.mc_executions.proofs.ManyInShards.{pass_many_are_timed}
 use Rattle.mc_executions.proofs.shard_calls.pass_get_many.Goals as goal
 
