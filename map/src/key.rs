@@ -182,6 +182,19 @@ impl<T: Hash> Key for Hashed<T> {
     }
 }
 
+/// A key that a [`Map`](crate::Map) can give back, since it keeps the number: an integer of std of up to 64 bits, also a `NonZero` one, a `char` or a
+/// `bool`.
+#[diagnostic::on_unimplemented(
+    message = "a `Map` can't give a `{Self}` back",
+    label = "a `Map` keeps no keys, but integers of up to 64 bits",
+    note = "take an `ObjectMap`, of the feature `objects`: it keeps its keys"
+)]
+pub trait Number: Key + Sized {
+    /// The key that writes this number, which a key of this type has written.
+    #[doc(hidden)]
+    fn of_bits(bits: u64) -> Option<Self>;
+}
+
 // Types whose `Hash` writes all.
 macro_rules! by_hash {
     ($is_number:literal: $($name:ty)*) => {
@@ -209,6 +222,41 @@ by_hash! { true:
 by_hash! { false:
     () u128 i128 NonZeroU128 NonZeroI128 String CString OsString Ordering Duration Instant SystemTime ThreadId
     IpAddr Ipv4Addr Ipv6Addr SocketAddr SocketAddrV4 SocketAddrV6
+}
+
+macro_rules! given_back {
+    ($bits:ident: $($name:ty = $of:expr;)*) => {
+        $(impl Number for $name {
+            fn of_bits($bits: u64) -> Option<Self> {
+                $of
+            }
+        })*
+    };
+}
+
+given_back! { bits:
+    u64 = Some(bits);
+    i64 = Some(bits as i64);
+    u32 = Some(bits as u32);
+    i32 = Some(bits as i32);
+    u16 = Some(bits as u16);
+    i16 = Some(bits as i16);
+    u8 = Some(bits as u8);
+    i8 = Some(bits as i8);
+    usize = Some(bits as usize);
+    isize = Some(bits as isize);
+    bool = Some(bits == 1);
+    char = char::from_u32(bits as u32);
+    NonZeroU64 = Self::new(bits);
+    NonZeroI64 = Self::new(bits as i64);
+    NonZeroU32 = Self::new(bits as u32);
+    NonZeroI32 = Self::new(bits as i32);
+    NonZeroU16 = Self::new(bits as u16);
+    NonZeroI16 = Self::new(bits as i16);
+    NonZeroU8 = Self::new(bits as u8);
+    NonZeroI8 = Self::new(bits as i8);
+    NonZeroUsize = Self::new(bits as usize);
+    NonZeroIsize = Self::new(bits as isize);
 }
 
 macro_rules! unsized_by_hash {

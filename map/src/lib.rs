@@ -7,6 +7,7 @@ mod clear;
 mod clock;
 mod compute;
 mod core;
+mod each;
 mod error;
 mod flight;
 mod forks;
@@ -37,7 +38,7 @@ mod inside;
 pub use board::{Board, Lead, Wait};
 pub use builder::Builder;
 pub use error::{ClearError, GetError, InsertError, OpenError, RemoveError, UpdateError};
-pub use key::{Hashed, Key};
+pub use key::{Hashed, Key, Number};
 pub use map::{Inserted, Map};
 #[cfg(feature = "objects")]
 pub use objects::{

@@ -74,17 +74,21 @@ fn lookups_and_renewals_in_place_need_no_turn() {
     assert_eq!((found, map.stats().refused, map.stats().busy), (vec![(1, 10)], 0, 0));
 }
 
-// The other thread has the turn once the entries are listed, and with an expired one looked up.
+// The other thread has the turn once the entries are listed.
 #[test]
 fn a_sweep_whose_removal_is_held_says_so() {
     type Sweep = fn(&Numbers) -> Result<(), ClearError>;
-    let sweeps: [(Sweep, u32); 2] = [(|map| map.clear(), 1), (|map| map.remove_expired().map(|_| ()), 2)];
-    for (sweep, calls_before) in sweeps {
+    let sweeps: [(Sweep, Duration); 3] = [
+        (|map| map.clear(), Duration::ZERO),
+        (|map| map.remove_expired().map(drop), Duration::ZERO),
+        (|map| map.retain(|_, _| false).map(drop), LIFE),
+    ];
+    for (sweep, life) in sweeps {
         let ((map, _), turn) = (open(), Rc::new(RefCell::new(None)));
-        map.insert_for(1, 11, Duration::ZERO).unwrap();
+        map.insert_for(1, 11, life).unwrap();
         let (held, taken) = (map.clone(), Rc::clone(&turn));
-        before_calls(calls_before, 1, move || drop(taken.replace(Some(hold(&held)))));
-        assert_eq!(calls(|| sweep(&map)), (calls_before + TRIES, Err(ClearError::Held)));
+        before_calls(1, 1, move || drop(taken.replace(Some(hold(&held)))));
+        assert_eq!(calls(|| sweep(&map)), (1 + TRIES, Err(ClearError::Held)));
         assert_eq!((map.len(), map.stats().refused, map.stats().removed), (1, 1, 0));
     }
 }
@@ -204,13 +208,13 @@ fn a_clear_counts_what_it_removed_itself() {
     }
 }
 
-// The entry is put anew once the call has looked it up.
+// The entry is put anew once the call has listed it.
 #[test]
 fn what_was_put_since_is_not_removed_as_expired() {
     let (map, _) = open();
     map.put(1, 11, Some(Duration::ZERO)).unwrap();
     let other = map.clone();
-    before_calls(2, 1, move || assert!(other.insert(1, 20).is_ok()));
+    before_calls(1, 1, move || assert!(other.insert(1, 20).is_ok()));
     assert_eq!(calls(|| map.remove_expired()).1, Ok(0));
     assert_eq!((map.get(&1), map.stats().removed, map.stats().refused), (Some(20), 0, 0));
 }
