@@ -225,38 +225,21 @@ by_hash! { false:
 }
 
 macro_rules! given_back {
-    ($bits:ident: $($name:ty = $of:expr;)*) => {
-        $(impl Number for $name {
+    ($bits:ident: $($key:expr => $($name:ident)*;)*) => {
+        $($(impl Number for $name {
             fn of_bits($bits: u64) -> Option<Self> {
-                $of
+                $key
             }
-        })*
+        })*)*
     };
 }
 
 given_back! { bits:
-    u64 = Some(bits);
-    i64 = Some(bits as i64);
-    u32 = Some(bits as u32);
-    i32 = Some(bits as i32);
-    u16 = Some(bits as u16);
-    i16 = Some(bits as i16);
-    u8 = Some(bits as u8);
-    i8 = Some(bits as i8);
-    usize = Some(bits as usize);
-    isize = Some(bits as isize);
-    bool = Some(bits == 1);
-    char = char::from_u32(bits as u32);
-    NonZeroU64 = Self::new(bits);
-    NonZeroI64 = Self::new(bits as i64);
-    NonZeroU32 = Self::new(bits as u32);
-    NonZeroI32 = Self::new(bits as i32);
-    NonZeroU16 = Self::new(bits as u16);
-    NonZeroI16 = Self::new(bits as i16);
-    NonZeroU8 = Self::new(bits as u8);
-    NonZeroI8 = Self::new(bits as i8);
-    NonZeroUsize = Self::new(bits as usize);
-    NonZeroIsize = Self::new(bits as isize);
+    Some(bits as Self) => u64 i64 u32 i32 u16 i16 u8 i8 usize isize;
+    Self::new(bits as _) =>
+        NonZeroU64 NonZeroI64 NonZeroU32 NonZeroI32 NonZeroU16 NonZeroI16 NonZeroU8 NonZeroI8 NonZeroUsize NonZeroIsize;
+    Some(bits == 1) => bool;
+    char::from_u32(bits as u32) => char;
 }
 
 macro_rules! unsized_by_hash {

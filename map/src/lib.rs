@@ -43,7 +43,7 @@ pub use map::{Inserted, Map};
 #[cfg(feature = "objects")]
 pub use objects::{
     AbsentError, Block, Bytes, BytesBuilder, BytesMap, Head, IfError, Look, ObjectBuilder, ObjectLead, ObjectMap, ObjectWait,
-    Put, Reason, Refused,
+    Pinned, Put, Reason, Refused,
 };
 pub use published::Published;
 pub use stats::Stats;

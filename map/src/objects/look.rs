@@ -79,10 +79,23 @@ where
         self.get_with(key, V::clone)
     }
 
+    /// A clone of the key's value, by one lookup. `None`: the key is absent, expired or evicted.
+    ///
+    /// # Errors
+    ///
+    /// [`GetError::Busy`].
+    pub fn try_get<Q: Hash + Eq + ?Sized>(&self, key: &Q) -> Result<Option<V>, GetError>
+    where
+        K: Borrow<Q>,
+        V: Clone,
+    {
+        Ok(self.inner.look(key, 1, |object| object.value.clone())?.found())
+    }
+
     /// Calls `look` with the key's value, and returns what it returns. `None`: as [`get`](Self::get).
     ///
-    /// While `look` runs, no object that leaves the map is freed, in any thread: so be quick, and copy an `Arc` out of the value for anything that may
-    /// block. It may call the map.
+    /// While `look` runs, no object that leaves the map is freed, in any thread: so be quick, and [`pin`](Self::pin) the value for anything that may block. `look`
+    /// may call the map.
     #[inline]
     pub fn get_with<Q: Hash + Eq + ?Sized, R>(&self, key: &Q, look: impl FnOnce(&V) -> R) -> Option<R>
     where
@@ -175,9 +188,9 @@ where
 }
 
 impl<O: Held, S: BuildHasher> ObjectInner<O, S> {
-    // Like `look`, without the moments, so that they are not copied.
+    /// Like `look`, without the moments, so that they are not copied.
     #[inline]
-    fn find_with<Q: Hash + ?Sized, R>(&self, key: &Q, look: impl FnOnce(&O) -> R) -> Option<R>
+    pub fn find_with<Q: Hash + ?Sized, R>(&self, key: &Q, look: impl FnOnce(&O) -> R) -> Option<R>
     where
         O: Keyed<Q>,
     {

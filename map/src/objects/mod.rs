@@ -12,6 +12,7 @@ mod inner;
 mod look;
 mod map;
 mod object;
+mod pin;
 mod pinned;
 mod put;
 mod remove;
@@ -25,6 +26,7 @@ pub use bytes_map::{BytesBuilder, BytesMap};
 pub use error::{AbsentError, IfError, Refused};
 pub use look::Look;
 pub use map::ObjectMap;
+pub use pin::Pinned;
 pub use put::Put;
 
 #[cfg(test)]

@@ -129,7 +129,7 @@ impl<O: Held, S> ObjectInner<O, S> {
         let mut removed = 0;
         for Entry { key: hash, value: [word], since } in self.core.list(LISTS, Handle::try_stamped_entries)? {
             if leaves(pinned.object(word)) {
-                removed += usize::from(ClearError::of_take(self.take_if(hash, since, reason))?);
+                removed += usize::from(ClearError::of_take(self.take_if(hash, since, reason, self.core.tries))?);
             }
         }
         Ok(removed)

@@ -48,9 +48,40 @@ fn a_write_that_is_held_tries_so_often_and_changes_nothing() {
     assert_eq!(calls(|| map.remove_stamped(map.hash_of(&1), since)), (TRIES, Err(IfError::Held)));
     assert_eq!(calls(|| map.clear()), (100, Err(ClearError::Held)));
     assert_eq!(calls(|| map.remove_expired()), (100, Err(ClearError::Held)));
-    assert_eq!((map.stats().refused, map.get(&1), map.get(&2), map.len()), (15, Some(10), None, 1));
+    assert_eq!(calls(|| map.retain(|_, _| false)), (100, Err(ClearError::Held)));
+    assert_eq!(calls(|| map.take(&1).map(drop)), (1 + TRIES, Err(RemoveError::Held)));
+    assert_eq!((map.stats().refused, map.get(&1), map.get(&2), map.len()), (17, Some(10), None, 1));
     drop(turn);
     assert_eq!((map.insert(2, 20).is_ok(), map.remove(&1)), (true, Ok(Some(10))));
+}
+
+#[test]
+fn a_single_try_is_one() {
+    let (map, _) = open();
+    let turn = hold(&map);
+    assert_eq!(calls(|| map.try_insert(1, 11).map_err(|back| back.why)), (1, Err(HELD)));
+    assert_eq!(calls(|| map.try_update(1, |_| 11)), (2, Err(UPDATE_HELD)));
+    assert_eq!(calls(|| map.try_update(2, |_| 20)), (2, Err(UPDATE_HELD)));
+    assert_eq!(calls(|| map.try_remove(&1)), (2, Err(RemoveError::Held)));
+    assert_eq!((calls(|| map.try_get(&1)), calls(|| map.try_get(&2))), ((1, Ok(Some(10))), (1, Ok(None))));
+    assert_eq!((map.stats().refused, map.len()), (4, 1));
+    drop(turn);
+    assert_eq!(map.try_insert(1, 11).map_err(|back| back.why), Ok(Inserted::Renewed));
+    assert_eq!(map.try_update(1, |old| old.map_or(0, |old| old + 1)).map(|put| put.did), Ok(Inserted::Renewed));
+    assert_eq!((map.try_remove(&1), map.try_remove(&1)), (Ok(Some(12)), Ok(None)));
+}
+
+#[test]
+fn a_single_try_that_is_overtaken_says_so() {
+    let (map, _) = open();
+    let mut calls_of_change = 0;
+    let change = |_: Option<&u64>| {
+        calls_of_change += 1;
+        11
+    };
+    assert_eq!(beside_puts(&map, None, 1, || map.try_update(1, change)), Err(UpdateError::Contended));
+    assert_eq!(beside_puts(&map, None, 1, || map.try_remove(&1)), Err(RemoveError::Contended));
+    assert_eq!((calls_of_change, map.get(&1)), (1, Some(20)));
 }
 
 #[test]
