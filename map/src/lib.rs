@@ -16,6 +16,7 @@ mod handle;
 mod inner;
 mod key;
 mod key_locks;
+mod load;
 mod map;
 #[cfg(feature = "objects")]
 mod objects;
