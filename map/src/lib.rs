@@ -9,6 +9,7 @@ mod compute;
 mod core;
 mod each;
 mod error;
+mod extend;
 mod flight;
 mod forks;
 mod generation;

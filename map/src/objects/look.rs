@@ -155,6 +155,19 @@ where
         self.inner.look(key, self.inner.core.looks(), |object| look(&object.value))
     }
 
+    /// Clones of the values of these keys, in their order: each as by [`get`](Self::get), with fewer calls of the index.
+    #[must_use]
+    pub fn get_many<'a, Q: Hash + Eq + ?Sized + 'a>(&self, keys: impl IntoIterator<Item = &'a Q>) -> Vec<Option<V>>
+    where
+        K: Borrow<Q>,
+        V: Clone,
+    {
+        let keys: Vec<&Q> = keys.into_iter().collect();
+        let mut values = vec![None; keys.len()];
+        self.get_many_with(&keys, |index, value| values[index] = Some(value.clone()));
+        values
+    }
+
     /// Looks the keys up in order, and calls `look` with the index and the value of each that is found. Up to 32 keys are looked up before
     /// `look` gets the first of them. No object that leaves the map is freed before the call ends.
     pub fn get_many_with<Q: Hash + Eq + ?Sized>(&self, keys: &[&Q], mut look: impl FnMut(usize, &V))
