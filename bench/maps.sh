@@ -1,8 +1,8 @@
 #!/usr/bin/env bash
 # Maps of a program's own types beside their peers: cefrodil-map beside dashmap, a HashMap under a lock and an LRU cache under a mutex; and
 # cefrodil::map beside libcuckoo and TBB. All hash by SipHash-1-3 with a secret. In the rows with a quick hash, all hash by two multiplications.
-# The cefrodil maps keep no strings, so they compare the two words of one SipHash. A number is its own second word. With the quick hash they
-# take two hashes. Keys are numbers, or strings of 16 letters. Each lookup's value is compared with the one that was put for its key.
+# The cefrodil maps keep no strings, so they compare the two words of one SipHash. A number is its own second word. With the quick hash
+# `cefrodil::map` takes two hashes. Keys are numbers, or strings of 16 letters. Each lookup's value is compared with the one that was put for its key.
 # bench/contests.py says how the contestants run and what a cell is.
 #
 # A full cache holds half of the keys that are drawn. Each key that is missed is put. The table has the share of hits, since cefrodil-map and

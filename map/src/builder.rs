@@ -57,8 +57,8 @@ impl<K: ?Sized, V, S> Builder<K, V, S> {
 
     /// What hashes the keys. Each key is hashed twice, with different prefixes. Two keys with the same two hashes are one key to the map, so
     /// all 64 bits must be well spread. If an enemy may choose keys, take a keyed hasher. The default is SipHash-1-3, with a secret by std's
-    /// `RandomState`. It hashes each key once, to 128 bits. If `K` is an integer of std of up to 64 bits, also a `NonZero` one, a `char` or a
-    /// `bool`, the map keeps the number instead of a second hash. Two such numbers are never confused.
+    /// `RandomState`. It hashes each key once, to 128 bits. If `K` is a [`Number`](crate::Number), the map keeps the number instead of a second hash,
+    /// whatever the hasher is. Two such numbers are never confused.
     pub fn hasher<T>(self, hasher: T) -> Builder<K, V, T> {
         Builder { settings: self.settings.hasher(hasher), entries: PhantomData }
     }

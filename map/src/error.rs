@@ -1,5 +1,5 @@
 //! Why a call failed.
-use cefrodil::{ListError, PutError, Spent, TurnError};
+use cefrodil::{ListError, PutError, PutIfError, Spent, TurnError};
 use std::error::Error;
 use std::fmt::{self, Display, Formatter};
 
@@ -139,6 +139,16 @@ impl ClearError {
         match why {
             TurnError::Held => ClearError::Held,
             TurnError::Call(Spent) => ClearError::Spent,
+        }
+    }
+
+    /// Whether an entry was removed on the condition of its moment.
+    pub(crate) fn of_take<T>(taken: Result<T, TurnError<PutIfError>>) -> Result<bool, ClearError> {
+        match taken {
+            Ok(_) => Ok(true),
+            Err(TurnError::Call(PutIfError::Spent)) => Err(ClearError::Spent),
+            Err(TurnError::Call(_)) => Ok(false),
+            Err(TurnError::Held) => Err(ClearError::Held),
         }
     }
 }

@@ -67,7 +67,8 @@ impl<K: Key + ?Sized, V: Copy, S: BuildHasher> Inner<K, V, S> {
             .within(tries, || self.found(print, Seen::of(&mut self.core.slots.call(|handle| handle.get_or_turn(print.key)))))
     }
 
-    fn found(&self, print: Print, seen: Seen) -> Option<Found<V>> {
+    /// What was seen under this key. `None`: nothing, since the try was busy.
+    pub fn found(&self, print: Print, seen: Seen) -> Option<Found<V>> {
         let (words, since) = match seen {
             Seen::Entry(words, since) => (words, since),
             Seen::Absent => return Some(Found::Absent),
@@ -230,7 +231,7 @@ impl<K: Key + ?Sized, V: Copy, S: BuildHasher> Inner<K, V, S> {
                 Some(Found::Other(_) | Found::Absent) => return Ok(None),
                 None => return Err(self.core.refused(RemoveError::Busy)),
             };
-            match self.core.slots.in_turn(tries, || self.core.in_lock(print.key, |handle| handle.take_if(print.key, since))) {
+            match self.take_if(print.key, since, tries) {
                 Ok(()) => {
                     self.core.slots.count(Kind::Removed);
                     return Ok(value);
@@ -242,5 +243,10 @@ impl<K: Key + ?Sized, V: Copy, S: BuildHasher> Inner<K, V, S> {
             }
         }
         Err(self.core.refused(RemoveError::Contended))
+    }
+
+    /// Removes the entry under this key of the index if it was put at the moment `since`.
+    pub fn take_if(&self, hash: u64, since: u64, tries: u32) -> Result<(), TurnError<PutIfError>> {
+        self.core.slots.in_turn(tries, || self.core.in_lock(hash, |handle| handle.take_if(hash, since)))
     }
 }

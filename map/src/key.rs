@@ -182,6 +182,19 @@ impl<T: Hash> Key for Hashed<T> {
     }
 }
 
+/// A key that a [`Map`](crate::Map) can give back, since it keeps the number: an integer of std of up to 64 bits, also a `NonZero` one, a `char` or a
+/// `bool`.
+#[diagnostic::on_unimplemented(
+    message = "a `Map` can't give a `{Self}` back",
+    label = "a `Map` keeps no keys, but integers of up to 64 bits",
+    note = "take an `ObjectMap`, of the feature `objects`: it keeps its keys"
+)]
+pub trait Number: Key + Sized {
+    /// The key that writes this number, which a key of this type has written.
+    #[doc(hidden)]
+    fn of_bits(bits: u64) -> Option<Self>;
+}
+
 // Types whose `Hash` writes all.
 macro_rules! by_hash {
     ($is_number:literal: $($name:ty)*) => {
@@ -209,6 +222,24 @@ by_hash! { true:
 by_hash! { false:
     () u128 i128 NonZeroU128 NonZeroI128 String CString OsString Ordering Duration Instant SystemTime ThreadId
     IpAddr Ipv4Addr Ipv6Addr SocketAddr SocketAddrV4 SocketAddrV6
+}
+
+macro_rules! given_back {
+    ($bits:ident: $($key:expr => $($name:ident)*;)*) => {
+        $($(impl Number for $name {
+            fn of_bits($bits: u64) -> Option<Self> {
+                $key
+            }
+        })*)*
+    };
+}
+
+given_back! { bits:
+    Some(bits as Self) => u64 i64 u32 i32 u16 i16 u8 i8 usize isize;
+    Self::new(bits as _) =>
+        NonZeroU64 NonZeroI64 NonZeroU32 NonZeroI32 NonZeroU16 NonZeroI16 NonZeroU8 NonZeroI8 NonZeroUsize NonZeroIsize;
+    Some(bits == 1) => bool;
+    char::from_u32(bits as u32) => char;
 }
 
 macro_rules! unsized_by_hash {

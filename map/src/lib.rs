@@ -7,7 +7,9 @@ mod clear;
 mod clock;
 mod compute;
 mod core;
+mod each;
 mod error;
+mod extend;
 mod flight;
 mod forks;
 mod generation;
@@ -15,6 +17,7 @@ mod handle;
 mod inner;
 mod key;
 mod key_locks;
+mod load;
 mod map;
 #[cfg(feature = "objects")]
 mod objects;
@@ -37,12 +40,12 @@ mod inside;
 pub use board::{Board, Lead, Wait};
 pub use builder::Builder;
 pub use error::{ClearError, GetError, InsertError, OpenError, RemoveError, UpdateError};
-pub use key::{Hashed, Key};
+pub use key::{Hashed, Key, Number};
 pub use map::{Inserted, Map};
 #[cfg(feature = "objects")]
 pub use objects::{
     AbsentError, Block, Bytes, BytesBuilder, BytesMap, Head, IfError, Look, ObjectBuilder, ObjectLead, ObjectMap, ObjectWait,
-    Put, Reason, Refused,
+    Pinned, Put, Reason, Refused,
 };
 pub use published::Published;
 pub use stats::Stats;

@@ -49,7 +49,7 @@ impl<K: ?Sized, S: BuildHasher> Printer<K, S> {
         Printer { hasher, secret, keys: PhantomData }
     }
 
-    /// Hashes a key twice, after different words.
+    /// Hashes a key twice, after different words. A number is hashed once, and is its own check word.
     pub fn twice(hasher: S) -> Printer<K, S> {
         Printer { hasher, secret: None, keys: PhantomData }
     }
@@ -62,7 +62,8 @@ impl<K: ?Sized, S: BuildHasher> Printer<K, S> {
     {
         let Some(secret) = self.secret else {
             let hash_after = |word| self.hasher.hash_one(After(word, key));
-            return Print { key: hash_after(KEY), check: hash_after(CHECK) };
+            let check = if K::IS_NUMBER { number_of(key) } else { None };
+            return Print { key: hash_after(KEY), check: check.unwrap_or_else(|| hash_after(CHECK)) };
         };
         let mut state = PrintHasher::new(secret);
         key.write(&mut state);
@@ -72,6 +73,14 @@ impl<K: ?Sized, S: BuildHasher> Printer<K, S> {
             state.print()
         }
     }
+}
+
+// The number of up to 64 bits that the key is.
+#[inline(always)]
+fn number_of<Q: Key + ?Sized>(key: &Q) -> Option<u64> {
+    let mut state = PrintHasher::new(Secret(0, 0));
+    key.write(&mut state);
+    (state.parts == 1).then_some(state.number)
 }
 
 // A key after a word.

@@ -75,6 +75,15 @@ fn references_come_back() {
 }
 
 #[test]
+fn a_map_is_filled_from_an_iterator() {
+    let mut map: Map<u64, u64> = (0..200).map(|key| (key, key + 1)).collect();
+    let kept = (0..200).filter(|key| map.get(key) == Some(key + 1)).count() as u64;
+    assert_eq!((kept + map.stats().evicted, map.stats().refused, map.capacity() >= 200), (200, 0, true));
+    map.extend([(3, 30), (3, 31)]);
+    assert_eq!((map.get(&3), Map::<u64, u64>::from_iter([]).len()), (Some(31), 0));
+}
+
+#[test]
 fn a_set_needs_no_value() {
     let seen = Map::<str, ()>::new(100).unwrap();
     seen.insert("one", ()).unwrap();

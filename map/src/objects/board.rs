@@ -70,7 +70,7 @@ where
     /// # Ok::<(), Box<dyn std::error::Error>>(())
     /// ```
     ///
-    /// What [`Map::try_board`](crate::Map::try_board) says of a lead that is dropped, of threads and of waiting is true here, too. Keys with the
+    /// [`get_or_insert_async`](Self::get_or_insert_async) does all this in one call. What [`Map::try_board`](crate::Map::try_board) says of a lead that is dropped, of threads and of waiting is true here, too. Keys with the
     /// same hash wait for each other.
     pub fn try_board<Q>(&self, key: &Q) -> Board<V, ObjectLead<'_, K, V, S>, ObjectWait>
     where

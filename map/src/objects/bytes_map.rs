@@ -170,7 +170,7 @@ impl<H: Head, S: BuildHasher> BytesMap<H, S> {
     /// [`InsertError`]: nothing was changed.
     pub fn put(&self, block: Block<H>) -> Result<Put, InsertError> {
         let hash = self.hash_of(block.key());
-        self.inner.put(hash, block).map_err(|(_, why)| self.inner.core.refused(why))
+        self.inner.put(hash, block, self.inner.core.tries).map_err(|(_, why)| self.inner.core.refused(why))
     }
 
     /// Puts the block if its key is absent.

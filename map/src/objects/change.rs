@@ -26,7 +26,16 @@ where
     ///
     /// [`UpdateError`]: this call changed nothing.
     pub fn update(&self, key: K, change: impl FnMut(Option<&V>) -> V) -> Result<Put, UpdateError> {
-        self.inner.update(key, change).map_err(|why| self.inner.core.refused(why))
+        self.inner.update(key, self.inner.core.tries, change).map_err(|why| self.inner.core.refused(why))
+    }
+
+    /// Like [`update`](Self::update), with a single try. So `change` is called once at most.
+    ///
+    /// # Errors
+    ///
+    /// [`UpdateError`]: this call changed nothing.
+    pub fn try_update(&self, key: K, change: impl FnMut(Option<&V>) -> V) -> Result<Put, UpdateError> {
+        self.inner.update(key, 1, change).map_err(|why| self.inner.core.refused(why))
     }
 
     /// Like [`update`](Self::update), if the key has a value. `None`: it has none, and nothing was put. The deadline stays.
@@ -63,12 +72,12 @@ where
 // What is made of a value has its generation, so it ends with that. What is made of one that has ended has that of the lookup. What is made where nothing
 // is has none before it is put.
 impl<K: Hash + Eq, V, S: BuildHasher> ObjectInner<Object<K, V>, S> {
-    fn update(&self, mut key: K, mut change: impl FnMut(Option<&V>) -> V) -> Result<Put, UpdateError> {
+    fn update(&self, mut key: K, tries: u32, mut change: impl FnMut(Option<&V>) -> V) -> Result<Put, UpdateError> {
         let hash = self.hash(&key);
-        for _ in 0..self.core.tries {
+        for _ in 0..tries {
             let (pinned, generation) = (self.pin(), self.core.generation.now());
             let has_ended = || self.core.generation.now() != generation;
-            let (seen, over) = pinned.place(hash, &key, self.core.tries).ok_or(UpdateError::Busy)?;
+            let (seen, over) = pinned.place(hash, &key, tries).ok_or(UpdateError::Busy)?;
             if seen.is_none() && has_ended() {
                 continue;
             }
@@ -82,13 +91,13 @@ impl<K: Hash + Eq, V, S: BuildHasher> ObjectInner<Object<K, V>, S> {
             let object = self.object(key, value, None, made_in);
             self.detach(hash);
             let put = match seen {
-                Some(seen) => self.put_over_seen(hash, object, seen),
-                None => self.put_over(hash, object, over, self.core.tries),
+                Some(seen) => self.put_over_seen(hash, object, seen, tries),
+                None => self.put_over(hash, object, over, tries),
             };
             match put {
                 Ok(put) => return Ok(put),
                 Err((_, Fail::Insert(why))) => return Err(why.into()),
-                Err((object, _)) => key = object.key,
+                Err((object, _)) => (key, _) = Object::parts(object),
             }
         }
         Err(UpdateError::Contended)
@@ -112,7 +121,7 @@ impl<K: Hash + Eq, V, S: BuildHasher> ObjectInner<Object<K, V>, S> {
             self.detach(hash);
             let put = match anew {
                 Some(_) => self.put_over(hash, object, over, self.core.tries),
-                None => self.put_over_seen(hash, object, seen),
+                None => self.put_over_seen(hash, object, seen, self.core.tries),
             };
             match put {
                 Ok(put) => return Ok(Some(put)),

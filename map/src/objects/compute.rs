@@ -12,6 +12,7 @@ use crate::wait::LOOKS;
 use std::borrow::Borrow;
 use std::convert::Infallible;
 use std::hash::{BuildHasher, Hash};
+use std::sync::Arc;
 
 impl<K, V, S> ObjectMap<K, V, S>
 where
@@ -129,7 +130,7 @@ impl<K: Eq, V: Clone, S> ObjectInner<Object<K, V>, S> {
 
     /// Puts the object where its key has none, unless a write has detached the flight. The value is that of the object.
     /// The lock under which flights are detached is held for the put alone, while no code of the caller runs.
-    pub fn fill(&self, hash: u64, mut object: Box<Object<K, V>>, value: V, leader: &Leader<()>, tries: u32) -> Published<V> {
+    pub fn fill(&self, hash: u64, mut object: Arc<Object<K, V>>, value: V, leader: &Leader<()>, tries: u32) -> Published<V> {
         let mut why = UpdateError::Contended;
         for _ in 0..tries {
             let pinned = self.pin();

@@ -14,6 +14,7 @@ use std::hash::{BuildHasher, Hash};
 use std::marker::PhantomData;
 use std::mem;
 use std::panic::{catch_unwind, AssertUnwindSafe};
+use std::sync::Arc;
 use std::time::Duration;
 
 pub(crate) struct ObjectInner<O: Held, S> {
@@ -108,7 +109,8 @@ impl<O: Held, S> ObjectInner<O, S> {
         for word in words {
             // SAFETY: the word is one of `into_word` of these types, since it was in this map's index. `Epochs` returns a word once for each
             // time that it was retired. That is once: an object is retired when it leaves the index, and is never put again. `Epochs` returns
-            // it when no call is pinned that may have found the object. So nothing borrows it but `freed`, and nothing else makes an owner of it.
+            // it when no call is pinned that may have found the object. So nothing borrows it but `freed` and other owners, and nothing else makes an
+            // owner of the word.
             unsafe {
                 if let Some(freed) = &self.freed {
                     contain(|| freed(&*pointer::<O>(word)));
@@ -121,14 +123,14 @@ impl<O: Held, S> ObjectInner<O, S> {
 
 impl<K, V, S> ObjectInner<Object<K, V>, S> {
     /// An object that is to be put. `generation`: that of what it was made of, or `NONE`; then its put takes effect in that of now.
-    pub fn object(&self, key: K, value: V, life: Option<Duration>, generation: u64) -> Box<Object<K, V>> {
+    pub fn object(&self, key: K, value: V, life: Option<Duration>, generation: u64) -> Arc<Object<K, V>> {
         let idle = self.core.idle.map_or(NEVER, |idle| self.core.clock.deadline(idle));
         let mut object = Object::new(key, value, generation, self.deadline(life), idle);
         if let Some(weights) = &self.weights {
             let weight = weights.weigh(&object);
             object.set_weight(weight);
         }
-        object
+        Arc::new(object)
     }
 }
 

@@ -79,10 +79,23 @@ where
         self.get_with(key, V::clone)
     }
 
+    /// A clone of the key's value, by one lookup. `None`: the key is absent, expired or evicted.
+    ///
+    /// # Errors
+    ///
+    /// [`GetError::Busy`].
+    pub fn try_get<Q: Hash + Eq + ?Sized>(&self, key: &Q) -> Result<Option<V>, GetError>
+    where
+        K: Borrow<Q>,
+        V: Clone,
+    {
+        Ok(self.inner.look(key, 1, |object| object.value.clone())?.found())
+    }
+
     /// Calls `look` with the key's value, and returns what it returns. `None`: as [`get`](Self::get).
     ///
-    /// While `look` runs, no object that leaves the map is freed, in any thread: so be quick, and copy an `Arc` out of the value for anything that may
-    /// block. It may call the map.
+    /// While `look` runs, no object that leaves the map is freed, in any thread: so be quick, and [`pin`](Self::pin) the value for anything that may block. `look`
+    /// may call the map.
     #[inline]
     pub fn get_with<Q: Hash + Eq + ?Sized, R>(&self, key: &Q, look: impl FnOnce(&V) -> R) -> Option<R>
     where
@@ -142,6 +155,19 @@ where
         self.inner.look(key, self.inner.core.looks(), |object| look(&object.value))
     }
 
+    /// Clones of the values of these keys, in their order: each as by [`get`](Self::get), with fewer calls of the index.
+    #[must_use]
+    pub fn get_many<'a, Q: Hash + Eq + ?Sized + 'a>(&self, keys: impl IntoIterator<Item = &'a Q>) -> Vec<Option<V>>
+    where
+        K: Borrow<Q>,
+        V: Clone,
+    {
+        let keys: Vec<&Q> = keys.into_iter().collect();
+        let mut values = vec![None; keys.len()];
+        self.get_many_with(&keys, |index, value| values[index] = Some(value.clone()));
+        values
+    }
+
     /// Looks the keys up in order, and calls `look` with the index and the value of each that is found. Up to 32 keys are looked up before
     /// `look` gets the first of them. No object that leaves the map is freed before the call ends.
     pub fn get_many_with<Q: Hash + Eq + ?Sized>(&self, keys: &[&Q], mut look: impl FnMut(usize, &V))
@@ -175,9 +201,9 @@ where
 }
 
 impl<O: Held, S: BuildHasher> ObjectInner<O, S> {
-    // Like `look`, without the moments, so that they are not copied.
+    /// Like `look`, without the moments, so that they are not copied.
     #[inline]
-    fn find_with<Q: Hash + ?Sized, R>(&self, key: &Q, look: impl FnOnce(&O) -> R) -> Option<R>
+    pub fn find_with<Q: Hash + ?Sized, R>(&self, key: &Q, look: impl FnOnce(&O) -> R) -> Option<R>
     where
         O: Keyed<Q>,
     {

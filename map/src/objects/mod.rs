@@ -9,9 +9,11 @@ mod epochs;
 mod error;
 mod evict;
 mod inner;
+mod load;
 mod look;
 mod map;
 mod object;
+mod pin;
 mod pinned;
 mod put;
 mod remove;
@@ -25,6 +27,7 @@ pub use bytes_map::{BytesBuilder, BytesMap};
 pub use error::{AbsentError, IfError, Refused};
 pub use look::Look;
 pub use map::ObjectMap;
+pub use pin::Pinned;
 pub use put::Put;
 
 #[cfg(test)]

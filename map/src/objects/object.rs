@@ -3,7 +3,9 @@ use crate::clock::NEVER;
 use crate::generation::NONE;
 use std::borrow::Borrow;
 use std::ops::Deref;
+use std::ptr;
 use std::sync::atomic::{AtomicU64, Ordering::Relaxed, Ordering::SeqCst};
+use std::sync::Arc;
 
 /// What a map has on the heap for a key.
 ///
@@ -12,7 +14,7 @@ use std::sync::atomic::{AtomicU64, Ordering::Relaxed, Ordering::SeqCst};
 /// The word that `into_word` returns is the address of a `Self`, and a cast exposed a pointer there to all that belongs to it. It stays
 /// there until `of_word`.
 pub(crate) unsafe trait Held: Sized {
-    /// What owns it before it is put, and when it is to be freed.
+    /// What owns it before it is put, and when it is to be freed. It may be one of several owners.
     type Owner: Deref<Target = Self>;
 
     /// Its address.
@@ -22,7 +24,7 @@ pub(crate) unsafe trait Held: Sized {
     ///
     /// # Safety
     ///
-    /// The word is one of `into_word` of this type, nothing borrows what is there, and `of_word` was not called of it since.
+    /// The word is one of `into_word` of this type, nothing but an owner borrows what is there, and `of_word` was not called of it since.
     unsafe fn of_word(word: u64) -> Self::Owner;
 
     /// When it expires.
@@ -78,9 +80,30 @@ pub(crate) struct Object<K, V> {
 }
 
 impl<K, V> Object<K, V> {
-    pub fn new(key: K, value: V, generation: u64, deadline: u64, idle: u64) -> Box<Object<K, V>> {
+    pub fn new(key: K, value: V, generation: u64, deadline: u64, idle: u64) -> Object<K, V> {
         let [deadline, idle, generation] = [deadline, idle, generation].map(AtomicU64::new);
-        Box::new(Object { key, deadline, idle, weight: 0, generation, value })
+        Object { key, deadline, idle, weight: 0, generation, value }
+    }
+
+    /// The parts of an object that was never put, so it has one owner.
+    pub fn parts(owner: Arc<Object<K, V>>) -> (K, V) {
+        let Object { key, value, .. } = Arc::into_inner(owner).expect("only what was put has other owners");
+        (key, value)
+    }
+
+    /// One more owner of the object, which keeps it when it has left the map and no call uses it any more.
+    ///
+    /// # Safety
+    ///
+    /// A call has found the object in the index, and has been pinned since before that.
+    pub unsafe fn share(&self) -> Arc<Object<K, V>> {
+        let at = pointer::<Object<K, V>>(ptr::from_ref(self) as usize as u64);
+        // SAFETY: the object was put, so `into_word` made this address of an `Arc`. It exposed the pointer, by which this one comes to the counts, too. The
+        // owner that was put is dropped when no such call is pinned any more, so the count is not 0.
+        unsafe {
+            Arc::increment_strong_count(at);
+            Arc::from_raw(at)
+        }
     }
 
     /// Before it is put.
@@ -89,17 +112,17 @@ impl<K, V> Object<K, V> {
     }
 }
 
-// SAFETY: the word is the address of a box, whose pointer the cast exposes.
+// SAFETY: the word is the address of what an `Arc` owns, whose pointer the cast exposes.
 unsafe impl<K, V> Held for Object<K, V> {
-    type Owner = Box<Object<K, V>>;
+    type Owner = Arc<Object<K, V>>;
 
-    fn into_word(owner: Box<Object<K, V>>) -> u64 {
-        Box::into_raw(owner) as usize as u64
+    fn into_word(owner: Arc<Object<K, V>>) -> u64 {
+        Arc::into_raw(owner) as usize as u64
     }
 
-    unsafe fn of_word(word: u64) -> Box<Object<K, V>> {
-        // SAFETY: `into_word` made the word of a box of this type, and the caller says that nobody else uses it.
-        unsafe { Box::from_raw(word as usize as *mut Object<K, V>) }
+    unsafe fn of_word(word: u64) -> Arc<Object<K, V>> {
+        // SAFETY: `into_word` made the word of an `Arc` of this type, and the caller says that this was not called of it since.
+        unsafe { Arc::from_raw(pointer(word)) }
     }
 
     #[inline]

@@ -118,11 +118,6 @@ impl<O: Held, S> Pinned<'_, O, S> {
         })
     }
 
-    /// Whether the object has expired. The word is one that the index returned to this call.
-    pub fn has_expired(&self, word: u64) -> bool {
-        !self.inner.is_live(self.object(word))
-    }
-
     #[cold]
     fn look_again<Q: ?Sized>(&self, hash: u64, key: &Q, tries: u32) -> Option<State<'_, O>>
     where

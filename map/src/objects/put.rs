@@ -11,6 +11,7 @@ use crate::generation::NONE;
 use crate::map::Inserted;
 use cefrodil::{Handle, PutIfAbsentError, PutIfError, Replaced, Swapped, TurnError};
 use std::hash::{BuildHasher, Hash};
+use std::sync::Arc;
 use std::time::Duration;
 
 /// What a put did.
@@ -39,6 +40,15 @@ where
         Ok(self.put(key, value, None)?.did)
     }
 
+    /// Like [`insert`](Self::insert), with a single try.
+    ///
+    /// # Errors
+    ///
+    /// As [`insert`](Self::insert).
+    pub fn try_insert(&self, key: K, value: V) -> Result<Inserted, Refused<K, V>> {
+        Ok(self.inner.put_pair(key, value, None, 1)?.did)
+    }
+
     /// Like [`insert`](Self::insert), with a time to live of its own. One that is too long to be counted never ends, and `Duration::ZERO` is
     /// over at once.
     ///
@@ -64,10 +74,7 @@ where
     ///
     /// As [`insert`](Self::insert).
     pub fn put(&self, key: K, value: V, life: Option<Duration>) -> Result<Put, Refused<K, V>> {
-        let inner = &self.inner;
-        let hash = inner.hash(&key);
-        let object = inner.object(key, value, life, NONE);
-        inner.put(hash, object).map_err(|(object, why)| inner.refuse(*object, why))
+        self.inner.put_pair(key, value, life, self.inner.core.tries)
     }
 
     /// Like [`insert_if_absent`](Self::insert_if_absent), and returns the moment of the put. `life`: a time to live of its own.
@@ -79,7 +86,7 @@ where
         let inner = &self.inner;
         let hash = inner.hash(&key);
         let object = inner.object(key, value, life, NONE);
-        inner.put_new(hash, object, |object| &object.key).map_err(|(object, why)| inner.refuse(*object, why))
+        inner.put_new(hash, object, |object| &object.key).map_err(|(object, why)| inner.refuse(object, why))
     }
 
     /// Replaces the key's value if its last put was at the moment `since`, as a lookup of this key returned it. `life`: a time to live of its
@@ -94,7 +101,7 @@ where
         match inner.generation_at(hash, &key, since) {
             Ok(generation) => {
                 let object = inner.object(key, value, life, generation);
-                inner.replace(hash, since, object).map_err(|(object, why)| inner.refuse(*object, why))
+                inner.replace(hash, since, object).map_err(|(object, why)| inner.refuse(object, why))
             }
             Err(why) => Err(Refused { why: inner.core.refused(why), key, value }),
         }
@@ -150,9 +157,9 @@ impl Fail {
 
 impl<O: Held, S> ObjectInner<O, S> {
     /// Puts the object, whatever there is. On failure it comes back: here and below.
-    pub fn put(&self, hash: u64, object: O::Owner) -> Offered<O, InsertError> {
+    pub fn put(&self, hash: u64, object: O::Owner, tries: u32) -> Offered<O, InsertError> {
         self.detach(hash);
-        self.put_over(hash, object, Over::Any, self.core.tries).map_err(|(object, why)| match why {
+        self.put_over(hash, object, Over::Any, tries).map_err(|(object, why)| match why {
             Fail::Insert(why) => (object, why),
             _ => unreachable!("this put does not ask what is there"),
         })
@@ -195,9 +202,9 @@ impl<O: Held, S> ObjectInner<O, S> {
     }
 
     /// Like `put_over`, over an object that was seen, whose deadline the new one keeps. The lock keeps renewals from coming between.
-    pub fn put_over_seen(&self, hash: u64, object: O::Owner, seen: Seen<O>) -> Offered<O> {
-        self.offer(hash, object, self.core.tries, |word| {
-            let replaced = self.try_to_put(word, self.core.tries, |object| {
+    pub fn put_over_seen(&self, hash: u64, object: O::Owner, seen: Seen<O>, tries: u32) -> Offered<O> {
+        self.offer(hash, object, tries, |word| {
+            let replaced = self.try_to_put(word, tries, |object| {
                 self.core.in_lock(hash, |handle| {
                     object.set_deadline(seen.object.deadline());
                     handle.try_swap_if(hash, seen.since, &[word])
@@ -319,10 +326,18 @@ impl<O: Held, S> ObjectInner<O, S> {
     }
 }
 
+impl<K: Hash, V, S: BuildHasher> ObjectInner<Object<K, V>, S> {
+    fn put_pair(&self, key: K, value: V, life: Option<Duration>, tries: u32) -> Result<Put, Refused<K, V>> {
+        let hash = self.hash(&key);
+        let object = self.object(key, value, life, NONE);
+        self.put(hash, object, tries).map_err(|(object, why)| self.refuse(object, why))
+    }
+}
+
 impl<K, V, S> ObjectInner<Object<K, V>, S> {
     /// Counts a refusal, and gives the object's parts back.
-    fn refuse<E>(&self, object: Object<K, V>, why: E) -> Refused<K, V, E> {
-        let Object { key, value, .. } = object;
+    fn refuse<E>(&self, object: Arc<Object<K, V>>, why: E) -> Refused<K, V, E> {
+        let (key, value) = Object::parts(object);
         Refused { why: self.core.refused(why), key, value }
     }
 }

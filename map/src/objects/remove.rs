@@ -36,6 +36,19 @@ where
         Ok(self.remove_with(key, V::clone)?.found())
     }
 
+    /// Like [`remove`](Self::remove), with a single try.
+    ///
+    /// # Errors
+    ///
+    /// As [`remove`](Self::remove).
+    pub fn try_remove<Q: Hash + Eq + ?Sized>(&self, key: &Q) -> Result<Option<V>, RemoveError>
+    where
+        K: Borrow<Q>,
+        V: Clone,
+    {
+        Ok(self.inner.remove(key, 1, |object| object.value.clone())?.found())
+    }
+
     /// Like [`remove`](Self::remove). Calls `look` with the value that was removed, and returns what it returns, with the moments. An
     /// expired value is removed, too.
     ///
@@ -46,7 +59,7 @@ where
     where
         K: Borrow<Q>,
     {
-        self.inner.remove(key, |object| look(&object.value))
+        self.inner.remove(key, self.inner.core.tries, |object| look(&object.value))
     }
 
     /// Removes the key's value if its last put was at the moment `since`, as a lookup of the key returned it. Returns the moment of the
@@ -93,9 +106,9 @@ impl<O: Held, S> ObjectInner<O, S> {
 
     /// Takes out the object under this hash if it was put at the moment `since`, and retires it. Returns the moment of the removal. What has expired
     /// detaches no flight, so it is taken out with its key's lock.
-    pub fn take_if(&self, hash: u64, since: u64, reason: Reason) -> Result<u64, TurnError<PutIfError>> {
+    pub fn take_if(&self, hash: u64, since: u64, reason: Reason, tries: u32) -> Result<u64, TurnError<PutIfError>> {
         let take = |handle: &mut Handle<1>| handle.try_take_if(hash, since);
-        let taken = self.core.slots.in_turn(self.core.tries, || match reason {
+        let taken = self.core.slots.in_turn(tries, || match reason {
             Reason::Expired => self.core.in_lock(hash, take),
             _ => self.core.slots.call(take),
         })?;
@@ -106,7 +119,7 @@ impl<O: Held, S> ObjectInner<O, S> {
 
     pub fn remove_stamped(&self, hash: u64, since: u64, reason: Reason) -> Result<u64, IfError> {
         self.detach(hash);
-        self.take_if(hash, since, reason).map_err(|why| match why {
+        self.take_if(hash, since, reason, self.core.tries).map_err(|why| match why {
             TurnError::Call(PutIfError::NotThere { at }) => IfError::NotThere { at },
             TurnError::Call(PutIfError::Changed { since }) => IfError::Changed { since },
             TurnError::Call(_) => self.core.refused(IfError::Spent),
@@ -116,15 +129,16 @@ impl<O: Held, S> ObjectInner<O, S> {
 }
 
 impl<O: Held, S: BuildHasher> ObjectInner<O, S> {
-    fn remove<Q: Hash + ?Sized, R>(&self, key: &Q, look: impl FnOnce(&O) -> R) -> Result<Look<R>, RemoveError>
+    /// Removes the key's object. Shows it in a call that has been pinned since before it was found.
+    pub fn remove<Q: Hash + ?Sized, R>(&self, key: &Q, tries: u32, look: impl FnOnce(&O) -> R) -> Result<Look<R>, RemoveError>
     where
         O: Keyed<Q>,
     {
         let hash = self.hash(key);
         self.detach(hash);
-        for _ in 0..self.core.tries {
+        for _ in 0..tries {
             let pinned = self.pin();
-            let (seen, live) = match pinned.look(hash, key, self.core.tries) {
+            let (seen, live) = match pinned.look(hash, key, tries) {
                 Some(State::Live(seen)) => (seen, true),
                 Some(State::Expired(seen)) => (seen, false),
                 Some(State::Other(seen)) => return Ok(Look::Absent { at: seen.at }),
@@ -132,7 +146,7 @@ impl<O: Held, S: BuildHasher> ObjectInner<O, S> {
                 None => return Err(self.core.refused(RemoveError::Busy)),
             };
             let since = seen.since;
-            match self.take_if(hash, since, Reason::Removed) {
+            match self.take_if(hash, since, Reason::Removed, tries) {
                 Ok(at) if live => return Ok(Look::Found { result: look(seen.object), at, since }),
                 Ok(at) => return Ok(Look::Expired { at, since }),
                 Err(TurnError::Call(PutIfError::NotThere { at })) => return Ok(Look::Absent { at }),

@@ -6,7 +6,7 @@ use super::object::Held;
 use crate::error::ClearError;
 use crate::stats::Kind;
 use crate::wait::LISTS;
-use cefrodil::{Handle, PutIfError, Reply, Take, TurnError};
+use cefrodil::{Entry, Handle, Take};
 
 impl<K, V, S> ObjectMap<K, V, S> {
     /// Invalidates all entries, by one step however many there are. Once this has returned, no lookup finds a value that was put before this call, nor one
@@ -40,17 +40,35 @@ impl<K, V, S> ObjectMap<K, V, S> {
         self.clear_all().map_err(|why| self.inner.core.refused(why))
     }
 
-    /// Removes the entries that have expired or were invalidated, and returns how many. One whose lookup other threads disturb is left. It takes memory as
-    /// [`clear`](Self::clear).
+    /// Removes the entries that have expired or were invalidated, and returns how many. It takes memory as [`clear`](Self::clear).
     ///
     /// # Errors
     ///
     /// [`ClearError`]: expired entries may be left.
     pub fn remove_expired(&self) -> Result<usize, ClearError> {
-        let removed = self.expire_all().map_err(|why| self.inner.core.refused(why));
-        // They waited for this call, which was pinned.
-        self.inner.free(self.inner.epochs.free_now());
-        removed
+        self.inner.take_out(Reason::Expired, |object| !self.inner.is_live(object))
+    }
+
+    /// Removes the entries for which `keeps` returns false, and returns how many. It is shown what [`for_each`](Self::for_each) shows. An entry that other
+    /// threads replace after it was shown stays. Once this has returned, no lookup finds a value that [`get_or_insert_with`](Self::get_or_insert_with) or a
+    /// task began to load before it: such a value was put before and shown, or is not put.
+    ///
+    /// ```
+    /// let pages = cefrodil_map::ObjectMap::<(String, u32), Vec<u8>>::new(100)?;
+    /// (0..3).try_for_each(|page| pages.insert(("log".into(), page), vec![]).map(drop))?;
+    /// pages.insert(("data".into(), 0), vec![])?;
+    /// assert_eq!(pages.retain(|(file, _), _| file != "log"), Ok(3));
+    /// assert_eq!(pages.len(), 1);
+    /// # Ok::<(), Box<dyn std::error::Error>>(())
+    /// ```
+    ///
+    /// # Errors
+    ///
+    /// [`ClearError`]: entries may be left.
+    pub fn retain(&self, mut keeps: impl FnMut(&K, &V) -> bool) -> Result<usize, ClearError> {
+        let inner = &self.inner;
+        inner.core.flights.detach_all();
+        inner.take_out(Reason::Removed, |object| inner.is_live(object) && !keeps(&object.key, &object.value))
     }
 
     /// Calls `look` with each key and its value, in no order. None of them counts as used. An entry that other threads put or remove meanwhile is
@@ -90,34 +108,30 @@ impl<K, V, S> ObjectMap<K, V, S> {
         }
         Ok(())
     }
-
-    fn expire_all(&self) -> Result<usize, ClearError> {
-        let inner = &self.inner;
-        let pinned = inner.pin();
-        let mut removed = 0;
-        for (hash, [word]) in inner.list()? {
-            if !pinned.has_expired(word) {
-                continue;
-            }
-            // The list has no moments, so the entry is looked up, and looked at again.
-            let Reply::Found { value: [word], since, .. } = inner.core.slots.call(|handle| handle.get(hash)) else { continue };
-            if !pinned.has_expired(word) {
-                continue;
-            }
-            match inner.take_if(hash, since, Reason::Expired) {
-                Ok(_) => removed += 1,
-                Err(TurnError::Call(PutIfError::Spent)) => return Err(ClearError::Spent),
-                Err(TurnError::Call(_)) => {}
-                Err(TurnError::Held) => return Err(ClearError::Held),
-            }
-        }
-        Ok(removed)
-    }
 }
 
 impl<O: Held, S> ObjectInner<O, S> {
     /// The hashes and words of all entries.
     pub fn list(&self) -> Result<Vec<(u64, [u64; 1])>, ClearError> {
         self.core.list(LISTS, Handle::try_entries)
+    }
+
+    // Takes out the objects for which `leaves` returns true, and counts them. What other threads put over one after it was listed stays.
+    fn take_out(&self, reason: Reason, leaves: impl FnMut(&O) -> bool) -> Result<usize, ClearError> {
+        let removed = self.take_listed(reason, leaves).map_err(|why| self.core.refused(why));
+        // They waited for this call, which was pinned.
+        self.free(self.epochs.free_now());
+        removed
+    }
+
+    fn take_listed(&self, reason: Reason, mut leaves: impl FnMut(&O) -> bool) -> Result<usize, ClearError> {
+        let pinned = self.pin();
+        let mut removed = 0;
+        for Entry { key: hash, value: [word], since } in self.core.list(LISTS, Handle::try_stamped_entries)? {
+            if leaves(pinned.object(word)) {
+                removed += usize::from(ClearError::of_take(self.take_if(hash, since, reason, self.core.tries))?);
+            }
+        }
+        Ok(removed)
     }
 }

@@ -48,9 +48,40 @@ fn a_write_that_is_held_tries_so_often_and_changes_nothing() {
     assert_eq!(calls(|| map.remove_stamped(map.hash_of(&1), since)), (TRIES, Err(IfError::Held)));
     assert_eq!(calls(|| map.clear()), (100, Err(ClearError::Held)));
     assert_eq!(calls(|| map.remove_expired()), (100, Err(ClearError::Held)));
-    assert_eq!((map.stats().refused, map.get(&1), map.get(&2), map.len()), (15, Some(10), None, 1));
+    assert_eq!(calls(|| map.retain(|_, _| false)), (100, Err(ClearError::Held)));
+    assert_eq!(calls(|| map.take(&1).map(drop)), (1 + TRIES, Err(RemoveError::Held)));
+    assert_eq!((map.stats().refused, map.get(&1), map.get(&2), map.len()), (17, Some(10), None, 1));
     drop(turn);
     assert_eq!((map.insert(2, 20).is_ok(), map.remove(&1)), (true, Ok(Some(10))));
+}
+
+#[test]
+fn a_single_try_is_one() {
+    let (map, _) = open();
+    let turn = hold(&map);
+    assert_eq!(calls(|| map.try_insert(1, 11).map_err(|back| back.why)), (1, Err(HELD)));
+    assert_eq!(calls(|| map.try_update(1, |_| 11)), (2, Err(UPDATE_HELD)));
+    assert_eq!(calls(|| map.try_update(2, |_| 20)), (2, Err(UPDATE_HELD)));
+    assert_eq!(calls(|| map.try_remove(&1)), (2, Err(RemoveError::Held)));
+    assert_eq!((calls(|| map.try_get(&1)), calls(|| map.try_get(&2))), ((1, Ok(Some(10))), (1, Ok(None))));
+    assert_eq!((map.stats().refused, map.len()), (4, 1));
+    drop(turn);
+    assert_eq!(map.try_insert(1, 11).map_err(|back| back.why), Ok(Inserted::Renewed));
+    assert_eq!(map.try_update(1, |old| old.map_or(0, |old| old + 1)).map(|put| put.did), Ok(Inserted::Renewed));
+    assert_eq!((map.try_remove(&1), map.try_remove(&1)), (Ok(Some(12)), Ok(None)));
+}
+
+#[test]
+fn a_single_try_that_is_overtaken_says_so() {
+    let (map, _) = open();
+    let mut calls_of_change = 0;
+    let change = |_: Option<&u64>| {
+        calls_of_change += 1;
+        11
+    };
+    assert_eq!(beside_puts(&map, None, 1, || map.try_update(1, change)), Err(UpdateError::Contended));
+    assert_eq!(beside_puts(&map, None, 1, || map.try_remove(&1)), Err(RemoveError::Contended));
+    assert_eq!((calls_of_change, map.get(&1)), (1, Some(20)));
 }
 
 #[test]
@@ -74,17 +105,21 @@ fn lookups_and_renewals_in_place_need_no_turn() {
     assert_eq!((found, map.stats().refused, map.stats().busy), (vec![(1, 10)], 0, 0));
 }
 
-// The other thread has the turn once the entries are listed, and with an expired one looked up.
+// The other thread has the turn once the entries are listed.
 #[test]
 fn a_sweep_whose_removal_is_held_says_so() {
     type Sweep = fn(&Numbers) -> Result<(), ClearError>;
-    let sweeps: [(Sweep, u32); 2] = [(|map| map.clear(), 1), (|map| map.remove_expired().map(|_| ()), 2)];
-    for (sweep, calls_before) in sweeps {
+    let sweeps: [(Sweep, Duration); 3] = [
+        (|map| map.clear(), Duration::ZERO),
+        (|map| map.remove_expired().map(drop), Duration::ZERO),
+        (|map| map.retain(|_, _| false).map(drop), LIFE),
+    ];
+    for (sweep, life) in sweeps {
         let ((map, _), turn) = (open(), Rc::new(RefCell::new(None)));
-        map.insert_for(1, 11, Duration::ZERO).unwrap();
+        map.insert_for(1, 11, life).unwrap();
         let (held, taken) = (map.clone(), Rc::clone(&turn));
-        before_calls(calls_before, 1, move || drop(taken.replace(Some(hold(&held)))));
-        assert_eq!(calls(|| sweep(&map)), (calls_before + TRIES, Err(ClearError::Held)));
+        before_calls(1, 1, move || drop(taken.replace(Some(hold(&held)))));
+        assert_eq!(calls(|| sweep(&map)), (1 + TRIES, Err(ClearError::Held)));
         assert_eq!((map.len(), map.stats().refused, map.stats().removed), (1, 1, 0));
     }
 }
@@ -204,13 +239,13 @@ fn a_clear_counts_what_it_removed_itself() {
     }
 }
 
-// The entry is put anew once the call has looked it up.
+// The entry is put anew once the call has listed it.
 #[test]
 fn what_was_put_since_is_not_removed_as_expired() {
     let (map, _) = open();
     map.put(1, 11, Some(Duration::ZERO)).unwrap();
     let other = map.clone();
-    before_calls(2, 1, move || assert!(other.insert(1, 20).is_ok()));
+    before_calls(1, 1, move || assert!(other.insert(1, 20).is_ok()));
     assert_eq!(calls(|| map.remove_expired()).1, Ok(0));
     assert_eq!((map.get(&1), map.stats().removed, map.stats().refused), (Some(20), 0, 0));
 }

@@ -2,6 +2,7 @@
 use crate::ends::ends;
 use crate::executor::{give_way, poll, run, Job, Wakes};
 use cefrodil_map::{Board, ObjectLead, ObjectMap, ObjectWait};
+use std::future::pending;
 use std::sync::atomic::{AtomicUsize, Ordering::SeqCst};
 use std::sync::Arc;
 use std::task::Poll;
@@ -105,4 +106,21 @@ fn a_computation_may_board_its_own_key() {
         "outer".into()
     });
     assert_eq!((value, map.get("key")), ("outer".to_string(), Some("outer".to_string())));
+}
+
+// A load of one call, which is dropped, and one of another.
+#[test]
+fn a_call_that_loads_waits_for_another_one_or_loads_itself() {
+    let (map, wakes) = (Texts::new(100).unwrap(), Arc::new(Wakes::default()));
+    let mut first = Box::pin(map.get_or_insert_async("key", pending()));
+    let mut second = Box::pin(map.get_or_insert_async("key", async { "value".to_string() }));
+    let mut third = Box::pin(map.get_or_try_insert_async("key", async { Err("it is there") }));
+    assert!(
+        poll(&wakes, &mut first).is_pending() && poll(&wakes, &mut second).is_pending() && poll(&wakes, &mut third).is_pending()
+    );
+    drop(first);
+    assert_eq!(poll(&wakes, &mut second), Poll::Ready("value".to_string()));
+    assert_eq!(poll(&wakes, &mut third), Poll::Ready(Ok("value".to_string())));
+    let mut failing = Box::pin(map.get_or_try_insert_async("other", async { Err("no value") }));
+    assert_eq!((poll(&wakes, &mut failing), map.get("other")), (Poll::Ready(Err("no value")), None));
 }

@@ -1,8 +1,9 @@
-//! A call with each key and its value.
+//! A call with each key and its value, and one that removes what its function refuses.
 use crate::ledger::Ledger;
-use cefrodil_map::ObjectMap;
+use cefrodil_map::{ObjectMap, Reason};
 use std::collections::HashMap;
 use std::panic::{catch_unwind, AssertUnwindSafe};
+use std::sync::{Arc, Mutex};
 use std::thread;
 use std::time::Duration;
 
@@ -73,4 +74,56 @@ fn a_panic_ends_it() {
     assert!(catch_unwind(AssertUnwindSafe(|| map.for_each(|_, _| panic!("on purpose")))).is_err());
     map.remove_with(&1, |_| ()).unwrap();
     assert_eq!((map.free_unused(), ledger.dropped()), (0, 1));
+}
+
+#[test]
+fn what_is_refused_is_removed_and_freed_and_nothing_else() {
+    const KEYS: u64 = 300;
+    let (ledger, heard) = (Ledger::new(1_000), Arc::new(Mutex::new(Vec::new())));
+    let hears = Arc::clone(&heard);
+    let hear = move |key: &u64, _: &_, reason| hears.lock().unwrap().push((*key, reason));
+    let map = ObjectMap::builder(1_000).shards(8).listener(hear).open().unwrap();
+    (0..KEYS).for_each(|key| _ = map.insert(key, ledger.make(key)).unwrap());
+    let mut shown = 0;
+    let removed = map.retain(|key, value| {
+        value.is_right(*key);
+        shown += 1;
+        key % 3 > 0
+    });
+    assert_eq!((removed, shown, map.len(), ledger.dropped()), (Ok(100), KEYS, 200, 100));
+    assert!((0..KEYS).all(|key| map.contains_key(&key) == (key % 3 > 0)));
+    let mut heard = heard.lock().unwrap().clone();
+    heard.sort_by_key(|(key, _)| *key);
+    assert_eq!(heard, (0..100).map(|n| (3 * n, Reason::Removed)).collect::<Vec<_>>());
+}
+
+#[test]
+fn what_has_ended_is_not_shown_and_stays() {
+    let map = ObjectMap::new(100).unwrap();
+    map.insert(1, 10).unwrap();
+    map.invalidate_all();
+    map.insert_for(2, 20, Duration::ZERO).unwrap();
+    assert_eq!((map.retain(|_, _| panic!("there is none")), map.len()), (Ok(0), 2));
+}
+
+// The function puts the key that it is shown.
+#[test]
+fn what_is_replaced_after_it_was_shown_stays() {
+    let map = ObjectMap::new(100).unwrap();
+    map.insert(1, 10).unwrap();
+    let removed = map.retain(|_, _| {
+        map.insert(1, 11).unwrap();
+        false
+    });
+    assert_eq!((removed, map.get(&1)), (Ok(0), Some(11)));
+}
+
+#[test]
+fn what_was_being_computed_is_not_put() {
+    let map = ObjectMap::<u64, u64>::new(100).unwrap();
+    let computed = map.get_or_insert_with(&1, || {
+        assert_eq!(map.retain(|_, _| true), Ok(0));
+        10
+    });
+    assert_eq!((computed, map.get(&1)), (10, None));
 }

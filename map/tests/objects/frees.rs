@@ -13,7 +13,7 @@ const LONG: Duration = Duration::from_secs(60);
 // Fewer objects than this wait that no call uses.
 const WAIT: u64 = 32;
 
-fn open(threads: usize) -> Values {
+pub fn open(threads: usize) -> Values {
     ObjectMap::builder(100).shards(1).threads(threads).open().unwrap()
 }
 
@@ -46,8 +46,8 @@ impl Holder {
     }
 }
 
-// Each way in which the object of key 1 leaves a map of 100 entries.
-fn leave(map: &Values, ledger: &'static Ledger, way: usize) {
+/// Each way in which the object of key 1 leaves a map of 100 entries.
+pub fn leave(map: &Values, ledger: &'static Ledger, way: usize) {
     let since = || match map.look(&1, |_| ()) {
         Ok(cefrodil_map::Look::Found { since, .. }) => since,
         other => panic!("{other:?}"),
@@ -69,7 +69,8 @@ fn leave(map: &Values, ledger: &'static Ledger, way: usize) {
     }
 }
 
-const WAYS: usize = 9;
+/// How many ways there are.
+pub const WAYS: usize = 9;
 
 #[test]
 fn an_object_stays_while_the_same_thread_uses_it() {

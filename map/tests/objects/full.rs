@@ -99,3 +99,12 @@ fn what_had_expired_and_is_removed_makes_room() {
     (1_000..1_060).for_each(|key| assert!(map.insert(key, 1).is_ok()));
     assert!((1_000..1_060).all(|key| map.contains_key(&key)));
 }
+
+#[test]
+fn a_map_is_filled_from_an_iterator() {
+    let mut map: ObjectMap<u64, String> = (0..200).map(|key| (key, key.to_string())).collect();
+    let kept = (0..200).filter(|key| map.get(key) == Some(key.to_string())).count() as u64;
+    assert_eq!((kept + map.stats().evicted, map.stats().refused, map.capacity() >= 200), (200, 0, true));
+    map.extend([(3, "30".into()), (3, "31".into())]);
+    assert_eq!((map.get(&3), ObjectMap::<u64, u64>::from_iter([]).len()), (Some("31".into()), 0));
+}

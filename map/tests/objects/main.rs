@@ -18,6 +18,7 @@ mod listener;
 mod loads;
 mod model;
 mod panics;
+mod pins;
 mod published;
 mod stamps;
 mod texts;

@@ -160,6 +160,8 @@ fn many_keys_are_looked_up_as_one() {
     map.get_many_with(&keys, |index, value| found.push((*keys[index], *value)));
     let expected: Vec<_> = (0..500).rev().filter(|key| key % 3 != 0).map(|key| (key, 10 * key)).collect();
     assert_eq!((found, map.stats().hits, map.stats().misses), (expected, 666, 334));
+    let values: Vec<_> = (0..500).rev().map(|key| (key % 3 != 0).then_some(10 * key)).collect();
+    assert_eq!((map.get_many(keys.iter().copied()), map.get_many([])), (values, vec![]));
 }
 
 #[test]
