@@ -3,14 +3,15 @@ use crate::error::ClearError;
 use crate::generation::check_in;
 use crate::handle::AnyHandle;
 use crate::inner::{Found, Inner};
-use crate::key::Number;
+use crate::key::{Key, Number};
 use crate::map::Map;
 use crate::stats::Kind;
 use crate::wait::LISTS;
 use crate::words::{check, Seen, Words};
 use std::hash::BuildHasher;
 
-impl<K: Number, V: Copy + Send + Sync + 'static, S: BuildHasher> Map<K, V, S> {
+// The bound is that of the calls: so the compiler says of other keys why they can't be given back.
+impl<K: Key + ?Sized, V: Copy + Send + Sync + 'static, S: BuildHasher> Map<K, V, S> {
     /// Calls `look` with each key and its value, in no order. None of them counts as used. An entry that other threads put or remove meanwhile is
     /// among them or not, and one whose value they replace is so with the old value or the new one.
     ///
@@ -35,7 +36,10 @@ impl<K: Number, V: Copy + Send + Sync + 'static, S: BuildHasher> Map<K, V, S> {
     /// # Errors
     ///
     /// [`ClearError`]: `look` was not called.
-    pub fn for_each(&self, mut look: impl FnMut(&K, &V)) -> Result<(), ClearError> {
+    pub fn for_each(&self, mut look: impl FnMut(&K, &V)) -> Result<(), ClearError>
+    where
+        K: Number,
+    {
         self.inner.each(|_, _, key, value| {
             look(&key, &value);
             Ok(())
@@ -49,7 +53,10 @@ impl<K: Number, V: Copy + Send + Sync + 'static, S: BuildHasher> Map<K, V, S> {
     /// # Errors
     ///
     /// [`ClearError`]: entries may be left.
-    pub fn retain(&self, mut keeps: impl FnMut(&K, &V) -> bool) -> Result<usize, ClearError> {
+    pub fn retain(&self, mut keeps: impl FnMut(&K, &V) -> bool) -> Result<usize, ClearError>
+    where
+        K: Number,
+    {
         let core = &self.inner.core;
         core.flights.detach_all();
         let mut removed = 0;

@@ -40,38 +40,9 @@ where
     /// A clone of the key's value, or else the right to load it, or else a future that waits for another one that loads it. So of all tasks
     /// that want a key, one loads it. It needs no runtime, and no thread is blocked.
     ///
-    /// ```
-    /// use cefrodil_map::{Board, ObjectMap};
-    ///
-    /// /// The page, from the map or from the network.
-    /// async fn page(pages: &ObjectMap<String, String>, url: &str) -> Result<String, Error> {
-    ///     loop {
-    ///         match pages.try_board(url) {
-    ///             Board::Found(page) => return Ok(page),
-    ///             Board::Lead(lead) => return Ok(lead.publish(download(url).await?)),
-    ///             Board::Wait(wait) => wait.await,
-    ///         }
-    ///     }
-    /// }
-    /// # type Error = std::convert::Infallible;
-    /// # async fn download(url: &str) -> Result<String, Error> {
-    /// #     Ok(format!("This is {url}."))
-    /// # }
-    /// # let pages = ObjectMap::<String, String>::new(100)?;
-    /// # use std::{future::Future, pin::pin, sync::Arc, task::{Context, Wake}};
-    /// # struct Nobody;
-    /// # impl Wake for Nobody {
-    /// #     fn wake(self: Arc<Self>) {}
-    /// # }
-    /// # let nobody = Arc::new(Nobody).into();
-    /// # let run = |url| pin!(page(&pages, url)).as_mut().poll(&mut Context::from_waker(&nobody));
-    /// # assert_eq!(run("here"), std::task::Poll::Ready(Ok("This is here.".to_string())));
-    /// # assert_eq!(pages.get("here"), Some("This is here.".to_string()));
-    /// # Ok::<(), Box<dyn std::error::Error>>(())
-    /// ```
-    ///
-    /// [`get_or_insert_async`](Self::get_or_insert_async) does all this in one call. What [`Map::try_board`](crate::Map::try_board) says of a lead that is dropped, of threads and of waiting is true here, too. Keys with the
-    /// same hash wait for each other.
+    /// [`get_or_insert_async`](Self::get_or_insert_async) does all this in one call. What [`Map::try_board`](crate::Map::try_board) says of a lead that is
+    /// dropped, of threads and of waiting is true here, too. Its example is one for this map, but that a wait gives no value: call this again. Keys with
+    /// the same hash wait for each other.
     pub fn try_board<Q>(&self, key: &Q) -> Board<V, ObjectLead<'_, K, V, S>, ObjectWait>
     where
         K: Borrow<Q>,

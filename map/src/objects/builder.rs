@@ -127,9 +127,9 @@ impl<K, V, S> ObjectBuilder<K, V, S> {
         self
     }
 
-    /// Who hears of each object right before it is freed, once: also when the map is dropped. One that is [pinned](ObjectMap::pin) may stay after that. So a program can count what the objects take
-    /// that have left the map and are still there. It hears in any thread, in calls that write. If `freed` panics, the panic ends there, as that
-    /// of a destructor does.
+    /// Who hears of each object right before it is freed, once: also when the map is dropped. One that is [pinned](ObjectMap::pin) stays after that. So a
+    /// program can count what the objects take that have left the map and are still there, but for pins. It hears in any thread, in calls that write.
+    /// If `freed` panics, the panic ends there, as that of a destructor does.
     pub fn freed(mut self, freed: impl Fn(&K, &V) + Send + Sync + 'static) -> Self {
         self.hears.freed = Some(Box::new(move |object| freed(&object.key, &object.value)));
         self

@@ -94,8 +94,8 @@ where
 
     /// Calls `look` with the key's value, and returns what it returns. `None`: as [`get`](Self::get).
     ///
-    /// While `look` runs, no object that leaves the map is freed, in any thread: so be quick, and [`pin`](Self::pin) the value for anything that may block. `look`
-    /// may call the map.
+    /// While `look` runs, no object that leaves the map is freed, in any thread: so be quick, and [`pin`](Self::pin) the value for anything that may
+    /// block. `look` may call the map.
     #[inline]
     pub fn get_with<Q: Hash + Eq + ?Sized, R>(&self, key: &Q, look: impl FnOnce(&V) -> R) -> Option<R>
     where

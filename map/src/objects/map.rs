@@ -28,7 +28,8 @@ use std::sync::Arc;
 /// An object that leaves the map is freed when no call can use it any more. The destructors of keys and values run in calls that write, in
 /// any thread, and in the drop of the last clone. They never run in a lookup. Objects wait for a write that frees them, or for
 /// [`free_unused`](ObjectMap::free_unused): fewer than 32, and all that left while a closure ran. So the map's memory has no bound while a
-/// closure sleeps: [`pin`](ObjectMap::pin) a value for anything that may block. The destructors of what is pinned run in the drop of the last pin. [`stats`](ObjectMap::stats) says how many wait. A panic in a destructor of what has left the map ends there.
+/// closure sleeps: [`pin`](ObjectMap::pin) a value for anything that may block. What was pinned when it left the map is freed with its last pin.
+/// [`stats`](ObjectMap::stats) says how many wait. A panic in a destructor of what has left the map ends there.
 pub struct ObjectMap<K, V, S = RandomState> {
     pub(crate) inner: Arc<ObjectInner<Object<K, V>, S>>,
 }
