@@ -146,13 +146,36 @@ impl Choice {
         }
     }
 
-    /// The item whose bit is to be read next.
+    // Whether a new item is to give way, if there is one.
+    #[inline(always)]
+    fn is_fresh_due(&self) -> bool
+        requires { IsChoice self.now }
+    {
+        u64::from(self.proven.len()) <= 9 * u64::from(self.fresh.len())
+    }
+
+    /// The item whose bit is to be read next: most often one near its hand.
     #[inline(always)]
     pub(crate) fn next(&self) -> Option<u32>
         requires { IsChoice self.now }
         ensures { MatchOption result ((j : ℕ) → IsInUse self.now j → ⊥) (IsInUse self.now) }
     {
-        if u64::from(self.proven.len()) <= 9 * u64::from(self.fresh.len()) {
+        if self.is_fresh_due() {
+            if let Some(item) = self.fresh.near(self.fresh_hand) {
+                return Some(item);
+            }
+        } else if let Some(item) = self.proven.near(self.proven_hand) {
+            return Some(item);
+        }
+        self.next_round()
+    }
+
+    #[inline(never)]
+    fn next_round(&self) -> Option<u32>
+        requires { IsChoice self.now }
+        ensures { MatchOption result ((j : ℕ) → IsInUse self.now j → ⊥) (IsInUse self.now) }
+    {
+        if self.is_fresh_due() {
             if let Some(item) = self.fresh.next_round(self.fresh_hand) {
                 return Some(item);
             }

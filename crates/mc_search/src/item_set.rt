@@ -1,5 +1,5 @@
 //! Sets of items.
-ghost use Rattle.std.specs.Prelude.{ℕ, ◌≡◌, ◌≢◌, ◌*◌, ◌^◌, ◌<◌, ◌≤◌, ◌↔◌, IfOk, IsTrue, MatchOption};
+ghost use Rattle.std.specs.Prelude.{ℕ, ◌≡◌, ◌≢◌, ◌*◌, ◌^◌, ◌<◌, ◌≤◌, ◌↔◌, IfOk, IfSome, IsTrue, MatchOption};
 ghost use Rattle.std.specs.Int.{bit_at};
 
 use std::alloc::{AllocError, Global};
@@ -89,18 +89,30 @@ impl ItemSet {
         None
     }
 
-    /// An item of the set, from this one on round the items.
+    /// An item of the set that is this one or behind it in the same word of 64.
     #[inline(always)]
-    pub(crate) fn next_round(&self, from: u32) -> Option<u32>
+    pub(crate) fn near(&self, from: u32) -> Option<u32>
         requires kept { IsItemSet self.now }
         requires in_items { from < self.now.items }
-        ensures { MatchOption result ((j : ℕ) → bit_in self.now j ≡ 0) (λ i. bit_in self.now i ≡ 1) }
+        ensures { IfSome result (λ i. bit_in self.now i ≡ 1) }
     {
         let at = from / 64;
         if let Some(bit) = lowest(bits_from(self.words[at as usize], from % 64)) {
             return Some(at * 64 + bit);
         }
-        if let Some(item) = self.first_from(at + 1) {
+        None
+    }
+
+    /// An item of the set, from this one on round the items.
+    pub(crate) fn next_round(&self, from: u32) -> Option<u32>
+        requires kept { IsItemSet self.now }
+        requires in_items { from < self.now.items }
+        ensures { MatchOption result ((j : ℕ) → bit_in self.now j ≡ 0) (λ i. bit_in self.now i ≡ 1) }
+    {
+        if let Some(item) = self.near(from) {
+            return Some(item);
+        }
+        if let Some(item) = self.first_from(from / 64 + 1) {
             return Some(item);
         }
         self.first_from(0)

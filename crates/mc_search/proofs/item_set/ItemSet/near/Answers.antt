@@ -1,6 +1,6 @@
 use Rattle.std.proofs.Common.{◌/◌, ◌<◌, length, arith}
 use Rattle.mc_search.proofs.ItemBits.{one_found}
-use Rattle.mc_search.proofs.item_set.ItemSet.next_round.Goals as goal
+use Rattle.mc_search.proofs.item_set.ItemSet.near.Goals as goal
 
 pub returns-in-Some : goal.returns-in-Some
 returns-in-Some c =
