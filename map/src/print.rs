@@ -61,9 +61,11 @@ impl<K: ?Sized, S: BuildHasher> Printer<K, S> {
         K: Key,
     {
         let Some(secret) = self.secret else {
+            if let Some(number) = number_of::<K, Q>(key) {
+                return self.number_print(number);
+            }
             let hash_after = |word| self.hasher.hash_one(After(word, key));
-            let check = if K::IS_NUMBER { number_of(key) } else { None };
-            return Print { key: hash_after(KEY), check: check.unwrap_or_else(|| hash_after(CHECK)) };
+            return Print { key: hash_after(KEY), check: hash_after(CHECK) };
         };
         let mut state = PrintHasher::new(secret);
         key.write(&mut state);
@@ -73,11 +75,20 @@ impl<K: ?Sized, S: BuildHasher> Printer<K, S> {
             state.print()
         }
     }
+
+    // By the hasher. Out of line: a map with a secret pays for nothing of it.
+    #[inline(never)]
+    fn number_print(&self, number: u64) -> Print {
+        Print { key: self.hasher.hash_one((KEY, number)), check: number }
+    }
 }
 
-// The number of up to 64 bits that the key is.
+// The number of up to 64 bits that a key of the type `K` is.
 #[inline(always)]
-fn number_of<Q: Key + ?Sized>(key: &Q) -> Option<u64> {
+fn number_of<K: Key + ?Sized, Q: Key + ?Sized>(key: &Q) -> Option<u64> {
+    if !K::IS_NUMBER {
+        return None;
+    }
     let mut state = PrintHasher::new(Secret(0, 0));
     key.write(&mut state);
     (state.parts == 1).then_some(state.number)

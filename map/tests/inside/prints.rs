@@ -158,6 +158,14 @@ fn only_numbers_of_std_are_their_own_check_words() {
     assert_eq!(others.iter().filter(|check| **check == 7).count(), 0);
 }
 
+#[test]
+fn with_a_hasher_of_the_users_a_number_is_its_own_check_word_too() {
+    let hasher = RandomState::new();
+    let (numbers, others) = (Printer::<i32, _>::twice(hasher.clone()), Printer::<Newtype, _>::twice(hasher));
+    assert_eq!((numbers.print(&7).check, numbers.print(&-1).check), (7, 0xffff_ffff));
+    assert!(numbers.print(&7).key != numbers.print(&-1).key && others.print(&Newtype(7)).check != 7);
+}
+
 fn is_number<K: Key + ?Sized>() -> bool {
     K::IS_NUMBER
 }
