@@ -219,6 +219,16 @@ class object_map : public inside::AnyMap<inside::Opened<K, Hash, inside::Objects
         }
     }
 
+    // Calls `see(const K &, const V &)` with each entry, as that of cefrodil::map does. What leaves the map meanwhile waits for it, as for `look`.
+    template <class See> [[nodiscard]] Status for_each(See see) const {
+        return inner_ ? inner_->entries.for_each([&](const inside::Object<K, V> &object) { see(object.key, object.value); }) : Status::closed;
+    }
+    // Removes each entry for which `leaves(const K &, const V &)` returns true, as that of cefrodil::map does, or says too_deep.
+    template <class Leaves> [[nodiscard]] Erased erase_if(Leaves leaves) {
+        const auto asked = [&](const inside::Object<K, V> &object) -> bool { return leaves(object.key, object.value); };
+        return inner_ ? inner_->entries.erase_if(asked) : Erased{Status::closed, 0};
+    }
+
     // Frees what has left the map and no call can use any more. Other calls do so now and then. Returns how many objects.
     size_t free_unused() noexcept { return inner_ ? inner_->entries.free_now() : 0; }
 
