@@ -212,7 +212,11 @@ class map : public inside::AnyMap<inside::Opened<K, Hash, inside::Table<V, Times
     // map_logout.cpp. spent: open a new map. If a store is behind the map, change the store first: then no older value is put afterwards by
     // find_or_compute.
     [[nodiscard]] Status erase(Key key) noexcept(never_throws) {
-        return change(key, Status::closed, [&](const auto &known) { return inner_->entries.erase(known); });
+        return extract(key).status;
+    }
+    // The same, with the value that it removed, if it is ok.
+    [[nodiscard]] Found<V> extract(Key key) noexcept(never_throws) {
+        return change(key, Found<V>{Status::closed, std::nullopt}, [&](const auto &known) { return inner_->entries.extract(known); });
     }
     // Replaces the value of a key that is there by what the function makes of it, `V function(const V &)`, and returns that. No other change is
     // lost: if another thread is first, the function is called again, with the newer value. Unless ok, nothing was put. absent: the key is not there,

@@ -200,16 +200,19 @@ class Table : public Entries<Packing<V, Times::moments>::words>, private Packing
         }
     }
 
-    // An entry that has expired is absent, but is removed all the same: an update that found it before must not renew it.
-    Status erase(const Identity &key) noexcept {
+    // Returns what it removed. An entry that has expired is absent, but is removed all the same: an update that found it before must not renew it.
+    Found<V> extract(const Identity &key) noexcept {
         for (uint32_t repeat = 0;; repeat++) {
             const Entry entry = look(now(key));
             if (entry.status != Status::ok && !entry.has_expired) {
-                return entry.status;
+                return {entry.status, std::nullopt};
             }
             const Status status = take_if(key.index, entry.since);
+            if (status == Status::ok) {
+                return {entry.status, entry.value};
+            }
             if (status != Status::changed || repeat >= this->tries()) {
-                return status == Status::ok ? entry.status : status;
+                return {status, std::nullopt};
             }
         }
     }
