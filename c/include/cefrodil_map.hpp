@@ -212,7 +212,11 @@ class map : public inside::AnyMap<inside::Opened<K, Hash, inside::Table<V, Times
     // map_logout.cpp. spent: open a new map. If a store is behind the map, change the store first: then no older value is put afterwards by
     // find_or_compute.
     [[nodiscard]] Status erase(Key key) noexcept(never_throws) {
-        return change(key, Status::closed, [&](const auto &known) { return inner_->entries.erase(known); });
+        return extract(key).status;
+    }
+    // The same, with the value that it removed, if it is ok.
+    [[nodiscard]] Found<V> extract(Key key) noexcept(never_throws) {
+        return change(key, Found<V>{Status::closed, std::nullopt}, [&](const auto &known) { return inner_->entries.extract(known); });
     }
     // Replaces the value of a key that is there by what the function makes of it, `V function(const V &)`, and returns that. No other change is
     // lost: if another thread is first, the function is called again, with the newer value. Unless ok, nothing was put. absent: the key is not there,
@@ -265,7 +269,39 @@ class map : public inside::AnyMap<inside::Opened<K, Hash, inside::Table<V, Times
         return {Status::ok, *Entries::value_of(found), false};
     }
 
+    // Calls `see(const K &, const V &)` with each entry, in no order. The map must have its keys as their own check words: they are numbers, enums,
+    // pointers or structs of up to 8 bytes, and the hash is not yours. None of the entries counts as used. A key that is there throughout is shown once,
+    // if others replace its value with the old one or the new one. What comes or goes meanwhile is shown or not. It lists all entries first, as `clear`
+    // does. Unless ok, `see` was not called: held, no_memory, closed.
+    template <class See> [[nodiscard]] Status for_each(See see) const {
+        const auto shown = [&](uint64_t index, const Words &packed) { with_key(index, packed, see); };
+        return inner_ ? inner_->entries.for_each(shown) : Status::closed;
+    }
+    // Removes each entry for which `leaves(const K &, const V &)` returns true, and counts them. Keys are as by `for_each`. If others replace a value
+    // meanwhile, it is asked again of the new one. If it is ok, only what was put meanwhile may be there of what it accepts: no value that find_or_compute
+    // was computing when the call began. It takes a turn for each entry. Unless ok, some entries were not asked of: held, no_memory, spent, closed.
+    template <class Leaves> [[nodiscard]] Erased erase_if(Leaves leaves) {
+        const auto asked = [&](uint64_t index, const Words &packed) {
+            bool is_out = false;
+            with_key(index, packed, [&](const K &key, const V &value) { is_out = leaves(key, value); });
+            return is_out;
+        };
+        return inner_ ? inner_->entries.erase_if(asked) : Erased{Status::closed, 0};
+    }
+
   private:
+    // Calls with the key and the value of an entry, if it is of this generation. Of any other the words are no key's with that number.
+    template <class Call> void with_key(uint64_t index, const Words &packed, Call &&call) const {
+        constexpr bool has_keys = inside::is_own_word<Key, Hash>;
+        static_assert(has_keys, "for_each and erase_if of a map give back keys of up to 8 bytes without a hash of yours; an object_map keeps all keys");
+        if constexpr (has_keys) {
+            const inside::Identity known = inside::in_generation({index, packed[0]}, inner_->entries.generations.now());
+            const K key = inside::object_from<K>({known.check});
+            if (inside::is_same(inner_->identities.of(key), known)) {
+                call(key, static_cast<const V &>(*Entries::value_of(packed)));
+            }
+        }
+    }
     // A time to live that a call says, in a timed_map.
     using Life = typename Times::Life;
 

@@ -32,8 +32,8 @@
 // This header is plain C++ and is not proved. The index below it is. The map's own part is an argument by hand: map/SAFETY.md of Cefrodil's repository.
 // Whoever finds an object keeps it until its call ends. An object that has left the map is freed by a later call that writes, once no call can have
 // found it. So a value's destructor runs in any thread that writes, and under no lock of the map. While a function of `look` runs, all objects that
-// leave the map wait for it, above any bound, and so do up to 32 of each thread that left shortly before. Copy a std::shared_ptr out of it for anything
-// that may block. `waiting` and `waiting_weight` say how many objects wait, and `meter` does.
+// leave the map wait for it, above any bound, and so do up to 32 of each thread that left shortly before. For anything that may block, take a `pin`: it
+// keeps one object alone. `waiting` and `waiting_weight` say how many objects wait, and `meter` does.
 //
 // Keys are compared. Two keys whose hashes of 64 bits are the same can't be in the map at once: the later one replaces the earlier.
 //
@@ -45,7 +45,7 @@
 //
 // What you promise is what cefrodil_map.hpp lists, and: keys and values may be read by several threads at once, and destroyed by any of them. The
 // listener and destructors throw nothing. The weigher and `Equal` don't call the map. No key or value that is destroyed by `close` or by the map's
-// destructor calls the map. A reference that `look` passes is not kept.
+// destructor calls the map, nor does what a pin keeps longer than the map. A reference that `look` passes is not kept.
 //
 // No call throws, but what your functions and types throw. What a throw leaves behind:
 // - `insert_or_assign`: if `Equal` throws, the value was put. Otherwise the map is as it was.
@@ -115,6 +115,17 @@ class object_map : public inside::AnyMap<inside::Opened<K, Hash, inside::Objects
         }
         return seen.status;
     }
+    // The key's value, which this one handle keeps: nothing else that leaves the map waits for it, and it may be kept for long. Neither `weight` nor
+    // `waiting` counts what has left and is kept so. Null if `look` would not call: it is a lookup as that.
+    [[nodiscard]] pinned<V> pin(Key key) const {
+        if (!inner_) {
+            return nullptr;
+        }
+        const Pinned call(inner_->entries);
+        const Seen seen = look_up(call, inner_->identities.of(key), key, inner_->entries.looks(), generation());
+        call.count(seen.status);
+        return seen.status == Status::ok ? inside::pin_of(*seen.object) : nullptr;
+    }
     // The same, but the value doesn't count as used: it leaves as if nobody had looked, and its time to idle goes on. It takes the turn at the key's
     // shard, as a write does. ok, or absent, held or closed: then `see` was not called.
     template <class See> [[nodiscard]] Status peek(Key key, See see) const {
@@ -181,25 +192,13 @@ class object_map : public inside::AnyMap<inside::Opened<K, Hash, inside::Objects
     }
     // The same, and if it is ok, calls `see(const V &)` with the value that it removed. Other calls that found it may still use it.
     template <class See> [[nodiscard]] Status erase(Key key, See see) {
-        if (!inner_) {
-            return Status::closed;
-        }
-        const inside::Identity known = inner_->identities.of(key);
-        inner_->entries.flights.outdate(known);
-        for (uint32_t repeat = 0;; repeat++) {
-            const Seen seen = look_to_take(known, key);
-            if (seen.object == nullptr) {
-                return seen.status;
-            }
-            Change change(inner_->entries);
-            const Status status = inner_->entries.take(known.index, seen.since, change);
-            if (status == Status::ok && seen.status == Status::ok) {
-                see(static_cast<const V &>(change.old->value));
-            }
-            if (status != Status::changed || repeat >= inner_->entries.tries()) {
-                return status == Status::ok ? seen.status : status;
-            }
-        }
+        return take(key, [&](const auto &object) { see(object.value); });
+    }
+    // The same, and it gives back the value that it removed, pinned: other calls that found it may still use it.
+    [[nodiscard]] Extracted<V> extract(Key key) {
+        Extracted<V> extracted{Status::closed, nullptr};
+        extracted.status = take(key, [&](auto &object) { extracted.value = inside::pin_of(object); });
+        return extracted;
     }
     // The key's value, or what the function computes, `V function()`, which is then put. As by cefrodil::map. V must be copyable.
     template <class Function> [[nodiscard]] Computed<V> find_or_compute(Key key, Function function) {
@@ -217,6 +216,16 @@ class object_map : public inside::AnyMap<inside::Opened<K, Hash, inside::Objects
                 return std::move(*computed);
             }
         }
+    }
+
+    // Calls `see(const K &, const V &)` with each entry, as that of cefrodil::map does. What leaves the map meanwhile waits for it, as for `look`.
+    template <class See> [[nodiscard]] Status for_each(See see) const {
+        return inner_ ? inner_->entries.for_each([&](const inside::Object<K, V> &object) { see(object.key, object.value); }) : Status::closed;
+    }
+    // Removes each entry for which `leaves(const K &, const V &)` returns true, as that of cefrodil::map does, or says too_deep.
+    template <class Leaves> [[nodiscard]] Erased erase_if(Leaves leaves) {
+        const auto asked = [&](const inside::Object<K, V> &object) -> bool { return leaves(object.key, object.value); };
+        return inner_ ? inner_->entries.erase_if(asked) : Erased{Status::closed, 0};
     }
 
     // Frees what has left the map and no call can use any more. Other calls do so now and then. Returns how many objects.
@@ -239,6 +248,28 @@ class object_map : public inside::AnyMap<inside::Opened<K, Hash, inside::Objects
     // The key's object. Compiled into its callers: a call costs a tenth of a lookup.
     [[gnu::always_inline]] static Seen look_up(const Pinned &pinned, const inside::Identity &known, Key key, const uint32_t &most, uint64_t begun) {
         return own(pinned.look(known.index, most, begun), key);
+    }
+    // `erase` for a function of an object.
+    template <class See> Status take(Key key, See see) {
+        if (!inner_) {
+            return Status::closed;
+        }
+        const inside::Identity known = inner_->identities.of(key);
+        inner_->entries.flights.outdate(known);
+        for (uint32_t repeat = 0;; repeat++) {
+            const Seen seen = look_to_take(known, key);
+            if (seen.object == nullptr) {
+                return seen.status;
+            }
+            Change change(inner_->entries);
+            const Status status = inner_->entries.take(known.index, seen.since, change);
+            if (status == Status::ok && seen.status == Status::ok) {
+                see(*change.old);
+            }
+            if (status != Status::changed || repeat >= inner_->entries.tries()) {
+                return status == Status::ok ? seen.status : status;
+            }
+        }
     }
     // The key's object, for its removal, which is no use of it. If it has ended it is absent, but is removed all the same: an update that found it before
     // must not renew it.

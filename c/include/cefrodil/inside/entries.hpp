@@ -13,7 +13,15 @@
 #include <utility>
 #include <vector>
 
-namespace cefrodil::inside {
+namespace cefrodil {
+
+// The answer of erase_if.
+struct Erased {
+    Status status;
+    uint64_t count; // so many entries were removed
+};
+
+namespace inside {
 
 // The generation of a map's entries. `invalidate_all` begins the next one. Each entry has the generation in which the call began that put it. An entry
 // of an older generation is absent. map/SAFETY.md says why that suffices.
@@ -49,7 +57,7 @@ template <size_t Words> class Entries : public Turns<Words> {
   protected:
     // Calls with the number and the words of each entry of a list of all, until a call fails. Each shard is listed at a moment of its own. Of some
     // entries others may be first.
-    template <class Call> Status each_listed(Call call) noexcept {
+    template <class Call> Status each_listed(Call call) {
         std::vector<uint64_t> list;
         Status status = this->repeated([&](Slot<Words> &slot) { return slot.handle.try_entries(list); });
         for (size_t at = 0; at < list.size() && status == Status::ok; at += 1 + Words) {
@@ -59,6 +67,22 @@ template <size_t Words> class Entries : public Turns<Words> {
             status = is_lost(status) ? Status::ok : status;
         }
         return status;
+    }
+    // Under each number that is listed, removes by `take` what `find` finds, and finds again if others were first. Outdates what is being computed.
+    template <class Find, class Take> Erased erase_each(Find find, Take take) {
+        flights.outdate_all();
+        Erased erased{Status::ok, 0};
+        erased.status = each_listed([&](uint64_t index, const auto &) {
+            for (uint32_t repeat = 0;; repeat++) {
+                const Seen seen = find(index);
+                const Status status = seen.status == Status::ok ? take(index, seen.since) : seen.status;
+                erased.count += status == Status::ok ? 1 : 0;
+                if (status != Status::changed || repeat >= this->tries()) {
+                    return status == Status::changed ? Status::held : status;
+                }
+            }
+        });
+        return erased;
     }
 };
 
@@ -70,6 +94,8 @@ template <class K, class Hash, class All> struct Opened {
     All entries;
 };
 
-} // namespace cefrodil::inside
+} // namespace inside
+
+} // namespace cefrodil
 
 #endif

@@ -3,11 +3,13 @@
 #define CEFRODIL_INSIDE_OBJECT_HPP
 
 #include "epochs.hpp"
+#include "handle.hpp"
 #include "lives.hpp"
 #include <array>
 #include <atomic>
 #include <cstdint>
 #include <functional>
+#include <memory>
 
 namespace cefrodil {
 
@@ -66,6 +68,7 @@ template <class K, class V> struct Object : Retired {
     // The kind, and before it the generation.
     static constexpr uint64_t all_kinds = 0xff;
     std::atomic<uint64_t> head{unmade};
+    std::atomic<uint32_t> owners{1}; // the map, and each pin
     const K key;
     V value;
 };
@@ -85,8 +88,13 @@ template <class K, class V> struct MortalObject final : WeighedObject<K, V> {
     static MortalObject &of(Object<K, V> &object) noexcept { return static_cast<MortalObject &>(object); }
 };
 
+// Destroys an object, unless another owner has it. The first one has put it. Each later one has found it before it could be freed, so nobody becomes an
+// owner while the last one looks.
 struct Destroy {
     template <class K, class V> void operator()(Object<K, V> *object) const noexcept {
+        if (object->owners.load(std::memory_order_acquire) != 1 && object->owners.fetch_sub(1, std::memory_order_acq_rel) != 1) {
+            return;
+        }
         switch (object->kind()) {
         case Object<K, V>::mortal: delete &MortalObject<K, V>::of(*object); break;
         case Object<K, V>::weighed: delete &WeighedObject<K, V>::of(*object); break;
@@ -94,6 +102,33 @@ struct Destroy {
         }
     }
 };
+
+// Ends a pin.
+struct Unpin {
+    template <class V> void operator()(const V *) const noexcept { drop(object); }
+    void (*drop)(void *object) noexcept = nullptr;
+    void *object = nullptr;
+};
+
+} // namespace inside
+
+// The value of an object that is kept until this ends: also when the object has left the map, and when the map is closed. It may end in any thread. Then
+// the object is destroyed there, if it has left. Null: there is no object.
+template <class V> using pinned = std::unique_ptr<const V, inside::Unpin>;
+
+// The answer of extract. `value` is there if the status is ok.
+template <class V> struct Extracted {
+    Status status;
+    pinned<V> value;
+};
+
+namespace inside {
+
+// For a call that keeps the object meanwhile. Relaxed: the end of that call comes before the object is freed.
+template <class K, class V> pinned<V> pin_of(Object<K, V> &object) noexcept {
+    object.owners.fetch_add(1, std::memory_order_relaxed);
+    return pinned<V>(std::addressof(object.value), {[](void *its) noexcept { Destroy()(static_cast<Object<K, V> *>(its)); }, &object});
+}
 
 } // namespace inside
 

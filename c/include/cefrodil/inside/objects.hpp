@@ -13,7 +13,6 @@
 #include <optional>
 #include <type_traits>
 #include <utility>
-#include <vector>
 
 namespace cefrodil::inside {
 
@@ -32,13 +31,8 @@ template <class K, class V> class Objects : public Entries<1> {
     Objects &operator=(const Objects &) = delete;
     // No call runs any more. Without memory for a list of the entries, their objects leak.
     ~Objects() {
-        std::vector<uint64_t> list;
-        if (is_open_) {
-            static_cast<void>(repeated([&](Slot<1> &slot) { return slot.handle.try_entries(list); }));
-        }
-        for (size_t at = 1; at < list.size(); at += 2) {
-            static_cast<void>(Own(Each::at(list[at])));
-        }
+        const auto destroy = [](uint64_t, const auto &word) { return static_cast<void>(Own(Each::at(word[0]))), Status::ok; };
+        static_cast<void>(is_open_ ? each_listed(destroy) : Status::closed);
         static_cast<void>(free_now());
     }
 
@@ -52,8 +46,7 @@ template <class K, class V> class Objects : public Entries<1> {
         return status;
     }
 
-    // What is under a number, and the moment of its put. None: the status says why. absent: if the moment is not 0, an object is there that has expired,
-    // or is of an older generation than the call.
+    // What is under a number, and the moment of its put. None: the status says why. If it is absent and the moment is not 0, what is there has ended.
     struct Seen {
         Status status;
         Each *object;
@@ -170,12 +163,33 @@ template <class K, class V> class Objects : public Entries<1> {
             return removed(index, change, [&](Slot<1> &slot) { return slot.handle.try_take(index); });
         });
     }
+    // Calls with each object that has not ended. What the list has stays, since this is pinned before.
+    template <class See> Status for_each(const See &see) {
+        const Pinned pinned(*this);
+        return each_listed([&](uint64_t, const auto &word) {
+            Each &object = *Each::at(word[0]);
+            has_ended(object, generations.now()) ? void() : see(object);
+            return Status::ok;
+        });
+    }
+    // Removes each object that has not ended and of which `leaves` says so.
+    template <class Leaves> Erased erase_if(const Leaves &leaves) {
+        const auto find = [&](uint64_t index) {
+            const Pinned pinned(*this);
+            const Seen seen = pinned.peek(index, generations.now());
+            return inside::Seen{seen.status == Status::ok && !leaves(*seen.object) ? Status::absent : seen.status, seen.since};
+        };
+        return erase_each(find, [this](uint64_t index, uint64_t since) {
+            Change change(*this);
+            return take(index, since, change);
+        });
+    }
     // Removes what has expired or is of an older generation.
     Status erase_expired() noexcept {
         return each_listed([this](uint64_t index, const auto &) {
             const Seen seen = Pinned(*this).peek(index, generations.now());
             Change change(*this);
-            return seen.status == Status::absent && seen.since != 0 ? take(index, seen.since, change) : Status::ok;
+            return seen.status == Status::absent && seen.since != 0 ? take(index, seen.since, change) : seen.status;
         });
     }
     size_t free_now() noexcept { return free(epochs_.free_now()); }

@@ -226,7 +226,7 @@ template <size_t Words> class Passes {
     const std::shared_ptr<Lines> &lines() const noexcept { return Counting::lines(shared()); }
 
   private:
-    template <class Call> [[gnu::cold]] [[gnu::noinline]] auto call_shared(Call &made) noexcept {
+    template <class Call> [[gnu::cold]] [[gnu::noinline]] auto call_shared(Call made) noexcept {
         const std::lock_guard<std::mutex> guard(sharing_);
         // Relaxed: a number says nothing of other memory.
         shared_calls_.fetch_add(1, std::memory_order_relaxed);

@@ -200,16 +200,19 @@ class Table : public Entries<Packing<V, Times::moments>::words>, private Packing
         }
     }
 
-    // An entry that has expired is absent, but is removed all the same: an update that found it before must not renew it.
-    Status erase(const Identity &key) noexcept {
+    // Returns what it removed. An entry that has expired is absent, but is removed all the same: an update that found it before must not renew it.
+    Found<V> extract(const Identity &key) noexcept {
         for (uint32_t repeat = 0;; repeat++) {
             const Entry entry = look(now(key));
             if (entry.status != Status::ok && !entry.has_expired) {
-                return entry.status;
+                return {entry.status, std::nullopt};
             }
             const Status status = take_if(key.index, entry.since);
+            if (status == Status::ok) {
+                return {entry.status, entry.value};
+            }
             if (status != Status::changed || repeat >= this->tries()) {
-                return status == Status::ok ? entry.status : status;
+                return {status, std::nullopt};
             }
         }
     }
@@ -220,6 +223,24 @@ class Table : public Entries<Packing<V, Times::moments>::words>, private Packing
         return each_listed([this](uint64_t index, const Words &) {
             return this->removal(index, [&](Handle<words> &handle) { return handle.try_remove(index).status; });
         });
+    }
+    // Calls with the number and the words of each entry that has not expired.
+    template <class See> Status for_each(const See &see) {
+        return each_listed([&](uint64_t index, const Words &listed) {
+            if (!Times::have_passed(ends_of(listed))) {
+                see(index, listed);
+            }
+            return Status::ok;
+        });
+    }
+    // Removes each entry that has not expired and of which `leaves` says so, by its number and its words.
+    template <class Leaves> Erased erase_if(const Leaves &leaves) {
+        const auto find = [&](uint64_t index) {
+            const Answer<words> found = this->repeated([&](Slot<words> &slot) { return slot.handle.try_peek(index); });
+            const bool stays = found.value && (Times::have_passed(ends_of(*found.value)) || !leaves(index, *found.value));
+            return Seen{stays ? Status::absent : found.status, found.since};
+        };
+        return this->erase_each(find, [this](uint64_t index, uint64_t since) { return take_if(index, since); });
     }
     // Removes what has expired or is of an older generation. What stays doesn't count as used.
     Status erase_expired() noexcept {

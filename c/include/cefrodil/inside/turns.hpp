@@ -126,16 +126,16 @@ template <size_t Words> class Turns : public Passes<Words> {
         }
         return answer;
     }
-    // The same with the key's lock.
+    // The same with the key's lock. Here and below, what is captured by value stays in registers.
     template <class Call> auto locked(uint64_t key, Call made) noexcept {
-        return repeated([&](Slot<Words> &slot) {
+        return repeated([this, key, made](Slot<Words> &slot) {
             const std::unique_lock<KeyLock> guard(locks_[key % locks_.size()], std::try_to_lock);
             return guard ? made(slot) : refusal<decltype(made(slot))>(Status::held);
         });
     }
     // Makes a put with the key's lock, and counts a new key.
     template <class Write> Written write(uint64_t key, Write make) noexcept {
-        return locked(key, [&](Slot<Words> &slot) {
+        return locked(key, [make](Slot<Words> &slot) {
             const Written tried = make(slot.handle);
             slot.add(tried.status == Status::ok && !tried.renewed && !tried.evicted ? 1 : 0);
             return tried;
@@ -143,7 +143,7 @@ template <size_t Words> class Turns : public Passes<Words> {
     }
     // Makes a removal with the key's lock, and counts it.
     template <class Removal> Status removal(uint64_t key, Removal make) noexcept {
-        return locked(key, [&](Slot<Words> &slot) {
+        return locked(key, [make](Slot<Words> &slot) {
             const Status status = make(slot.handle);
             slot.add(status == Status::ok ? -1 : 0);
             return status;
