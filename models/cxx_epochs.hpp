@@ -17,12 +17,11 @@ struct CxxEpochs : rl::test_suite<CxxEpochs, 3> {
                                                            "fence of a new epoch",        "acquire of an announcement",  "release of the end of a pin",
                                                            "lock of pins without a slot", "removal before the retirement"};
 
-    static std::memory_order unless(std::string_view step, std::memory_order order) {
-        return explored::without(step) ? std::memory_order_relaxed : order;
-    }
-    static void fence_unless(std::string_view step) {
-        if (!explored::without(step)) {
-            explored::fence();
+    // The header's order. One that is sequentially consistent is this one here, and has a fence.
+    static std::memory_order weaker(std::memory_order order, std::memory_order own) { return order == std::memory_order_seq_cst ? own : order; }
+    static void fence_of(std::string_view step, std::memory_order order) {
+        if (order == std::memory_order_seq_cst) {
+            explored::fence_unless(step);
         }
     }
 
@@ -33,26 +32,24 @@ struct CxxEpochs : rl::test_suite<CxxEpochs, 3> {
         template <class T> struct Atomic : explored::Atomic<T> {
             using Own = explored::Atomic<T>;
             using Own::Own;
-            T load(std::memory_order) const {
+            T load(std::memory_order order) const {
                 const bool is_announced = reads_pins[explored::this_thread()];
                 if (explored::this_thread() == 0 && !is_announced) {
-                    fence_unless("fence of a retirement");
-                    return Own::load(std::memory_order_acquire);
+                    fence_of("fence of a retirement", order);
+                    return Own::load(weaker(order, std::memory_order_acquire));
                 }
-                return Own::load(unless(is_announced ? "acquire of an announcement" : "acquire of the epoch", std::memory_order_acquire));
+                const std::string_view step = is_announced ? "acquire of an announcement" : "acquire of the epoch";
+                return Own::load(explored::unless(step, weaker(order, std::memory_order_acquire)));
             }
             void store(T value, std::memory_order order) {
-                if (order == std::memory_order_seq_cst) {
-                    Own::store(value, std::memory_order_release);
-                    fence_unless("fence of an announcement");
-                } else {
-                    Own::store(value, unless("release of the end of a pin", order));
-                }
+                const bool is_end = order != std::memory_order_seq_cst;
+                Own::store(value, is_end ? explored::unless("release of the end of a pin", order) : std::memory_order_release);
+                fence_of("fence of an announcement", order);
             }
-            T fetch_add(T more, std::memory_order) {
+            T fetch_add(T more, std::memory_order order) {
                 reads_pins[explored::this_thread()] = true;
-                const T before = Own::fetch_add(more, std::memory_order_relaxed);
-                fence_unless("fence of a new epoch");
+                const T before = Own::fetch_add(more, weaker(order, std::memory_order_relaxed));
+                fence_of("fence of a new epoch", order);
                 return before;
             }
         };

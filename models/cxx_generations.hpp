@@ -11,7 +11,8 @@
 
 struct CxxGenerations : rl::test_suite<CxxGenerations, 3> {
     static constexpr unsigned interruptions = 2;
-    static constexpr std::array<std::string_view, 3> steps{"generation before the function", "lock of a put", "generation of an entry"};
+    static constexpr std::array<std::string_view, 5> steps{"generation before the function", "lock of a put", "generation of an entry",
+                                                           "release of the generation", "acquire of the generation"};
 
     struct Parts {
         template <class T> struct Atomic : explored::Atomic<T> {
@@ -27,7 +28,7 @@ struct CxxGenerations : rl::test_suite<CxxGenerations, 3> {
     explored::Atomic<int> store{older};
     // A value and the generation before it, or 0.
     explored::Atomic<uint64_t> entry{0};
-    cefrodil::inside::GenerationOf<Parts> generation{};
+    cefrodil::inside::GenerationOf<explored::Counting> generation{};
     cefrodil::inside::FlightsOf<Parts> flights{};
     const cefrodil::inside::Identity key{1, 1};
     explored::Mutex lock{};

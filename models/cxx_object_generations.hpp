@@ -1,8 +1,8 @@
 // The generations of objects of c/include/cefrodil/inside/objects.hpp, with the header's own count of generations.
 //
 // A thread puts a key, invalidates all, and puts the key again. Another one puts the key meanwhile, and a third one inserts it. Once all is
-// invalidated, the first object is not found. At the end one of the others is found. The index is the number of an object, and each object has a
-// generation. The lock is that of the key.
+// invalidated, the first object is not found. At the end one of the others is found. Who sees the new generation sees what the first thread wrote before.
+// The index is the number of an object, and each object has a generation. The lock is that of the key.
 #ifndef CXX_OBJECT_GENERATIONS_HPP
 #define CXX_OBJECT_GENERATIONS_HPP
 
@@ -10,13 +10,8 @@
 
 struct CxxObjectGenerations : rl::test_suite<CxxObjectGenerations, 3> {
     static constexpr unsigned interruptions = 2;
-    static constexpr std::array<std::string_view, 3> steps{"lock of a put", "generation of an object", "newer generations are found"};
-
-    struct Parts {
-        template <class T> struct Atomic : explored::Atomic<T> {
-            using explored::Atomic<T>::Atomic;
-        };
-    };
+    static constexpr std::array<std::string_view, 5> steps{"lock of a put", "generation of an object", "newer generations are found",
+                                                           "release of the generation", "acquire of the generation"};
 
     enum { none, first, again, other, inserted };
 
@@ -24,8 +19,9 @@ struct CxxObjectGenerations : rl::test_suite<CxxObjectGenerations, 3> {
     explored::Atomic<uint64_t> entry{none};
     std::array<explored::Atomic<uint64_t>, 5> heads{{explored::Atomic<uint64_t>(0), explored::Atomic<uint64_t>(0), explored::Atomic<uint64_t>(0),
                                                      explored::Atomic<uint64_t>(0), explored::Atomic<uint64_t>(0)}};
-    cefrodil::inside::GenerationOf<Parts> generation{};
+    cefrodil::inside::GenerationOf<explored::Counting> generation{};
     explored::Mutex lock{};
+    explored::Plain<bool> is_written{false}; // by the first thread, before it invalidates all
 
     bool is_there(uint64_t object, uint64_t now) const {
         const uint64_t own = object == none ? 0 : heads[object].load(std::memory_order_acquire);
@@ -62,6 +58,7 @@ struct CxxObjectGenerations : rl::test_suite<CxxObjectGenerations, 3> {
     void thread(unsigned index) {
         if (index == 0) {
             put(first);
+            is_written.set(true);
             generation.begin_next();
             RL_ASSERT(find() != first);
             put(again);
@@ -69,6 +66,7 @@ struct CxxObjectGenerations : rl::test_suite<CxxObjectGenerations, 3> {
             put(other);
         } else {
             insert(inserted);
+            RL_ASSERT(generation.now() == 0 || is_written.get());
         }
     }
     void after() { RL_ASSERT(find() != none && find() != first); }

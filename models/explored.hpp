@@ -118,6 +118,24 @@ class Condition {
 
 inline void fence() { rl::atomic_thread_fence(rl::mo_seq_cst, $); }
 
+// The order and the fence, unless the run leaves them out.
+inline std::memory_order unless(std::string_view step, std::memory_order order) { return without(step) ? std::memory_order_relaxed : order; }
+inline void fence_unless(std::string_view step) {
+    if (!without(step)) {
+        fence();
+    }
+}
+
+// Parts of a count of generations.
+struct Counting {
+    template <class T> struct Atomic : explored::Atomic<T> {
+        using Own = explored::Atomic<T>;
+        using Own::Own;
+        T load(std::memory_order order) const { return Own::load(unless("acquire of the generation", order)); }
+        T fetch_add(T more, std::memory_order order) { return Own::fetch_add(more, unless("release of the generation", order)); }
+    };
+};
+
 // Memory without atomic steps: two accesses that no order keeps apart are an error, unless both are reads.
 template <class T> class Plain {
   public:

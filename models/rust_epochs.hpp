@@ -24,15 +24,6 @@ struct RustEpochs : rl::test_suite<RustEpochs, 3> {
     using Guard = std::lock_guard<explored::Mutex>;
     static constexpr size_t none = ~size_t(0), no_object = 2;
 
-    static std::memory_order unless(std::string_view step, std::memory_order order) {
-        return explored::without(step) ? std::memory_order_relaxed : order;
-    }
-    static void fence_unless(std::string_view step) {
-        if (!explored::without(step)) {
-            explored::fence();
-        }
-    }
-
     // The objects' words in the index are 0 and 1. 1: the object lives.
     std::array<explored::Plain<int>, 2> objects{explored::Plain<int>(1), explored::Plain<int>(1)};
     explored::Atomic<size_t> entry{0}, epoch{0}, since{none};
@@ -46,11 +37,11 @@ struct RustEpochs : rl::test_suite<RustEpochs, 3> {
         RL_ASSERT(word == no_object || objects[word].get() == 1);
     }
     void look_up_with_slot() {
-        const size_t number = epoch.load(unless("acquire of the epoch", std::memory_order_acquire));
+        const size_t number = epoch.load(explored::unless("acquire of the epoch", std::memory_order_acquire));
         since.store(number, std::memory_order_release);                //| pin.since.store(self.epoch.load(SeqCst), SeqCst);
-        fence_unless("fence of an announcement");
+        explored::fence_unless("fence of an announcement");
         look_up();
-        const std::memory_order order = unless("release of the end of a pin", std::memory_order_release);
+        const std::memory_order order = explored::unless("release of the end of a pin", std::memory_order_release);
         since.store(none, order);                                      //| pin.since.store(NONE, Release);
     }
     void look_up_without_slot() {
@@ -58,7 +49,7 @@ struct RustEpochs : rl::test_suite<RustEpochs, 3> {
         size_t number = 0;
         {
             const Guard guard(shared_lock);                            //| let mut shared = lock(&self.shared);
-            const std::memory_order order = unless("acquire of the epoch", std::memory_order_acquire);
+            const std::memory_order order = explored::unless("acquire of the epoch", std::memory_order_acquire);
             number = epoch.load(order);                                //| let since = self.epoch.load(SeqCst);
             shared.push_back(number);                                  //| shared.push(since);
         }
@@ -75,13 +66,13 @@ struct RustEpochs : rl::test_suite<RustEpochs, 3> {
                 least = std::min(least, pinned);
             }
         }
-        const std::memory_order order = unless("acquire of an announcement", std::memory_order_acquire);
+        const std::memory_order order = explored::unless("acquire of an announcement", std::memory_order_acquire);
         return std::min(least, since.load(order));                     //| self.pins.iter().map(|pin| pin.since.load(SeqCst)).fold(shared, u64::min)
     }
     // Begins an epoch. Returns the first one whose objects can't be freed.
     size_t begin_epoch() {
         const size_t begun = epoch.fetch_add(1, std::memory_order_relaxed) + 1; //| let begun = self.epoch.fetch_add(1, SeqCst) + 1;
-        fence_unless("fence of a new epoch");
+        explored::fence_unless("fence of a new epoch");
         const size_t pinned = pinned_since();                          //| self.pinned_since().min(begun)
         return explored::without("end of the epoch that begins") ? pinned : std::min(pinned, begun);
     }
@@ -93,7 +84,7 @@ struct RustEpochs : rl::test_suite<RustEpochs, 3> {
     }
     void retire(size_t word) {
         const Guard guard(list_lock);                                  //| let mut waiting = lock(&self.lists[slot.unwrap_or(self.pins.len())].0);
-        fence_unless("fence of a retirement");
+        explored::fence_unless("fence of a retirement");
         const size_t number = epoch.load(std::memory_order_acquire);
         waiting.emplace_back(number, word);                            //| waiting.objects.push_back((self.epoch.load(SeqCst), word));
         free_before(begin_epoch());                                    //| let end = self.begin_epoch();

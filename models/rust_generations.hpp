@@ -21,12 +21,15 @@ struct RustGenerations : rl::test_suite<RustGenerations, 3> {
     static constexpr std::memory_order all = std::memory_order_seq_cst, acquires = std::memory_order_acquire;
     enum { none, older, newer, inserted, counted = 4, values = 8 };
 
-    explored::Atomic<int> generation{0}, store{older}, entry{older};
+    explored::Counting::Atomic<int> generation{0};
+    explored::Atomic<int> store{older}, entry{older};
     explored::Mutex flights{}, key_lock{};
     // Whether the load is in the list of flights, and what it has loaded.
     explored::Atomic<int> is_listed{0}, loaded{none};
 
-    int now() const { return generation.load(explored::without("acquire of the generation") ? std::memory_order_relaxed : all); }
+    //| in map/src/generation.rs
+    int now() const { return generation.load(all); }                      //| self.0.load(SeqCst)
+    void end() { generation.fetch_add(1, all); }                          //| self.0.fetch_add(1, SeqCst);
     bool put(int there, int in, int value) {
         const explored::Mutex::Off off("lock of an update");
         const Guard guard(key_lock);                                      //| in map/src/update.rs
@@ -47,7 +50,7 @@ struct RustGenerations : rl::test_suite<RustGenerations, 3> {
     }
 
     void invalidate() {
-        generation.fetch_add(1, explored::without("release of the generation") ? std::memory_order_relaxed : all); //| in map/src/core.rs
+        end();                                                            //| in map/src/core.rs
                                                                           //| self.generation.end();
         if (!explored::without("end of the flights")) {
             const Guard guard(flights);                                   //| self.flights.detach_all();

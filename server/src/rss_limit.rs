@@ -1,5 +1,6 @@
 //! A limit of the memory of the process (RSS). If it is exceeded, items get less room: the allocator loses some of it, and how much depends on their
 //! sizes.
+use nix::unistd::{sysconf, SysconfVar};
 use std::fs::File;
 use std::io;
 use std::os::unix::fs::FileExt;
@@ -12,8 +13,10 @@ pub(crate) const TIMES_OF_CUT: u64 = 4;
 /// The items always keep this part of the room that they have at first.
 const PART_OF_LEAST: u64 = 8;
 
-/// A page, on x86-64.
-const PAGE: u64 = 4096;
+/// The system's page: aarch64 has three sizes.
+pub(crate) fn bytes_of_page() -> io::Result<u64> {
+    Ok(sysconf(SysconfVar::PAGE_SIZE)?.ok_or(io::ErrorKind::Unsupported)? as u64)
+}
 
 /// The most that the process may take.
 pub struct RssLimit {
@@ -39,7 +42,7 @@ impl RssLimit {
         // The second number is that of pages in memory.
         let word = text[..length].split(|byte| *byte == b' ').nth(1).and_then(|word| std::str::from_utf8(word).ok());
         let pages = word.and_then(|word| word.parse::<u64>().ok());
-        pages.map(|pages| pages * PAGE).ok_or_else(|| io::ErrorKind::InvalidData.into())
+        Ok(pages.ok_or(io::ErrorKind::InvalidData)? * bytes_of_page()?)
     }
 
     /// The next room of items, if the process takes so much, and items so much of it: what they take, and what is free below the limit. An item

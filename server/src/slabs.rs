@@ -2,6 +2,7 @@
 //! system gets the chunk back. The C library's allocator would return a page only when all of its small items have left.
 use crate::item::Item;
 use crate::large;
+use crate::rss_limit::bytes_of_page;
 use std::alloc::Layout;
 use std::io;
 use std::mem::{align_of, size_of};
@@ -32,6 +33,8 @@ static SLABS: OnceLock<Slabs> = OnceLock::new();
 pub struct Slabs {
     /// The address of the first one.
     start: usize,
+    /// Whether a chunk has whole pages. The system takes no less back: with a larger page it would take other chunks, too.
+    has_whole_pages: bool,
     chunks: &'static [Chunk],
     unused: Mutex<Unused>,
     /// Of each number of blocks in a chunk: the first of those chunks that have a free block, or `None`.
@@ -91,7 +94,8 @@ pub fn set_up(bytes: usize) -> io::Result<()> {
     let chunks = unsafe { slice::from_raw_parts(first.cast(), count) };
     let unused = Mutex::new(Unused { next: 0, empty: NONE, empty_count: 0, returned: NONE });
     let start = (first as usize + heads).next_multiple_of(CHUNK);
-    let slabs = Slabs { start, chunks, unused, lists: [const { Mutex::new(NONE) }; MOST_BLOCKS + 1] };
+    let has_whole_pages = CHUNK as u64 % bytes_of_page()? == 0;
+    let slabs = Slabs { start, has_whole_pages, chunks, unused, lists: [const { Mutex::new(NONE) }; MOST_BLOCKS + 1] };
     SLABS.set(slabs).map_err(|_| io::ErrorKind::AlreadyExists.into())
 }
 
@@ -233,7 +237,7 @@ impl Slabs {
     /// The chunk with this number has no block any more. It is in a list, so this takes no memory.
     fn give_chunk_back(&self, number: usize) {
         let mut unused = lock(&self.unused);
-        if unused.empty_count < MOST_EMPTY {
+        if unused.empty_count < MOST_EMPTY || !self.has_whole_pages {
             unused.empty_count += 1;
             return self.add(&mut unused.empty, number);
         }

@@ -1,6 +1,7 @@
 //! The limit of the process's memory, and the room that it leaves to items.
 use cefrodild::budget::Budget;
 use cefrodild::rss_limit::RssLimit;
+use std::fs;
 
 const MEGABYTE: u64 = 1 << 20;
 const HIGH: u64 = 1 << 40;
@@ -15,6 +16,14 @@ fn bounded(bytes: u64) -> Budget {
     let budget = Budget::new(0, HIGH);
     budget.bound_process(bytes).expect("the system tells");
     budget
+}
+
+#[test]
+fn the_process_takes_what_the_system_counts_in_kilobytes() {
+    let text = fs::read_to_string("/proc/self/status").expect("the system tells");
+    let counted = text.lines().find_map(|line| line.strip_prefix("VmRSS:")?.trim().strip_suffix(" kB")?.parse::<u64>().ok()).expect("a number");
+    let resident = high().resident().expect("the system tells") >> 10;
+    assert!((counted / 2..2 * counted).contains(&resident), "{resident} kB, and the system says {counted}");
 }
 
 #[test]

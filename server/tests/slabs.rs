@@ -1,8 +1,8 @@
 //! Small items in chunks: no block is two items', and those of a chunk are found.
 use cefrodild::item::{new_item, NewItem};
+use cefrodild::rss_limit::RssLimit;
 use cefrodild::slabs;
 use std::collections::BTreeSet;
-use std::fs;
 use std::sync::{Mutex, MutexGuard, Once, PoisonError};
 use std::thread;
 
@@ -62,10 +62,9 @@ fn small_items(count: usize, length: usize) -> Vec<NewItem> {
     (0..count).map(|number| item(number, length)).collect()
 }
 
-/// The bytes of the process's pages that are in memory.
+/// The bytes of the process that are in memory.
 fn resident() -> usize {
-    let text = fs::read_to_string("/proc/self/statm").expect("the system tells");
-    4096 * text.split(' ').nth(1).and_then(|pages| pages.parse::<usize>().ok()).expect("a number of pages")
+    RssLimit::new(0).and_then(|limit| limit.resident()).expect("the system tells") as usize
 }
 
 #[test]
