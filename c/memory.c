@@ -226,8 +226,9 @@ static void give_back(struct region *region, const char *at) {
         open_region = NULL;
         leave(region);
     }
-    pthread_mutex_unlock(&lock);
+    /* Before the unlock: so of two threads that give back the last two blocks, one sees that its block is the last. */
     leave(region);
+    pthread_mutex_unlock(&lock);
 }
 
 static void *at_line(size_t size) {

@@ -46,7 +46,7 @@
 //
 // No call throws, but what your hash and your functions throw. A call that other threads keep from its turn is repeated, up to `tries` times. At
 // first it spins, then it yields, then it sleeps. At last it returns `held` or `busy`. A call that fails has changed no key and no value; only
-// `clear` may have removed some keys. It can be compiled with -fno-exceptions and -fno-rtti. Then the program ends if a call finds no memory.
+// `clear`, `erase_if` and `erase_expired` may have removed some keys. It can be compiled with -fno-exceptions and -fno-rtti. Then the program ends if a call finds no memory.
 #ifndef CEFRODIL_MAP_HPP
 #define CEFRODIL_MAP_HPP
 
@@ -296,6 +296,10 @@ class map : public inside::AnyMap<inside::Opened<K, Hash, inside::Table<V, Times
         static_assert(has_keys, "for_each and erase_if of a map give back keys of up to 8 bytes without a hash of yours; an object_map keeps all keys");
         if constexpr (has_keys) {
             const inside::Identity known = inside::in_generation({index, packed[0]}, inner_->entries.generations.now());
+            // Other bits are no bool.
+            if (std::is_same_v<K, bool> && known.check > 1) {
+                return;
+            }
             const K key = inside::object_from<K>({known.check});
             if (inside::is_same(inner_->identities.of(key), known)) {
                 call(key, static_cast<const V &>(*Entries::value_of(packed)));

@@ -15,11 +15,11 @@
 //     rules.weigher = [](const std::string &url, const auto &page) { return url.size() + page->size(); };
 //     rules.most_weight = 1000000;
 //     const cefrodil::Status opened = pages.open({1000}, rules);
-// The map then holds 1,000 pages or more, as long as they weigh no more than the bound together. While calls put, the sum may be above the bound by
-// what they put. What has left and waits to be freed weighs a sixteenth of the bound and one object more at most, while no function of `look` runs. If
-// a thread is stopped within a write, the sum may stay above the bound until a later put. A put that fails may have made others leave. Of a few
-// shards the one with the most objects chooses what leaves, so all keep nearly as many. Ask for at least as many entries as weigh so much together: room
-// for more takes memory alone.
+// The map then holds 1,000 pages or more, as long as they weigh no more than the bound together. While calls put, the sum may be above the bound by what
+// they put. What has left and waits to be freed weighs a sixteenth of the bound and one object more for each thread that writes at most, while no
+// function of `look`, `peek`, `update`, `for_each` or `erase_if` runs. If a thread is stopped within a write, the sum may stay above the bound until a
+// later put. A put that fails may have made others leave. Of a few shards the one with the most objects chooses what leaves, so all keep nearly as many.
+// Ask for at least as many entries as weigh so much together: room for more takes memory alone.
 //
 // Which objects leave: those that no call has found since their put. So keys that are used once evict few that are used often. If nearly all were found,
 // one that was not found lately leaves: perhaps the one that an update has made heavier. An object whose key left shortly before its put counts as found.
@@ -31,9 +31,10 @@
 //
 // This header is plain C++ and is not proved. The index below it is. The map's own part is an argument by hand: map/SAFETY.md of Cefrodil's repository.
 // Whoever finds an object keeps it until its call ends. An object that has left the map is freed by a later call that writes, once no call can have
-// found it. So a value's destructor runs in any thread that writes, and under no lock of the map. While a function of `look` runs, all objects that
-// leave the map wait for it, above any bound, and so do up to 32 of each thread that left shortly before. For anything that may block, take a `pin`: it
-// keeps one object alone. `waiting` and `waiting_weight` say how many objects wait, and `meter` does.
+// found it. So a value's destructor runs in any thread that writes, and under no lock of the map. One whose every call removes the next object of a
+// chain needs stack for all of them. While a function of `look` runs, all objects that leave the map wait for it, above any bound, and so do up to 32 of
+// each thread that left shortly before. For anything that may block, take a `pin`: it keeps one object alone. `waiting` and `waiting_weight` say how
+// many objects wait, and `meter` does.
 //
 // Keys are compared. Two keys whose hashes of 64 bits are the same can't be in the map at once: the later one replaces the earlier.
 //
@@ -51,6 +52,7 @@
 // - `insert_or_assign`: if `Equal` throws, the value was put. Otherwise the map is as it was.
 // - `erase` with a function: if the function throws, the key is removed. If `Equal` throws, the map is as it was.
 // - `find_or_compute`: if a copy or a move of a V throws, its value may have been put. Otherwise the map is as it was, and the next caller computes.
+// - `erase_if`: what it has removed stays removed.
 // - Any other call: the map is as it was. A V that was moved to a put may be lost with it.
 #ifndef CEFRODIL_OBJECT_MAP_HPP
 #define CEFRODIL_OBJECT_MAP_HPP
@@ -162,7 +164,7 @@ class object_map : public inside::AnyMap<inside::Opened<K, Hash, inside::Objects
     }
 
     // Puts a key that is absent. Statuses are those of cefrodil::map, and no_memory, and too_heavy: it weighs more than the bound. Unless ok, a V that
-    // was moved here is moved back.
+    // was moved here is moved back, if it can be assigned so.
     template <class Value = V> [[nodiscard]] Stored insert(Key key, Value &&value) {
         return put<Value>(key, value, std::nullopt, [&](const auto &known, Own &object, Change &change) { return put_new(known, key, object, change); });
     }
@@ -210,9 +212,10 @@ class object_map : public inside::AnyMap<inside::Opened<K, Hash, inside::Objects
             if (found) {
                 return {Status::ok, std::move(*found), false};
             }
-            // No listener and no destructor runs while others wait for the flight.
+            // No listener and no destructor runs while others wait for the flight, unless something throws.
             Change change(inner_->entries);
-            if (std::optional<Computed<V>> computed = compute(key, function, change)) {
+            Own object;
+            if (std::optional<Computed<V>> computed = compute(key, function, object, change)) {
                 return std::move(*computed);
             }
         }
@@ -271,7 +274,7 @@ class object_map : public inside::AnyMap<inside::Opened<K, Hash, inside::Objects
             }
         }
     }
-    // The key's object, for its removal, which is no use of it. If it has ended it is absent, but is removed all the same: an update that found it before
+    // The key's object, for its removal, which does not begin its time to idle anew. If it has ended it is absent, but is removed all the same: an update that found it before
     // must not renew it.
     Seen look_to_take(const inside::Identity &known, Key key) {
         const uint64_t now = generation();
@@ -335,7 +338,7 @@ class object_map : public inside::AnyMap<inside::Opened<K, Hash, inside::Objects
         return seen.status == Status::ok ? std::optional<V>(seen.object->value) : std::nullopt;
     }
     // Computes the key's value, if no other call does so now, and puts it. None: another call did.
-    template <class Function> std::optional<Computed<V>> compute(Key key, Function &function, Change &change) {
+    template <class Function> std::optional<Computed<V>> compute(Key key, Function &function, Own &object, Change &change) {
         const inside::Identity known = inner_->identities.of(key);
         inside::Flight flight(inner_->entries.flights.of(known), known);
         if (!flight.has_begun()) {
@@ -344,11 +347,13 @@ class object_map : public inside::AnyMap<inside::Opened<K, Hash, inside::Objects
         const uint64_t begun = generation();
         // Another flight may have ended between the lookup and the begin of this one.
         if (std::optional<V> found = seek(key)) {
+            flight.end();
             return Computed<V>{Status::ok, std::move(*found), false};
         }
         V value = function();
-        Own object = inner_->entries.make(key, [&]() -> const V & { return value; }, begun, inner_->entries.deadline({}));
+        object = inner_->entries.make(key, [&]() -> const V & { return value; }, begun, inner_->entries.deadline({}));
         const Status status = flight.land([&] { return object ? put_new(known, key, object, change, true) : Status::no_memory; });
+        flight.end();
         return Computed<V>{status, std::move(value), true};
     }
     // Replaces the value, until no other thread is first.

@@ -96,6 +96,22 @@ static void nothing_is_changed() {
     MUST(map.erase(0) == Status::ok && map.find_or_compute(10, compute).status == Status::ok && map.update(10, [](const Weight &) { return Weight(2); }) == Status::ok);
 }
 
+// All keys have one number, so the key that is there is compared.
+struct One {
+    cefrodil::HashPair operator()(int, const cefrodil::HashSecret &) const { return {1, 2}; }
+};
+
+// Each comparison of a computation throws: that of its lookup, of the second one, and before its put.
+static void a_comparison_of_a_computation_throws() {
+    const auto compute = [] { return Weight(2); };
+    for (int after = 0; after < 3; after++) {
+        cefrodil::object_map<int, Weight, One, Equal> map;
+        MUST(map.open({100}) == Status::ok && map.insert(1, Weight(1)).status == Status::ok);
+        MUST(throws(after, [&] { static_cast<void>(map.find_or_compute(2, compute)); }) && living == 1);
+        MUST(map.find(1)->number == 1 && map.find_or_compute(2, compute).status == Status::ok && map.find(2)->number == 2);
+    }
+}
+
 // The key is removed.
 static void a_removal_shows_the_value_and_throws() {
     int heard = 0;
@@ -108,6 +124,7 @@ static void a_removal_shows_the_value_and_throws() {
 int main() {
     equal_throws_after_a_put();
     nothing_is_changed();
+    a_comparison_of_a_computation_throws();
     a_removal_shows_the_value_and_throws();
     MUST(living == 0);
     return outcome("throws");

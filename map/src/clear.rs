@@ -4,7 +4,6 @@ use crate::handle::AnyHandle;
 use crate::key::Key;
 use crate::map::Map;
 use crate::stats::Kind;
-use crate::wait::LISTS;
 use cefrodil::Removal;
 
 impl<K: ?Sized, V: Copy, S> Map<K, V, S> {
@@ -38,7 +37,7 @@ impl<K: Key + ?Sized, V: Copy, S> Map<K, V, S> {
     ///
     /// [`ClearError`]: entries may be left.
     pub fn clear(&self) -> Result<(), ClearError> {
-        self.clear_within(LISTS, self.inner.core.tries)
+        self.clear_within(self.inner.core.tries)
     }
 
     /// Like [`clear`](Map::clear), with a single try at each step.
@@ -47,14 +46,14 @@ impl<K: Key + ?Sized, V: Copy, S> Map<K, V, S> {
     ///
     /// [`ClearError`]: entries may be left.
     pub fn try_clear(&self) -> Result<(), ClearError> {
-        self.clear_within(1, 1)
+        self.clear_within(1)
     }
 
-    fn clear_within(&self, lists: u32, tries: u32) -> Result<(), ClearError> {
+    fn clear_within(&self, tries: u32) -> Result<(), ClearError> {
         let core = &self.inner.core;
         core.flights.detach_all();
         let remove_all = || -> Result<(), ClearError> {
-            for key in core.list(lists, AnyHandle::keys)? {
+            for key in core.list(tries, AnyHandle::keys)? {
                 let removed = core.slots.in_turn(tries, || core.in_lock(key, |handle| handle.remove(key)));
                 if let Removal::Removed { .. } = removed.map_err(ClearError::of_removal)? {
                     core.slots.count(Kind::Removed);

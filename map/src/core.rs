@@ -111,8 +111,8 @@ impl<H: 'static, V> Core<H, V> {
     }
 
     /// Makes a list of the entries by this call of the index.
-    pub fn list<T>(&self, lists: u32, list: impl Fn(&mut H) -> Result<T, TurnError<ListError>>) -> Result<T, ClearError> {
-        self.slots.in_turn(lists, || self.slots.call(&list)).map_err(ClearError::of_list)
+    pub fn list<T>(&self, tries: u32, list: impl Fn(&mut H) -> Result<T, TurnError<ListError>>) -> Result<T, ClearError> {
+        self.slots.in_turn(tries, || self.slots.call(&list)).map_err(ClearError::of_list)
     }
 
     #[cfg(test)]

@@ -6,8 +6,7 @@ use crate::inner::{Found, Inner};
 use crate::key::{Key, Number};
 use crate::map::Map;
 use crate::stats::Kind;
-use crate::wait::LISTS;
-use crate::words::{check, Seen, Words};
+use crate::words::{check, Seen};
 use std::hash::BuildHasher;
 
 // The bound is that of the calls: so the compiler says of other keys why they can't be given back.
@@ -40,15 +39,20 @@ impl<K: Key + ?Sized, V: Copy + Send + Sync + 'static, S: BuildHasher> Map<K, V,
     where
         K: Number,
     {
-        self.inner.each(|_, _, key, value| {
-            look(&key, &value);
-            Ok(())
-        })
+        let generation = self.inner.core.generation.now();
+        for (hash, mut words) in self.inner.core.list(self.inner.core.tries, AnyHandle::entries)? {
+            if let Some((key, value)) = self.inner.entry(generation, hash, &mut words) {
+                look(&key, &value);
+            }
+        }
+        Ok(())
     }
 
-    /// Removes the entries for which `keeps` returns false, and returns how many. It is shown what [`for_each`](Map::for_each) shows. An entry that other
-    /// threads replace after it was shown stays. Once this has returned, no lookup finds a value that
-    /// [`get_or_insert_with`](Map::get_or_insert_with) or a task began to load before it: such a value was put before and shown, or is not put.
+    /// Removes the entries for which `keeps` returns false, and returns how many. None of those that stay counts as used. If other threads replace a
+    /// value after `keeps` was shown it, it is shown the new one. So once this has returned, only what was put meanwhile may be there of what it refuses:
+    /// no value that [`get_or_insert_with`](Map::get_or_insert_with) or a task began to load before this call.
+    ///
+    /// It lists all entries first, and takes a turn at each one's shard.
     ///
     /// # Errors
     ///
@@ -59,35 +63,46 @@ impl<K: Key + ?Sized, V: Copy + Send + Sync + 'static, S: BuildHasher> Map<K, V,
     {
         let core = &self.inner.core;
         core.flights.detach_all();
-        let mut removed = 0;
-        let each = self.inner.each(|hash, since, key, value| {
-            if !keeps(&key, &value) && ClearError::of_take(self.inner.take_if(hash, since, core.tries))? {
-                core.slots.count(Kind::Removed);
-                removed += 1;
-            }
-            Ok(())
+        let removed = core.list(core.tries, AnyHandle::keys).and_then(|listed| {
+            listed.into_iter().try_fold(0, |removed, hash| Ok(removed + usize::from(self.inner.remove_unless(hash, &mut keeps)?)))
         });
-        each.map(|()| removed).map_err(|why| core.refused(why))
+        removed.map_err(|why| core.refused(why))
     }
 }
 
 impl<K: Number, V: Copy, S: BuildHasher> Inner<K, V, S> {
-    // Calls `see` with each entry that has not expired: with its key in the index, the moment of its put, its key and its value.
-    fn each(&self, mut see: impl FnMut(u64, u64, K, V) -> Result<(), ClearError>) -> Result<(), ClearError> {
-        let generation = self.core.generation.now();
-        for (hash, mut words, since) in self.core.list(LISTS, AnyHandle::entries)? {
-            if let Some((key, value)) = self.entry(generation, hash, &mut words, since) {
-                see(hash, since, key, value)?;
+    // Removes the entry under this key of the index unless `keeps` keeps it, and says whether it did. If it was put or used meanwhile, `keeps` is asked
+    // again.
+    fn remove_unless(&self, hash: u64, keeps: &mut impl FnMut(&K, &V) -> bool) -> Result<bool, ClearError> {
+        for _ in 0..self.core.tries {
+            let generation = self.core.generation.now();
+            let seen = self.core.slots.within(self.core.tries, || {
+                match Seen::of(&mut self.core.slots.call(|handle| handle.peek(hash))) {
+                    Seen::Entry(words, since) => Some(self.entry(generation, hash, words).map(|entry| (entry, since))),
+                    Seen::Absent => Some(None),
+                    Seen::Busy => None,
+                }
+            });
+            let Some(((key, value), since)) = seen.ok_or(ClearError::Held)? else { return Ok(false) };
+            if keeps(&key, &value) {
+                return Ok(false);
+            }
+            if ClearError::of_take(self.take_if(hash, since, self.core.tries))? {
+                self.core.slots.count(Kind::Removed);
+                return Ok(true);
             }
         }
-        Ok(())
+        Err(ClearError::Held)
     }
 
+    // The key and the value of an entry that has not expired.
+    //
     // Its check word is the number with the generation. One that is of another generation has a number whose hash is not there.
-    fn entry(&self, generation: u64, hash: u64, words: &mut Words, since: u64) -> Option<(K, V)> {
+    fn entry(&self, generation: u64, hash: u64, words: &mut [u64]) -> Option<(K, V)> {
         let key = K::of_bits(check_in(generation, check(words)))?;
         let print = self.print(&key).dated(generation);
-        match self.found(print, Seen::Entry(words, since)) {
+        // No moment is asked for.
+        match self.found(print, Seen::Entry(words, 0)) {
             Some(Found::Live(entry, _)) if print.key == hash => Some((key, entry.value)),
             _ => None,
         }

@@ -120,11 +120,9 @@ impl AnyHandle {
         any!(self, handle => handle.try_take_if(key, since).map(drop))
     }
 
-    /// All entries, each with the moment of its put, in a turn at each shard.
-    pub fn entries(&mut self) -> Result<Vec<(u64, Words, u64)>, TurnError<ListError>> {
-        any!(self, handle => {
-            Ok(handle.try_stamped_entries()?.into_iter().map(|entry| (entry.key, wide(&entry.value), entry.since)).collect())
-        })
+    /// All entries, in a turn at each shard.
+    pub fn entries(&mut self) -> Result<Vec<(u64, Words)>, TurnError<ListError>> {
+        any!(self, handle => Ok(handle.try_entries()?.into_iter().map(|(key, value)| (key, wide(&value))).collect()))
     }
 
     /// The keys of all entries, in a turn at each shard.

@@ -10,9 +10,6 @@ pub(crate) const TRIES: u32 = 10_000;
 /// How often a lookup tries before it is a miss. That takes over a tenth of a second.
 pub(crate) const LOOKS: u32 = 1_000;
 
-/// How often a call tries to list the entries. A list has a turn at each shard and takes memory, so these are few.
-pub(crate) const LISTS: u32 = 100;
-
 /// How a call waits before it tries again. The first pauses spin, each twice as long as the one before. Then the thread yields, and at last it
 /// sleeps: the thread that has the turn may have to wait for a processor.
 #[derive(Clone, Copy, Debug, PartialEq, Eq)]

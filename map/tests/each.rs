@@ -89,14 +89,20 @@ fn what_is_refused_is_removed_and_nothing_else() {
 
 // The function puts the key that it is shown.
 #[test]
-fn what_is_replaced_after_it_was_shown_stays() {
-    let map = Map::<u64, u64>::new(100).unwrap();
-    map.insert(&1, 10).unwrap();
-    let removed = map.retain(|_, _| {
-        map.insert(&1, 11).unwrap();
-        false
-    });
-    assert_eq!((removed, map.get(&1), map.stats().removed), (Ok(0), Some(11), 0));
+fn what_is_replaced_after_it_was_shown_is_shown_again() {
+    for (stays, removed) in [(true, 0), (false, 1)] {
+        let (map, mut shown) = (Map::<u64, u64>::new(100).unwrap(), Vec::new());
+        map.insert(&1, 10).unwrap();
+        let retained = map.retain(|_, value| {
+            shown.push(*value);
+            if *value == 10 {
+                map.insert(&1, 11).unwrap();
+            }
+            stays && *value == 11
+        });
+        assert_eq!((retained, map.get(&1), map.stats().removed), (Ok(removed), stays.then_some(11), removed as u64));
+        assert_eq!(shown, [10, 11]);
+    }
 }
 
 #[test]

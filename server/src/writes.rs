@@ -73,7 +73,9 @@ impl Store {
     }
 
     fn store_if(&self, order: &Order, data: &[u8]) -> Result<Answer, Fault> {
-        let _lock = matches!(order.how, How::Append | How::Prepend).then(|| self.lock(order.key));
+        // These keep the deadline of what they replace.
+        let keeps_deadline = order.may_be_stale || matches!(order.how, How::Append | How::Prepend);
+        let _lock = keeps_deadline.then(|| self.lock(order.key));
         for _ in 0..TRIES {
             let found = self.find(order.key, |item, now| (self.over(order, data, item, now), item.deadline(), item.has(WON)))?;
             let (next, over) = match (found, order.how, order.compare) {

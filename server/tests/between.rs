@@ -144,11 +144,12 @@ fn an_item_that_was_not_put_is_not_counted() {
 #[test]
 fn a_new_time_to_live_waits_for_a_change_that_keeps_the_old_one() {
     for command in ["touch n 100\n", "gat 100 n\n", "mg n T100\n"] {
-        for change in ["incr n 1\n", "append n 0 0 1\n1\n", "prepend n 0 0 1\n1\n"] {
+        for change in ["incr n 1\n", "append n 0 0 1\n1\n", "prepend n 0 0 1\n1\n", "ms n 1 C0 I\n2\n"] {
             let (mut client, (sender, threads)) = (client_with("1"), channel());
             client.ask_beside(change, move |other| sender.send(ask_in_vain(other, command)).expect("it is waited for"));
             threads.recv().expect("there is a thread").join().expect("it is answered");
-            assert_ne!(client.ask("mg n t\n"), "HD t-1\n", "{command} is lost beside {change}");
+            let answer = client.ask("mg n t\n");
+            assert!(answer.contains(" t1") && !answer.contains("t-1"), "{command} is lost beside {change}");
         }
     }
 }

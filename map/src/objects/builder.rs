@@ -120,8 +120,8 @@ impl<K, V, S> ObjectBuilder<K, V, S> {
     /// hears nothing when the map is dropped.
     ///
     /// `listener` may call the map. A put by it may make another object leave, and then it is called again, within the first call. The sixteenth call
-    /// within each other puts nothing: its put is refused with [`InsertError::TooDeep`](crate::InsertError::TooDeep). A listener that owns a clone of
-    /// the map keeps it for ever. If `listener` panics, so does the call, which has made its change.
+    /// within each other puts nothing: its put is refused with [`InsertError::TooDeep`](crate::InsertError::TooDeep). Removals have no such end: a
+    /// listener that removes one object for each that it hears of needs stack for all of them. A listener that owns a clone of the map keeps it for ever. If `listener` panics, so does the call, which has made its change.
     pub fn listener(mut self, listener: impl Fn(&K, &V, Reason) + Send + Sync + 'static) -> Self {
         self.hears.listener = Some(Listener(Box::new(move |object, reason| listener(&object.key, &object.value, reason))));
         self
@@ -155,7 +155,7 @@ impl<K, V, S> ObjectBuilder<K, V, S> {
     /// - An entry that alone is heavier than `most` is refused: [`InsertError::TooHeavy`](crate::InsertError::TooHeavy). What its key had stays.
     /// - The map is still bounded by its number of entries, too. Take a capacity for at least as many entries as fit by their weight.
     /// - [`weight`](ObjectMap::weight) is the sum. Objects that have left and wait to be freed don't count.
-    /// - [`set_most_weight`](ObjectMap::set_most_weight) changes `most`.
+    /// - [`set_most_weight`](ObjectMap::set_most_weight) changes `most`. A number above 2^48 is taken for 2^48.
     pub fn max_weight(mut self, most: u64, weigher: impl Fn(&K, &V) -> u64 + Send + Sync + 'static) -> Self {
         self.hears.weigher = Some((most, Box::new(move |object| weigher(&object.key, &object.value))));
         self

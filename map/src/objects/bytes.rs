@@ -91,12 +91,19 @@ impl<H> Deref for Bytes<H> {
     }
 }
 
+const TOO_LONG: &str = "a block has less bytes than the address space";
+
 fn size_of<H: Head>(key: usize, value: usize) -> usize {
-    (H::SIZE + key + value).max(mem::size_of::<H>())
+    H::SIZE.checked_add(key).and_then(|size| size.checked_add(value)).expect(TOO_LONG).max(mem::size_of::<H>())
 }
 
 fn layout_of<H: Head>(size: usize) -> Layout {
-    Layout::from_size_align(size, mem::align_of::<H>()).expect("a block has less bytes than the address space")
+    Layout::from_size_align(size, mem::align_of::<H>()).expect(TOO_LONG)
+}
+
+// One slice may be there often.
+fn length_of(parts: &[&[u8]]) -> usize {
+    parts.iter().try_fold(0, |sum: usize, part| sum.checked_add(part.len())).expect(TOO_LONG)
 }
 
 impl<H: Head> Block<H> {
@@ -104,9 +111,9 @@ impl<H: Head> Block<H> {
     ///
     /// # Panics
     ///
-    /// If the head says other lengths.
+    /// If the head says other lengths, or the parts have more bytes than the address space.
     pub fn new(head: H, key: &[u8], value: &[&[u8]]) -> Block<H> {
-        let size = size_of::<H>(key.len(), value.iter().map(|part| part.len()).sum::<usize>());
+        let size = size_of::<H>(key.len(), length_of(value));
         Block::try_new(head, key, value).unwrap_or_else(|| handle_alloc_error(layout_of::<H>(size)))
     }
 
@@ -118,7 +125,7 @@ impl<H: Head> Block<H> {
     #[must_use]
     pub fn try_new(head: H, key: &[u8], value: &[&[u8]]) -> Option<Block<H>> {
         const { assert!(!mem::needs_drop::<H>() && H::SIZE <= mem::size_of::<H>() && mem::size_of::<H>() > 0) };
-        let lengths = (key.len(), value.iter().map(|part| part.len()).sum::<usize>());
+        let lengths = (key.len(), length_of(value));
         assert_eq!(head.lengths(), lengths, "the head says what the lengths are");
         let layout = layout_of::<H>(size_of::<H>(lengths.0, lengths.1));
         // SAFETY: its size is that of a head, or more.

@@ -7,7 +7,6 @@ use crate::clock::{FAR, NEVER};
 use crate::core::Core;
 use crate::print::Print;
 use crate::stats::Stats;
-use crate::wait::LISTS;
 use cefrodil::Handle;
 use std::cell::Cell;
 use std::hash::{BuildHasher, Hash};
@@ -221,7 +220,7 @@ impl<O: Held, S> Drop for ObjectInner<O, S> {
             self.epochs.forget();
             return;
         }
-        let listed = self.core.list(LISTS, Handle::try_entries);
+        let listed = self.list();
         for (_, [word]) in listed.into_iter().flatten() {
             self.free(self.epochs.retire(None, word));
         }

@@ -18,7 +18,7 @@ use std::sync::Arc;
 /// The map owns its keys and values. Each pair is an object on the heap, so a lookup follows a pointer, and a put allocates. A
 /// [`Map`](crate::Map) keeps small values that are `Copy` in its table instead.
 ///
-/// A full map evicts an entry for each new key: one that is new and was not used, or else roughly one that was not used lately. If other threads disturb a call, it tries again, a bounded number of times. If all tries failed, a write returns an error and has changed nothing, and a put gives its key and value back.
+/// A full map evicts an entry for each new key: one that is new and was not used, or else roughly one that was not used lately. If other threads disturb a call, it tries again, a bounded number of times. If all tries failed, a write returns an error and has changed nothing of its key, and a put gives its key and value back.
 ///
 /// Keys are compared. Of two keys with the same 64-bit hash the map holds the one that was put last. A lookup of the other is a miss, and a
 /// removal of the other removes nothing.
@@ -27,7 +27,7 @@ use std::sync::Arc;
 ///
 /// An object that leaves the map is freed when no call can use it any more. The destructors of keys and values run in calls that write, in
 /// any thread, and in the drop of the last clone. They never run in a lookup. Objects wait for a write that frees them, or for
-/// [`free_unused`](ObjectMap::free_unused): fewer than 32, and all that left while a closure ran. So the map's memory has no bound while a
+/// [`free_unused`](ObjectMap::free_unused): fewer than 64 for each thread, and all that left while a closure ran. So the map's memory has no bound while a
 /// closure sleeps: [`pin`](ObjectMap::pin) a value for anything that may block. What was pinned when it left the map is freed with its last pin.
 /// [`stats`](ObjectMap::stats) says how many wait. A panic in a destructor of what has left the map ends there.
 pub struct ObjectMap<K, V, S = RandomState> {

@@ -34,7 +34,7 @@ where
     ///
     /// # Errors
     ///
-    /// [`Refused`]: nothing was changed, and the key and the value come back. An older value of the key stays: if it must not,
+    /// [`Refused`]: nothing was put, and the key and the value come back. An older value of the key stays: if it must not,
     /// [`remove`](Self::remove) it.
     pub fn insert(&self, key: K, value: V) -> Result<Inserted, Refused<K, V>> {
         Ok(self.put(key, value, None)?.did)

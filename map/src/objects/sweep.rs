@@ -5,8 +5,8 @@ use super::map::ObjectMap;
 use super::object::Held;
 use crate::error::ClearError;
 use crate::stats::Kind;
-use crate::wait::LISTS;
-use cefrodil::{Entry, Handle, Take};
+use super::pinned::Pinned;
+use cefrodil::{Handle, Reply, Take};
 
 impl<K, V, S> ObjectMap<K, V, S> {
     /// Invalidates all entries, by one step however many there are. Once this has returned, no lookup finds a value that was put before this call, nor one
@@ -49,9 +49,11 @@ impl<K, V, S> ObjectMap<K, V, S> {
         self.inner.take_out(Reason::Expired, |object| !self.inner.is_live(object))
     }
 
-    /// Removes the entries for which `keeps` returns false, and returns how many. It is shown what [`for_each`](Self::for_each) shows. An entry that other
-    /// threads replace after it was shown stays. Once this has returned, no lookup finds a value that [`get_or_insert_with`](Self::get_or_insert_with) or a
-    /// task began to load before it: such a value was put before and shown, or is not put.
+    /// Removes the entries for which `keeps` returns false, and returns how many. None of those that stay counts as used. If other threads replace a
+    /// value after `keeps` was shown it, it is shown the new one. So once this has returned, only what was put meanwhile may be there of what it refuses:
+    /// no value that [`get_or_insert_with`](Self::get_or_insert_with) or a task began to load before this call.
+    ///
+    /// It lists all entries first, and takes a turn at each one's shard. No object that leaves the map is freed before the call ends.
     ///
     /// ```
     /// let pages = cefrodil_map::ObjectMap::<(String, u32), Vec<u8>>::new(100)?;
@@ -113,10 +115,10 @@ impl<K, V, S> ObjectMap<K, V, S> {
 impl<O: Held, S> ObjectInner<O, S> {
     /// The hashes and words of all entries.
     pub fn list(&self) -> Result<Vec<(u64, [u64; 1])>, ClearError> {
-        self.core.list(LISTS, Handle::try_entries)
+        self.core.list(self.core.tries, Handle::try_entries)
     }
 
-    // Takes out the objects for which `leaves` returns true, and counts them. What other threads put over one after it was listed stays.
+    // Takes out the objects for which `leaves` returns true, and counts them.
     fn take_out(&self, reason: Reason, leaves: impl FnMut(&O) -> bool) -> Result<usize, ClearError> {
         let removed = self.take_listed(reason, leaves).map_err(|why| self.core.refused(why));
         // They waited for this call, which was pinned.
@@ -126,12 +128,29 @@ impl<O: Held, S> ObjectInner<O, S> {
 
     fn take_listed(&self, reason: Reason, mut leaves: impl FnMut(&O) -> bool) -> Result<usize, ClearError> {
         let pinned = self.pin();
-        let mut removed = 0;
-        for Entry { key: hash, value: [word], since } in self.core.list(LISTS, Handle::try_stamped_entries)? {
-            if leaves(pinned.object(word)) {
-                removed += usize::from(ClearError::of_take(self.take_if(hash, since, reason, self.core.tries))?);
+        let listed = self.list()?.into_iter();
+        listed.map(|(hash, _)| self.take_that(&pinned, hash, reason, &mut leaves)).try_fold(0, |sum, taken| Ok(sum + usize::from(taken?)))
+    }
+
+    // Takes out the object under this hash if `leaves` returns true, and says whether it did. If another was put meanwhile, `leaves` is asked of that one.
+    fn take_that(
+        &self,
+        pinned: &Pinned<'_, O, S>,
+        hash: u64,
+        reason: Reason,
+        leaves: &mut impl FnMut(&O) -> bool,
+    ) -> Result<bool, ClearError> {
+        let slots = &self.core.slots;
+        for _ in 0..self.core.tries {
+            let reply = slots.within(self.core.tries, || slots.call(|handle| handle.try_peek(hash)).ok());
+            let Reply::Found { value: [word], since, .. } = reply.ok_or(ClearError::Held)? else { return Ok(false) };
+            if !leaves(pinned.object(word)) {
+                return Ok(false);
+            }
+            if ClearError::of_take(self.take_if(hash, since, reason, self.core.tries))? {
+                return Ok(true);
             }
         }
-        Ok(removed)
+        Err(ClearError::Held)
     }
 }

@@ -19,6 +19,9 @@ pub(crate) struct Weights<O> {
 /// The weight of an object that is about to be put under this hash. If it isn't put, this is dropped.
 pub(crate) struct Claim<'a, O>(Option<(&'a Weights<O>, u64, u64)>);
 
+/// No bound is above this, so no sum of weights wraps.
+const HIGHEST: u64 = 1 << 48;
+
 /// So many shards are compared at an eviction. That keeps all nearly alike, and takes no longer where there are many.
 const COMPARED: usize = 8;
 
@@ -29,7 +32,7 @@ impl<O> Weights<O> {
     /// Of so many shards, a power of two.
     pub fn new(most: u64, weigher: Weigher<O>, shards: u32) -> Weights<O> {
         let numbers = (0..shards).map(|_| AtomicU64::new(0)).collect();
-        Weights { most: AtomicU64::new(most), weigher, sum: AtomicU64::new(0), numbers, next: AtomicUsize::new(0) }
+        Weights { most: AtomicU64::new(most.min(HIGHEST)), weigher, sum: AtomicU64::new(0), numbers, next: AtomicUsize::new(0) }
     }
 
     /// What the weigher says of an object that is to be put.
@@ -39,7 +42,7 @@ impl<O> Weights<O> {
 
     /// Changes what they may weigh together.
     pub fn set_most(&self, most: u64) {
-        self.most.store(most, SeqCst);
+        self.most.store(most.min(HIGHEST), SeqCst);
     }
 
     /// What all objects weigh.

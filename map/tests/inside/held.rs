@@ -85,7 +85,7 @@ fn a_computed_value_is_returned_though_its_put_is_held() {
 fn a_clear_tries_to_list_a_hundred_times() {
     let map = open();
     let _turn = hold(&map);
-    assert_eq!(calls(|| map.clear()), (100, Err(ClearError::Held)));
+    assert_eq!(calls(|| map.clear()), (TRIES, Err(ClearError::Held)));
     assert_eq!((map.get(&1), map.len(), map.stats().refused), (Some(10), 1, 1));
 }
 

@@ -42,6 +42,18 @@ fn an_entry_expires_when_it_was_not_used_for_so_long() {
     assert_eq!((map.get(&1), map.stats().expired), (None, 3));
 }
 
+// A lookup gives the entry a new end, and that is no reason to keep it.
+#[test]
+fn what_is_used_after_it_was_shown_is_removed() {
+    let (map, mut shown) = (open(), Vec::new());
+    turn(&map, 100);
+    let removed = map.retain(|key, _| {
+        shown.push(*key);
+        *key > 1 || shown.len() < 5 && map.get(key).is_none()
+    });
+    assert_eq!((removed, map.get(&1), map.len(), shown.iter().filter(|key| **key == 1).count()), (Ok(1), None, 3, 2));
+}
+
 #[test]
 fn each_lookup_and_write_is_a_use() {
     type Use = fn(&Numbers);

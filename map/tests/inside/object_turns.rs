@@ -46,9 +46,9 @@ fn a_write_that_is_held_tries_so_often_and_changes_nothing() {
     assert_eq!(calls(|| map.remove_with(&1, |value| *value)), (1 + TRIES, Err(RemoveError::Held)));
     assert_eq!(calls(|| map.remove_if(&1, since)), (1 + TRIES, Err(IfError::Held)));
     assert_eq!(calls(|| map.remove_stamped(map.hash_of(&1), since)), (TRIES, Err(IfError::Held)));
-    assert_eq!(calls(|| map.clear()), (100, Err(ClearError::Held)));
-    assert_eq!(calls(|| map.remove_expired()), (100, Err(ClearError::Held)));
-    assert_eq!(calls(|| map.retain(|_, _| false)), (100, Err(ClearError::Held)));
+    assert_eq!(calls(|| map.clear()), (TRIES, Err(ClearError::Held)));
+    assert_eq!(calls(|| map.remove_expired()), (TRIES, Err(ClearError::Held)));
+    assert_eq!(calls(|| map.retain(|_, _| false)), (TRIES, Err(ClearError::Held)));
     assert_eq!(calls(|| map.take(&1).map(drop)), (1 + TRIES, Err(RemoveError::Held)));
     assert_eq!((map.stats().refused, map.get(&1), map.get(&2), map.len()), (17, Some(10), None, 1));
     drop(turn);

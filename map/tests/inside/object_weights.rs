@@ -54,6 +54,18 @@ fn a_new_key_that_gets_no_turn_to_make_room_is_refused() {
     assert_eq!((map.insert(2, 50).unwrap(), map.weight(), map.len()), (Inserted::Evicted, 50, 1));
 }
 
+#[test]
+fn no_sum_of_weights_wraps() {
+    const HIGHEST: u64 = 1 << 48;
+    let map = ObjectMap::builder(100).max_weight(u64::MAX, |_: &u64, value: &u64| *value).open().unwrap();
+    for bound in [u64::MAX, HIGHEST] {
+        map.set_most_weight(bound).unwrap();
+        assert_eq!(map.insert(1, HIGHEST + 1).unwrap_err().why, InsertError::TooHeavy);
+        assert!(map.insert(2, HIGHEST).is_ok() && map.insert(3, HIGHEST).is_ok());
+        assert_eq!((map.len(), map.weight()), (1, HIGHEST));
+    }
+}
+
 /// Spreads nothing.
 #[derive(Default)]
 struct Plain(u64);

@@ -1,4 +1,4 @@
-// Computations under way, for cefrodil_map.hpp: of several callers that miss a key, one computes its value, and the others wait for it. If the
+// Computations under way, for both maps: of several callers that miss a key, one computes its value, and the others wait for it. If the
 // key is changed meanwhile, the value may be older than the change, and is not put.
 #ifndef CEFRODIL_INSIDE_FLIGHTS_HPP
 #define CEFRODIL_INSIDE_FLIGHTS_HPP
@@ -80,10 +80,16 @@ template <class Parts> class FlightOf {
     }
     FlightOf(const FlightOf &) = delete;
     FlightOf &operator=(const FlightOf &) = delete;
-    ~FlightOf() {
+    ~FlightOf() { end(); }
+
+    bool has_begun() const noexcept { return has_begun_; }
+
+    // From now on no call waits for it.
+    void end() {
         if (!has_begun_) {
             return;
         }
+        has_begun_ = false;
         const std::lock_guard<typename Parts::Mutex> guard(flights_.lock_);
         FlightOf **link = &flights_.first_;
         while (*link != this) {
@@ -95,10 +101,8 @@ template <class Parts> class FlightOf {
         flights_.ended_.notify_all();
     }
 
-    bool has_begun() const noexcept { return has_begun_; }
-
     // Puts what was computed by this call, unless the key was changed since the flight began. A change that begins meanwhile waits.
-    template <class Put> [[nodiscard]] Status land(Put put) noexcept {
+    template <class Put> [[nodiscard]] Status land(Put put) {
         const std::lock_guard<typename Parts::Mutex> guard(flights_.lock_);
         return is_outdated_ ? Status::stale : put();
     }

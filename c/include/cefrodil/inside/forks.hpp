@@ -50,6 +50,9 @@ class Ownings {
     Kept *kept_ = nullptr;
 };
 
+// At load, since a fork that has begun calls nothing that is registered later. If this fails, the first opening tries again.
+inline const bool is_watched_from_load = Ownings::of_library().watch();
+
 // A pointer to what one process owns. A forked child finds null here.
 class Owned {
   protected:

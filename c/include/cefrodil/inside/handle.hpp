@@ -16,7 +16,7 @@
 
 namespace cefrodil {
 
-// The statuses of cefrodil.h, and three more. A compiler warns if nobody looks at the status of a call, except that of `close`. `Status::ok` is
+// The statuses of cefrodil.h, and those of the maps. A compiler warns if nobody looks at the status of a call, except that of `close`. `Status::ok` is
 // 0, so compare a status, and never take it for a bool.
 enum class Status : uint32_t {
     // .ci/calls: statuses

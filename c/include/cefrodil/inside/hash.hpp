@@ -1,4 +1,4 @@
-// Keyed hashes for cefrodil_map.hpp: SipHash, by Jean-Philippe Aumasson and Daniel J. Bernstein (2012). It is designed so that nobody who does not
+// Keyed hashes for both maps: SipHash, by Jean-Philippe Aumasson and Daniel J. Bernstein (2012). It is designed so that nobody who does not
 // know the secret can choose keys whose hashes meet.
 #ifndef CEFRODIL_INSIDE_HASH_HPP
 #define CEFRODIL_INSIDE_HASH_HPP

@@ -304,7 +304,7 @@ class Table : public Entries<Packing<V, Times::moments>::words>, private Packing
     Status take_ended(uint64_t index) noexcept {
         Words packed;
         const Seen seen = this->get(this->own_slot(), index, this->tries(), packed);
-        return seen.status == Status::ok && has_ended(packed) ? take_if(index, seen.since) : Status::ok;
+        return seen.status == Status::ok && has_ended(packed) ? take_if(index, seen.since) : seen.status;
     }
     Words pack_in(uint64_t generation, const Identity &key, const Ends &ends, const V &value) const noexcept {
         return pack(in_generation(key, generation), Times::in_generation(ends, generation), value);

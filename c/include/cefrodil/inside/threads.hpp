@@ -1,4 +1,4 @@
-// What flights.hpp and passes.hpp share between threads is made of these types. The programs of models/ put others in their
+// What the headers beside this one share between threads is made of these types. The programs of models/ put others in their
 // place, to try one schedule after the other.
 #ifndef CEFRODIL_INSIDE_THREADS_HPP
 #define CEFRODIL_INSIDE_THREADS_HPP
