@@ -1,7 +1,7 @@
 //! The words of a cache.
 ghost use Rattle.std.specs.Prelude.{◌≡◌};
 
-use mc_reader::{touch_ahead, touch_named, touch_slots};
+use mc_reader::{guess_named, touch_ahead, touch_guessed, touch_slots};
 use mc_shared::Cells;
 use std::marker::Model;
 
@@ -51,9 +51,15 @@ impl<const V: usize> Cache<V> {
         touch_slots(&self.cells, key);
     }
 
-    /// Loads the item that the slots of the key's buckets seem to name.
+    /// The item that the slots of the key's buckets seem to name.
     #[inline(always)]
-    pub fn touch_named(&self, key: u64) {
-        touch_named(&self.cells, key);
+    pub fn guess_named(&self, key: u64) -> u32 {
+        guess_named(&self.cells, key)
+    }
+
+    /// Loads the words of this item, or of the last one if there are fewer.
+    #[inline(always)]
+    pub fn touch_guessed(&self, item: u32) {
+        touch_guessed(&self.cells, item);
     }
 }

@@ -127,12 +127,18 @@ pub fn touch_slots<const V: usize>(cells: &Cells<V>, key: u64) {
     touch_row(cells, aim.second);
 }
 
-/// Touches the item that the slots of the key's buckets seem to name.
+/// The item that the slots of the key's buckets seem to name. It changes nothing, and says nothing of the table.
 #[inline(always)]
-pub fn touch_named<const V: usize>(cells: &Cells<V>, key: u64) {
+pub fn guess_named<const V: usize>(cells: &Cells<V>, key: u64) -> u32 {
     let checked = cells.checked();
-    let item = guess(cells, aim_at::<V>(checked, key), checked.shape().items);
-    touch_item(cells, checked, item);
+    guess(cells, aim_at::<V>(checked, key), checked.shape().items)
+}
+
+/// Touches this item, or the last one if there are fewer.
+#[inline(always)]
+pub fn touch_guessed<const V: usize>(cells: &Cells<V>, item: u32) {
+    let checked = cells.checked();
+    touch_item(cells, checked, item.min(checked.shape().items - 1));
 }
 
 /// Touches what the lookups of these keys will read: the slots of their buckets, and then the items that these seem to name.

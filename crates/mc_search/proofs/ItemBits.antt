@@ -91,6 +91,13 @@ one_in ws n t l is =
     ap (λ (z : ℕ). bit_at (get_or ws z 0) ((n * 64 + t) % 64)) (div-mul-add n 64 t l)
     ∙ (ap (λ (z : ℕ). bit_at (get_or ws n 0) z) (mod-mul-add n 64 t l) ∙ is)
 
+-- if a word has no bit from this one on, it has no item from this one on
+pub none_from : (ws : List ℕ) (n s v j : ℕ) → v ≡ 0 → ((t : ℕ) → s ≤ t → t < 64 → bit_at v t ≡ bit_at (get_or ws n 0) t) → j / 64 ≡ n → s ≤ j % 64 → bit_among ws j ≡ 0
+unfolding bit_among
+none_from ws n s v j is same at from =
+    ap (λ (z : ℕ). bit_at (get_or ws z 0) (j % 64)) at
+    ∙ (sym (same (j % 64) from (omega arith)) ∙ (ap (λ (z : ℕ). bit_at z (j % 64)) is ∙ bit_at-zero (j % 64)))
+
 -- ---- how many items there are
 pub bit_below : (ws : List ℕ) (i : ℕ) → bit_among ws i < 2
 unfolding bit_among
@@ -147,6 +154,13 @@ from_set word m t is = omega (arith, bit_at_and word m t, is, bit_at-lt word t)
 -- ---- a search word by word
 pub one_found : (ws : List ℕ) (n t w : ℕ) → w ≡ get_or ws n w → n < length ws → t < 64 → bit_at w t ≡ 1 → bit_among ws (n * 64 + t) ≡ 1
 one_found ws n t w is inside l set = one_in ws n t l (ap (λ (z : ℕ). bit_at z t) (found_is ws n w is inside) ∙ set)
+
+-- the word has no bit from this item's on
+pub none_rest : (ws : List ℕ) (from v w j : ℕ) → w ≡ get_or ws (from / 64) w → from / 64 < length ws → v ≡ 0 → ((t : ℕ) → from % 64 ≤ t → t < 64 → bit_at v t ≡ bit_at w t)
+    → from ≤ j → j < (from / 64 + 1) * 64 → bit_among ws j ≡ 0
+none_rest ws from v w j is inside none same after below =
+    let found = found_is ws (from / 64) w is inside in
+    none_from ws (from / 64) (from % 64) v j none (λ t a b. same t a b ∙ ap (λ (z : ℕ). bit_at z t) (sym found)) (omega (arith, after, below)) (omega (arith, after, below))
 
 -- one more word has none
 pub none_more : (ws : List ℕ) (from n w : ℕ) → w ≡ get_or ws n w → n < length ws → w ≡ 0 → ((j : ℕ) → from ≤ j → j < n * 64 → bit_among ws j ≡ 0) → (j : ℕ) → from ≤ j → j < (n + 1) * 64 → bit_among ws j ≡ 0

@@ -133,49 +133,23 @@ impl Choice {
         ensures items { self.new.items ≡ self.old.items }
         ensures same { (j : ℕ) → IsInUse self.new j ↔ IsInUse self.old j }
     {
-        let was_new = self.fresh.has(item);
-        if was_new {
+        if self.fresh.has(item) {
             self.notes.write(old);
-        }
-        let is_noted = self.notes.take(new);
-        if was_new && is_noted {
-            self.prove(item);
-        }
-        if !was_new && !is_noted {
+            if self.notes.take(new) {
+                self.prove(item);
+            }
+        } else if !self.notes.take(new) {
             self.renew(item);
         }
     }
 
-    // Whether a new item is to give way, if there is one.
-    #[inline(always)]
-    fn is_fresh_due(&self) -> bool
-        requires { IsChoice self.now }
-    {
-        u64::from(self.proven.len()) <= 9 * u64::from(self.fresh.len())
-    }
-
-    /// The item whose bit is to be read next: most often one near its hand.
+    /// The item whose bit is to be read next.
     #[inline(always)]
     pub(crate) fn next(&self) -> Option<u32>
         requires { IsChoice self.now }
         ensures { MatchOption result ((j : ℕ) → IsInUse self.now j → ⊥) (IsInUse self.now) }
     {
-        if self.is_fresh_due() {
-            if let Some(item) = self.fresh.near(self.fresh_hand) {
-                return Some(item);
-            }
-        } else if let Some(item) = self.proven.near(self.proven_hand) {
-            return Some(item);
-        }
-        self.next_round()
-    }
-
-    #[inline(never)]
-    fn next_round(&self) -> Option<u32>
-        requires { IsChoice self.now }
-        ensures { MatchOption result ((j : ℕ) → IsInUse self.now j → ⊥) (IsInUse self.now) }
-    {
-        if self.is_fresh_due() {
+        if u64::from(self.proven.len()) <= 9 * u64::from(self.fresh.len()) {
             if let Some(item) = self.fresh.next_round(self.fresh_hand) {
                 return Some(item);
             }

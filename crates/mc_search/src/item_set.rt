@@ -1,5 +1,5 @@
 //! Sets of items.
-ghost use Rattle.std.specs.Prelude.{ℕ, ◌≡◌, ◌≢◌, ◌*◌, ◌^◌, ◌<◌, ◌≤◌, ◌↔◌, IfOk, IfSome, IsTrue, MatchOption};
+ghost use Rattle.std.specs.Prelude.{ℕ, ◌≡◌, ◌≢◌, ◌^◌, ◌<◌, ◌≤◌, ◌↔◌, IfOk, IsTrue, MatchOption};
 ghost use Rattle.std.specs.Int.{bit_at};
 
 use std::alloc::{AllocError, Global};
@@ -76,29 +76,20 @@ impl ItemSet {
         self.len -= 1;
     }
 
-    /// An item of the set in this word of 64 or a later one: the first, though no clause says so.
-    fn first_from(&self, word: u32) -> Option<u32>
-        requires kept { IsItemSet self.now }
-        ensures { MatchOption result ((j : ℕ) → word * 64 ≤ j → bit_in self.now j ≡ 0) (λ i. bit_in self.now i ≡ 1) }
-    {
-        'words: for next in word..self.items / 64 + 1 {
-            if let Some(bit) = lowest(self.words[next as usize]) {
-                return Some(next * 64 + bit);
-            }
-        }
-        None
-    }
-
-    /// An item of the set that is this one or behind it in the same word of 64.
-    #[inline(always)]
-    pub(crate) fn near(&self, from: u32) -> Option<u32>
+    /// An item of the set from this one on: the first, though no clause says so.
+    fn next_from(&self, from: u32) -> Option<u32>
         requires kept { IsItemSet self.now }
         requires in_items { from < self.now.items }
-        ensures { IfSome result (λ i. bit_in self.now i ≡ 1) }
+        ensures { MatchOption result ((j : ℕ) → from ≤ j → bit_in self.now j ≡ 0) (λ i. bit_in self.now i ≡ 1) }
     {
         let at = from / 64;
         if let Some(bit) = lowest(bits_from(self.words[at as usize], from % 64)) {
             return Some(at * 64 + bit);
+        }
+        'words: for next in at + 1..self.items / 64 + 1 {
+            if let Some(bit) = lowest(self.words[next as usize]) {
+                return Some(next * 64 + bit);
+            }
         }
         None
     }
@@ -109,13 +100,10 @@ impl ItemSet {
         requires in_items { from < self.now.items }
         ensures { MatchOption result ((j : ℕ) → bit_in self.now j ≡ 0) (λ i. bit_in self.now i ≡ 1) }
     {
-        if let Some(item) = self.near(from) {
+        if let Some(item) = self.next_from(from) {
             return Some(item);
         }
-        if let Some(item) = self.first_from(from / 64 + 1) {
-            return Some(item);
-        }
-        self.first_from(0)
+        self.next_from(0)
     }
 }
 

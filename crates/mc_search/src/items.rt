@@ -51,6 +51,18 @@ impl FreeItems {
         }
     }
 
+    /// The item in use whose bit a search that begins now reads first, if there is a choice. It is a call of its own, as only large tables ask.
+    #[inline(never)]
+    pub fn first_read(&self) -> Option<u32>
+        requires { IsConsistent self.now }
+        ensures { IfSome result (IsUsedIn self.now) }
+    {
+        match &self.choice {
+            Some(choice) => choice.next(),
+            None => None,
+        }
+    }
+
     /// Continues after the bit was read. Condition: the item is in use, and the search is not over.
     #[inline(always)]
     pub fn after(&mut self, pick: &mut Pick, item: u32, bit: u64)

@@ -94,21 +94,36 @@ impl<const V: usize> Shards<V> {
     /// Loads ahead the words that a lookup of this key will read. It changes nothing, and no answer depends on it.
     #[inline(always)]
     pub fn prefetch(&self, key: u64) {
-        self.cache(self.shard_of(key)).touch_named(key);
+        let cache = self.cache(self.shard_of(key));
+        cache.touch_guessed(cache.guess_named(key));
     }
 
-    // The slots of all the keys first, and then the items that they name: so the processor waits for many words at once.
+    // The slots of all the keys first, and then the items that they name, each in a loop that waits for nothing: so the processor waits for many words
+    // at once.
     #[inline(never)]
-    fn touch_each(&self, keys: &[u64]) {
+    fn touch_each(&self, keys: &[u64])
+        requires { length keys.now ≤ 16 }
+    {
+        let mut items = [0u32; GROUP];
         self.touch_slots(keys);
-        for &key in keys {
-            self.prefetch(key);
+        self.guess_each(keys, &mut items);
+        for i in 0..keys.len() {
+            self.cache(self.shard_of(keys[i])).touch_guessed(items[i]);
         }
     }
 
     fn touch_slots(&self, keys: &[u64]) {
         for &key in keys {
             self.cache(self.shard_of(key)).touch_slots(key);
+        }
+    }
+
+    #[inline(always)]
+    fn guess_each(&self, keys: &[u64], items: &mut [u32])
+        requires { length keys.now ≤ length items.old }
+    {
+        for i in 0..keys.len() {
+            items[i] = self.cache(self.shard_of(keys[i])).guess_named(keys[i]);
         }
     }
 

@@ -52,8 +52,8 @@ impl Books {
     ghost use Rattle.mc_plan.specs.Books.{AreBooksOf, HasRoom, IsLackingKey};
     ghost use Rattle.mc_plan.specs.Deciding.{IsCrowdedOut, IsWithoutPath};
 
-    /// If the table is large and no item is free, loads a word of each bucket that may have the key of the item at the hand: the put is
-    /// likely to evict that key, and the processor waits for these words while it still waits for those of the put's own buckets.
+    /// If the table is large and no item is free, loads a word of each bucket that may have the key of the item whose bit is read first: the
+    /// put is likely to evict that key, and the processor waits for these words while it still waits for those of the put's own buckets.
     #[inline(always)]
     fn look_ahead<const V: usize, P: Peek>(&self, peek: &mut P)
         requires books { (s : State V) × AreBooksOf V self.now s × (P.words peek.old ≡ s.words) }
@@ -62,7 +62,8 @@ impl Books {
         if !is_large(&self.checked) || !self.free.is_empty() {
             return;
         }
-        let key = key_at::<V, P>(&self.checked, peek, self.hand);
+        let item = self.free.first_read().unwrap_or(self.hand);
+        let key = key_at::<V, P>(&self.checked, peek, item);
         let parts = self.checked.parts(key);
         touch_bucket(&self.checked, peek, parts.first);
         touch_bucket(&self.checked, peek, parts.second);
@@ -179,7 +180,7 @@ impl Books {
         }
     }
 
-    /// How a new key is stored that finds this room. Its version changes are counted.
+    /// How a new key is stored that finds this room. The version changes of its moves are counted, and these of the put beside them.
     #[inline(always)]
     pub(crate) fn store<const V: usize, P: Peek>(
         &mut self,
@@ -187,11 +188,13 @@ impl Books {
         room: Room,
         item: u32,
         at: u64,
+        changes: u64,
     ) -> Storing
         requires width { IsWidth V }
         requires words { word_count V (shape_of self.old.checked) ≤ length (P.words peek.old) }
         requires filled { IsFilled (shape_of self.old.checked) (P.words peek.old) }
         requires taken { AreTaken (shape_of self.old.checked) (P.words peek.old) (path_of_room self.old.far.value.path room).places.items }
+        requires few { changes ≤ 4 }
         requires room { self.old.version_steps < 2 ^ 63 }
         ensures item { result.item ≡ item }
         ensures at { result.at ≡ at }
@@ -201,14 +204,14 @@ impl Books {
         ensures many { length (moves_of self.new.far.value.moves.items result.moves) ≡ length (path_of_room self.old.far.value.path room).places.items }
         ensures keys { AreKeys V (shape_of self.old.checked) (P.words peek.old) (path_of_room self.old.far.value.path room).places.items }
         ensures books { self.new ≡ record self.old {
-          version_steps = self.old.version_steps + (2 * length (path_of_room self.old.far.value.path room).places.items + 2);
+          version_steps = self.old.version_steps + (2 * length (path_of_room self.old.far.value.path room).places.items + changes);
           far = record self.old.far { value = record self.old.far.value { moves = self.new.far.value.moves } };
         } }
         ensures kept { peek.new ≡ peek.old }
     {
         match room {
             Room::Hole(place) => {
-                self.version_steps += 2;
+                self.version_steps += changes;
                 Storing {
                     item,
                     place,
@@ -218,7 +221,7 @@ impl Books {
             }
             Room::Move(one) => {
                 let moved = move_of::<V, P>(&self.checked, peek, one);
-                self.version_steps += 4;
+                self.version_steps += 2 + changes;
                 Storing {
                     item,
                     place: one.from,
@@ -229,7 +232,7 @@ impl Books {
             Room::Path => {
                 let far = &mut *self.far;
                 path_moves::<V, P>(&self.checked, peek, &far.path, &mut far.moves);
-                self.version_steps += 2 * far.moves.len() as u64 + 2;
+                self.version_steps += 2 * far.moves.len() as u64 + changes;
                 Storing {
                     item,
                     place: far.path.first(),
@@ -261,7 +264,7 @@ impl Books {
         let Some(item) = self.free.take_least(mixed) else {
             return None;
         };
-        Some(self.store::<V, P>(peek, room, item, at))
+        Some(self.store::<V, P>(peek, room, item, at, 2))
     }
 }
 
@@ -328,8 +331,7 @@ impl Books {
         let at = moment(&self.checked, peek) + 2;
         let victim = self.victim::<V, P>(peek, item);
         let left = room.cut_at(victim.place, &mut self.far.path);
-        let storing = self.store::<V, P>(peek, left, item, at);
-        self.version_steps += 2;
+        let storing = self.store::<V, P>(peek, left, item, at, 4);
         self.free.hand_on(item, victim.parts.mixed, mixed);
         Replacement { victim, storing }
     }

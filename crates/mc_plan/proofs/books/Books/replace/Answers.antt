@@ -49,14 +49,14 @@ returns-clause-replaced g c v call s rs on same =
     let kept = left.places.items in
     let stored = c.store-storing.ensures in
     let storing = c.store-storing.result in
-    let steps = c.store-storing.new.self.version_steps + 2 in
+    let steps = c.store-storing.new.self.version_steps in
     let read = ap g.P.Peek.words (c.victim-victim.ensures.kept ∙ c.moment-at.ensures.kept) ∙ same in
     let far : Far = record c.deref_mut.result.now { path = c.cut_at-left.new.path; moves = c.store-storing.new.self.far.value.moves } in
     let is = ap (λ (f : Far). f.finder) c.deref_mut.ensures.value in
     let path = path_of_room b.far.value.path room in
     let cut : IsCut c.victim-victim.result.place path.places.items path.hole kept left.hole =
     subst (λ (f : Far). IsCut c.victim-victim.result.place (path_of_room f.path room).places.items (path_of_room f.path room).hole kept left.hole) c.deref_mut.ensures.value c.cut_at-left.ensures in
-    let same_books : record c.store-storing.new.self { version_steps = steps } ≡ with_far (record b { version_steps = steps }) far = ap (λ (x : Books). record x { version_steps = steps }) stored.books in
+    let same_books : c.store-storing.new.self ≡ with_far (record b { version_steps = steps }) far = ap (λ (x : Books). record x { version_steps = steps }) stored.books in
     let changes : steps ≡ b.version_steps + (2 * length kept + 4) = omega (arith, ap (λ (x : Books). x.version_steps) stored.books) in
     let next : c.moment-at.result + 2 ≡ moment s.words + 2 = ap (λ (n : ℕ). n + 2) c.moment-at.ensures.value ∙ ap (λ (w : List ℕ). moment w + 2) same in
     let here = sym stored.item in
@@ -66,7 +66,7 @@ returns-clause-replaced g c v call s rs on same =
     let r : Replacement = record { victim = c.victim-victim.result; storing = storing } in
     let done = replaced_by V b far is k v room call s rs r kept left.hole steps (subst (λ (i : ℕ). IsReplacing V b k v room call s rs i) here on) victim cut keys (stored.at ∙ next) changes moves stored.place stored.many in
     let was = subst (λ (x : Books). IsReplaced V x k v call s rs r) (sym same_books) done in
-    handed_on V (record c.store-storing.new.self { version_steps = steps }) c.hand_on.new.self k v call s rs r was c.hand_on.ensures.kept c.hand_on.ensures.policy c.hand_on.ensures.list
+    handed_on V c.store-storing.new.self c.hand_on.new.self k v call s rs r was c.hand_on.ensures.kept c.hand_on.ensures.policy c.hand_on.ensures.list
 
 pub hand_on-requires-clause-in_use : goal.hand_on-requires-clause-in_use
 hand_on-requires-clause-in_use g c =
