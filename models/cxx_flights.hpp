@@ -25,6 +25,7 @@ struct CxxFlights : rl::test_suite<CxxFlights, 3> {
         };
         using Mutex = explored::Mutex;
         using Condition = explored::Condition;
+        static unsigned this_thread() { return explored::this_thread(); }
         static void fence() {
             if (!explored::without(explored::this_thread() == 0 ? "fence of the change" : "fence of the flight")) {
                 explored::fence();
@@ -46,7 +47,7 @@ struct CxxFlights : rl::test_suite<CxxFlights, 3> {
                 return found;
             }
             cefrodil::inside::FlightOf<Parts> flight(flights, key);
-            if (!flight.has_begun()) {
+            if (!flight.has_begun() && !flight.is_within()) {
                 continue;
             }
             if (const int found = find(); found != none) {

@@ -20,6 +20,7 @@ struct CxxGenerations : rl::test_suite<CxxGenerations, 3> {
         };
         using Mutex = explored::Mutex;
         using Condition = explored::Condition;
+        static unsigned this_thread() { return explored::this_thread(); }
         static void fence() { explored::fence(); }
     };
 

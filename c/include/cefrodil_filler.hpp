@@ -33,8 +33,8 @@ template <size_t Words> class Filler {
 
     // `changes`: how many it knows, at least one. A fill is refused if more have come since its ticket, so take what may come while a thread
     // reads the store, and some more.
-    // `writing`: one that owns its handle (Writing::own), so that all may be moved. It may throw std::bad_alloc, and then `writing` is as it was. A
-    // filler that was moved from must not be called.
+    // `writing`: one that owns its handle (Writing::own), so that all may be moved. It may throw std::bad_alloc, or std::length_error for too many
+    // changes, and then `writing` is as it was. A filler that was moved from must not be called.
     Filler(Writing<Words> &&writing, size_t changes)
         : count_(std::make_shared<std::atomic<uint64_t>>(0)), keys_(changes != 0 ? changes : 1), writing_(std::move(writing)) {}
 

@@ -75,7 +75,8 @@ struct MapOptions {
 
 // The answers of lookups, updates and puts are `Found` and `Stored`, in cefrodil/inside/table.hpp.
 
-// The answer of find_or_compute. `value` is always there. If the status is not ok, it says why the value was not put.
+// The answer of find_or_compute. `value` is a V. If the function returns an optional, so is `value`: it is empty if the function declined. If the status
+// is not ok, it says why the value was not put.
 template <class V> struct Computed {
     Status status;
     V value;
@@ -83,6 +84,18 @@ template <class V> struct Computed {
 };
 
 namespace inside {
+
+// Whether a function may decline to make a V of this, and how it returns one.
+template <class V, class Function, class... Given>
+inline constexpr bool may_decline = std::is_same_v<std::invoke_result_t<Function &, Given...>, std::optional<V>>;
+template <class V, class Function, class... Given> using Made = std::conditional_t<may_decline<V, Function, Given...>, std::optional<V>, V>;
+template <class Function, class V> Computed<Made<V, Function>> made_by(Computed<std::optional<V>> &&made) {
+    if constexpr (may_decline<V, Function>) {
+        return std::move(made);
+    } else {
+        return {made.status, std::move(*made.value), made.computed};
+    }
+}
 
 // What maps of both kinds have. `Inner`: what an open one owns.
 template <class Inner> class AnyMap {
@@ -108,10 +121,17 @@ template <class Inner> class AnyMap {
     uint64_t capacity() const noexcept { return inner_ ? inner_->entries.capacity() : 0; }
     // How many calls of the index threads without a pass of their own made. They wait for each other. If there are many, open the map with more passes.
     uint64_t shared_calls() const noexcept { return inner_ ? inner_->entries.shared_calls() : 0; }
-    // What the lookups of this map came to, each counted once: the calls of find, get, look, contains and find_or_compute, and the keys of find_many. So
+    // What the lookups of this map came to, each counted once: the calls of find, get, look, pin, contains, find_or_compute and pin_or_compute, and the
+    // keys of find_many and look_many. So
     // `meter().counts().hit_rate()` is exact while no call runs. What has expired is a miss, and so is another key's entry. A call of find_or_compute
     // that waits for another one's value is a miss, too. The other counts are of calls of the index: of those, a call of the map may make several.
     Meter meter() const noexcept { return inner_ ? inner_->entries.meter() : Meter(nullptr); }
+    // What `meter` has, with the size, the capacity and the weight of the map.
+    Counts counts() const noexcept {
+        Counts all = meter().counts();
+        all.entries = size(), all.capacity = capacity(), all.weight = inner_ ? inner_->entries.weight() : 0;
+        return all;
+    }
 
   protected:
     // Makes what the map owns, draws its secret, and opens its index. Unless ok, nothing was done.
@@ -187,7 +207,7 @@ class map : public inside::AnyMap<inside::Opened<K, Hash, inside::Table<V, Times
     // Writes to `values` what `find` returns for each of `count` keys, with fewer calls of the index. `Each` is what a call takes as a key: of a map
     // of strings, std::string or std::string_view. Returns how many keys were found.
     template <class Each> size_t find_many(const Each *keys, size_t count, std::optional<V> *values) const noexcept(never_throws) {
-        std::array<inside::Identity, inside::Table<V, Times>::few> known;
+        std::array<inside::Identity, inside::few_keys> known;
         std::fill_n(values, count, std::nullopt);
         for (size_t begin = 0; inner_ && begin < count; begin += known.size()) {
             const size_t few = std::min(count - begin, known.size());
@@ -219,8 +239,9 @@ class map : public inside::AnyMap<inside::Opened<K, Hash, inside::Table<V, Times
         return change(key, Found<V>{Status::closed, std::nullopt}, [&](const auto &known) { return inner_->entries.extract(known); });
     }
     // Replaces the value of a key that is there by what the function makes of it, `V function(const V &)`, and returns that. No other change is
-    // lost: if another thread is first, the function is called again, with the newer value. Unless ok, nothing was put. absent: the key is not there,
-    // and the function was not called, unless another thread removed the key meanwhile. held, busy, changed: as by `insert`. spent, closed.
+    // lost: if another thread is first, the function is called again, with the newer value. The function may return a
+    // `std::optional<V>`. If that is empty, nothing is put: declined. Unless ok, nothing was put. absent: the key is not there, and the function was not called, unless another thread removed the key
+    // meanwhile. held, busy, changed: as by `insert`. spent, closed.
     template <class Function> [[nodiscard]] Found<V> update(Key key, Function function) {
         return update(key, nullptr, function, Life());
     }
@@ -244,9 +265,10 @@ class map : public inside::AnyMap<inside::Opened<K, Hash, inside::Table<V, Times
     }
 
     // The key's value, or what the function computes, `V function()`, which is then put. Of several callers that miss the key one computes, and
-    // the others wait for it; if its value is refused or its function throws, the next one computes. The function may call the map, but must not
-    // compute the same key. stale: the key was changed while the function ran. present: another value was put meanwhile.
-    template <class Function> [[nodiscard]] Computed<V> find_or_compute(Key key, Function function) {
+    // the others wait for it; if its value is refused or its function throws, the next one computes. The function may call the map.
+    // It may return a `std::optional<V>`. If that is empty, nothing is put: declined. stale: the key was changed while the function ran, or this is a call
+    // by the function itself. present: another value was put meanwhile. Two functions that ask for each other's keys wait forever.
+    template <class Function> [[nodiscard]] Computed<inside::Made<V, Function>> find_or_compute(Key key, Function function) {
         if (!inner_) {
             return {Status::closed, function(), true};
         }
@@ -255,7 +277,7 @@ class map : public inside::AnyMap<inside::Opened<K, Hash, inside::Table<V, Times
         // The lookup that counts.
         for (Status status = inner_->entries.find(known, found); status != Status::ok; status = inner_->entries.seek(known, found)) {
             inside::Flight flight(inner_->entries.flights.of(known), known);
-            if (!flight.has_begun()) {
+            if (!flight.has_begun() && !flight.is_within()) {
                 continue;
             }
             const uint64_t generation = inner_->entries.generations.now();
@@ -263,8 +285,9 @@ class map : public inside::AnyMap<inside::Opened<K, Hash, inside::Table<V, Times
             if (inner_->entries.seek(known, found) == Status::ok) {
                 break;
             }
-            const V value = function();
-            return {flight.land([&] { return inner_->entries.put_if_absent_in(generation, known, value).status; }), value, true};
+            const std::optional<V> value = function();
+            const auto put = [&] { return inner_->entries.put_if_absent_in(generation, known, *value).status; };
+            return inside::made_by<Function>(Computed<std::optional<V>>{value ? flight.land(put) : Status::declined, value, true});
         }
         return {Status::ok, *Entries::value_of(found), false};
     }
@@ -323,7 +346,7 @@ class map : public inside::AnyMap<inside::Opened<K, Hash, inside::Table<V, Times
     template <class Function> Found<V> update(Key key, const V *first, Function &function, const Life &life) {
         return change(key, Found<V>{Status::closed, std::nullopt}, [&](const auto &known) {
             const auto outdating = [&](const V &old) {
-                const V value = function(old);
+                const inside::Made<V, Function, const V &> value = function(old);
                 inner_->entries.flights.outdate(known);
                 return value;
             };

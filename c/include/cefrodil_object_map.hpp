@@ -17,7 +17,7 @@
 //     const cefrodil::Status opened = pages.open({1000}, rules);
 // The map then holds 1,000 pages or more, as long as they weigh no more than the bound together. While calls put, the sum may be above the bound by what
 // they put. What has left and waits to be freed weighs a sixteenth of the bound and one object more for each thread that writes at most, while no
-// function of `look`, `peek`, `update`, `for_each` or `erase_if` runs. If a thread is stopped within a write, the sum may stay above the bound until a
+// function of `look`, `look_many`, `peek`, `update`, `for_each` or `erase_if` runs. If a thread is stopped within a write, the sum may stay above the bound until a
 // later put. A put that fails may have made others leave. Of a few shards the one with the most objects chooses what leaves, so all keep nearly as many.
 // Ask for at least as many entries as weigh so much together: room for more takes memory alone.
 //
@@ -32,7 +32,7 @@
 // This header is plain C++ and is not proved. The index below it is. The map's own part is an argument by hand: map/SAFETY.md of Cefrodil's repository.
 // Whoever finds an object keeps it until its call ends. An object that has left the map is freed by a later call that writes, once no call can have
 // found it. So a value's destructor runs in any thread that writes, and under no lock of the map. One whose every call removes the next object of a
-// chain needs stack for all of them. While a function of `look` runs, all objects that leave the map wait for it, above any bound, and so do up to 32 of
+// chain needs stack for all of them. While a function of `look` or `look_many` runs, all objects that leave the map wait for it, above any bound, and so do up to 32 of
 // each thread that left shortly before. For anything that may block, take a `pin`: it keeps one object alone. `waiting` and `waiting_weight` say how
 // many objects wait, and `meter` does.
 //
@@ -57,7 +57,7 @@
 #ifndef CEFRODIL_OBJECT_MAP_HPP
 #define CEFRODIL_OBJECT_MAP_HPP
 
-#include "cefrodil/inside/objects.hpp"
+#include "cefrodil/inside/object_calls.hpp"
 #include "cefrodil_map.hpp"
 #include <algorithm>
 #include <array>
@@ -72,16 +72,18 @@ namespace cefrodil {
 
 // A map of K to V. A hash of yours is as that of cefrodil::map; `Equal` compares a K with what a call takes as a key.
 template <class K, class V, class Hash = SipHash<K>, class Equal = std::equal_to<>>
-class object_map : public inside::AnyMap<inside::Opened<K, Hash, inside::Objects<K, V>>> {
-    using Inner = inside::Opened<K, Hash, inside::Objects<K, V>>;
-    using inside::AnyMap<Inner>::inner_;
-    using Objects = inside::Objects<K, V>;
-    using Pinned = typename Objects::Pinned;
-    using Seen = typename Objects::Seen;
-    using Change = typename Objects::Change;
-    using Own = typename Objects::Own;
-    // A time to live that a call says, or that of the map.
-    using Life = std::optional<std::chrono::nanoseconds>;
+class object_map : public inside::ObjectCalls<K, V, Hash, Equal> {
+    using Calls = inside::ObjectCalls<K, V, Hash, Equal>;
+    using Calls::generation;
+    using Calls::inner_;
+    using Calls::look_up;
+    using Calls::own;
+    using typename Calls::Change;
+    using typename Calls::Inner;
+    using typename Calls::Objects;
+    using typename Calls::Own;
+    using typename Calls::Pinned;
+    using typename Calls::Seen;
 
   public:
     // How a call takes a key. A string is taken as a view.
@@ -162,30 +164,44 @@ class object_map : public inside::AnyMap<inside::Opened<K, Hash, inside::Objects
     [[nodiscard]] bool contains(Key key) const {
         return look(key, [](const V &) {}) == Status::ok;
     }
+    // Calls `see(n, const V &)` with the value of each of `count` keys that is there, by the number of the key, and returns how many are. It makes fewer calls
+    // of the index than `look` does. `Each` is what a call takes as a key. What leaves the map meanwhile waits for it, as for `look`.
+    template <class Each, class See> size_t look_many(const Each *keys, size_t count, See see) const {
+        size_t found = 0;
+        for (size_t begin = 0; inner_ && begin < count; begin += inside::few_keys) {
+            found += this->look_few(keys + begin, std::min(count - begin, inside::few_keys), [&](size_t n, const V &value) { see(begin + n, value); });
+        }
+        return found;
+    }
+    // Writes copies to `values`, as `find` returns them.
+    template <class Each> size_t find_many(const Each *keys, size_t count, std::optional<V> *values) const {
+        std::fill_n(values, count, std::nullopt);
+        return look_many(keys, count, [&](size_t n, const V &value) { values[n].emplace(value); });
+    }
 
     // Puts a key that is absent. Statuses are those of cefrodil::map, and no_memory, and too_heavy: it weighs more than the bound. Unless ok, a V that
     // was moved here is moved back, if it can be assigned so.
     template <class Value = V> [[nodiscard]] Stored insert(Key key, Value &&value) {
-        return put<Value>(key, value, std::nullopt, [&](const auto &known, Own &object, Change &change) { return put_new(known, key, object, change); });
+        return this->template put<Value>(key, value, std::nullopt, [&](const auto &known, Own &object, Change &change) { return this->put_new(known, key, object, change); });
     }
     // Puts a key, whether it is there or not. Unless ok, an earlier value is still there.
     template <class Value = V> [[nodiscard]] Stored insert_or_assign(Key key, Value &&value) {
-        return put<Value>(key, value, std::nullopt, [&](const auto &known, Own &object, Change &change) { return inner_->entries.put(known.index, object, change); });
+        return this->template put<Value>(key, value, std::nullopt, [&](const auto &known, Own &object, Change &change) { return inner_->entries.put(known.index, object, change); });
     }
     // The same, with a time to live of its own, in any map. A time of 0 or less is over at once, and `forever` never.
     template <class Value = V> [[nodiscard]] Stored insert_for(Key key, Value &&value, std::chrono::nanoseconds life) {
-        return put<Value>(key, value, life, [&](const auto &known, Own &object, Change &change) { return put_new(known, key, object, change); });
+        return this->template put<Value>(key, value, life, [&](const auto &known, Own &object, Change &change) { return this->put_new(known, key, object, change); });
     }
     template <class Value = V> [[nodiscard]] Stored insert_or_assign_for(Key key, Value &&value, std::chrono::nanoseconds life) {
-        return put<Value>(key, value, life, [&](const auto &known, Own &object, Change &change) { return inner_->entries.put(known.index, object, change); });
+        return this->template put<Value>(key, value, life, [&](const auto &known, Own &object, Change &change) { return inner_->entries.put(known.index, object, change); });
     }
     // Replaces the value of a key that is there by what the function makes of it, `V function(const V &)`. If another thread is first, it is called
     // again. Or it is `std::optional<V> function(const V &)`. If that returns none, the status is `declined`. Unless ok, the old value stays. absent: the
     // key is not there. too_heavy: the new value is. held, busy, changed: other threads were first each time. no_memory, closed.
-    template <class Function> [[nodiscard]] Status update(Key key, Function function) { return renew(key, std::nullopt, function); }
+    template <class Function> [[nodiscard]] Status update(Key key, Function function) { return this->renew(key, std::nullopt, function); }
     // The same, and the entry lives for so long from now on. By `update` its time to live goes on.
     template <class Function> [[nodiscard]] Status update_for(Key key, std::chrono::nanoseconds life, Function function) {
-        return renew(key, life, function);
+        return this->renew(key, life, function);
     }
     // Removes a key. ok or absent: it is gone. Otherwise nothing was done, and the key may still be there. held, busy, changed: other threads were first
     // each time: call again. spent: open a new map. closed.
@@ -194,31 +210,64 @@ class object_map : public inside::AnyMap<inside::Opened<K, Hash, inside::Objects
     }
     // The same, and if it is ok, calls `see(const V &)` with the value that it removed. Other calls that found it may still use it.
     template <class See> [[nodiscard]] Status erase(Key key, See see) {
-        return take(key, [&](const auto &object) { see(object.value); });
+        return this->take(key, [&](const auto &object) { see(object.value); });
     }
     // The same, and it gives back the value that it removed, pinned: other calls that found it may still use it.
     [[nodiscard]] Extracted<V> extract(Key key) {
         Extracted<V> extracted{Status::closed, nullptr};
-        extracted.status = take(key, [&](auto &object) { extracted.value = inside::pin_of(object); });
+        extracted.status = this->take(key, [&](auto &object) { extracted.value = inside::pin_of(object); });
         return extracted;
     }
-    // The key's value, or what the function computes, `V function()`, which is then put. As by cefrodil::map. V must be copyable.
-    template <class Function> [[nodiscard]] Computed<V> find_or_compute(Key key, Function function) {
+    // The key's value, or what the function computes, which is then put, as by cefrodil::map. V must be copyable.
+    template <class Function> [[nodiscard]] Computed<inside::Made<V, Function>> find_or_compute(Key key, Function function) {
         if (!inner_) {
             return {Status::closed, function(), true};
         }
-        // The first lookup is the one that counts.
-        for (std::optional<V> found = find(key);; found = seek(key)) {
-            if (found) {
-                return {Status::ok, std::move(*found), false};
-            }
-            // No listener and no destructor runs while others wait for the flight, unless something throws.
-            Change change(inner_->entries);
-            Own object;
-            if (std::optional<Computed<V>> computed = compute(key, function, object, change)) {
-                return std::move(*computed);
-            }
+        if (std::optional<V> found = find(key)) {
+            return {Status::ok, std::move(*found), false};
         }
+        using Answer = Computed<std::optional<V>>;
+        const auto again = [&] { return this->seek(key, [](auto &object) { return std::optional<V>(object.value); }); };
+        return inside::made_by<Function>(this->template computed<std::optional<V>>(key, again, [&](Own &object, uint64_t begun, const auto &land) {
+            if constexpr (inside::may_decline<V, Function>) {
+                std::optional<V> value = function();
+                object = value ? this->made(key, begun, [&]() -> const V & { return *value; }) : Own();
+                const Status status = value ? land() : Status::declined;
+                return Answer{status, std::move(value), true};
+            } else {
+                V value = function();
+                object = this->made(key, begun, [&]() -> const V & { return value; });
+                const Status status = land();
+                return Answer{status, std::move(value), true};
+            }
+        }));
+    }
+    // The same, pinned, so V needs no copies. What was computed is pinned also if it was not put. Null: the map is closed, the function declined, or there
+    // was no memory: then it was not called, or its value is lost.
+    template <class Function> [[nodiscard]] Computed<pinned<V>> pin_or_compute(Key key, Function function) {
+        if (!inner_) {
+            return {Status::closed, nullptr, false};
+        }
+        if (pinned<V> found = pin(key)) {
+            return {Status::ok, std::move(found), false};
+        }
+        using Answer = Computed<pinned<V>>;
+        const auto again = [&] { return this->seek(key, [](auto &object) { return inside::pin_of(object); }); };
+        return this->template computed<pinned<V>>(key, again, [&](Own &object, uint64_t begun, const auto &land) {
+            if constexpr (inside::may_decline<V, Function>) {
+                std::optional<V> value = function();
+                if (!value) {
+                    return Answer{Status::declined, nullptr, true};
+                }
+                object = this->made(key, begun, [&] { return std::move(*value); });
+            } else {
+                object = this->made(key, begun, [&] { return function(); });
+            }
+            pinned<V> pin = object ? inside::pin_of(*object) : nullptr;
+            const bool is_computed = bool(pin);
+            const Status status = land();
+            return Answer{status, std::move(pin), is_computed};
+        });
     }
 
     // Calls `see(const K &, const V &)` with each entry, as that of cefrodil::map does. What leaves the map meanwhile waits for it, as for `look`.
@@ -234,6 +283,9 @@ class object_map : public inside::AnyMap<inside::Opened<K, Hash, inside::Objects
     // Frees what has left the map and no call can use any more. Other calls do so now and then. Returns how many objects.
     size_t free_unused() noexcept { return inner_ ? inner_->entries.free_now() : 0; }
 
+    // Changes the bound on the sum of the weights, and evicts what is too much. held: not all of it, as other threads were first; the next put goes on.
+    // Without a weigher there is no bound. too_deep, closed.
+    [[nodiscard]] Status set_most_weight(uint64_t most) noexcept { return inner_ ? inner_->entries.set_most_weight(most) : Status::closed; }
     // The sum of the weights, exact while no call writes. What other calls are about to put counts, and what has left does not, though it may wait to
     // be freed. Without a weigher 0.
     uint64_t weight() const noexcept { return inner_ ? inner_->entries.weight() : 0; }
@@ -242,172 +294,6 @@ class object_map : public inside::AnyMap<inside::Opened<K, Hash, inside::Objects
     uint64_t waiting_weight() const noexcept { return inner_ ? inner_->entries.waiting_weight() : 0; }
 
   private:
-    uint64_t generation() const noexcept { return inner_->entries.generations.now(); }
-    // An object of another key with the same number is none of this key's.
-    static Seen own(Seen seen, Key key) {
-        const bool is_other = seen.status == Status::ok && !Equal()(seen.object->key, key);
-        return is_other ? Seen{Status::absent, nullptr, seen.since} : seen;
-    }
-    // The key's object. Compiled into its callers: a call costs a tenth of a lookup.
-    [[gnu::always_inline]] static Seen look_up(const Pinned &pinned, const inside::Identity &known, Key key, const uint32_t &most, uint64_t begun) {
-        return own(pinned.look(known.index, most, begun), key);
-    }
-    // `erase` for a function of an object.
-    template <class See> Status take(Key key, See see) {
-        if (!inner_) {
-            return Status::closed;
-        }
-        const inside::Identity known = inner_->identities.of(key);
-        inner_->entries.flights.outdate(known);
-        for (uint32_t repeat = 0;; repeat++) {
-            const Seen seen = look_to_take(known, key);
-            if (seen.object == nullptr) {
-                return seen.status;
-            }
-            Change change(inner_->entries);
-            const Status status = inner_->entries.take(known.index, seen.since, change);
-            if (status == Status::ok && seen.status == Status::ok) {
-                see(*change.old);
-            }
-            if (status != Status::changed || repeat >= inner_->entries.tries()) {
-                return status == Status::ok ? seen.status : status;
-            }
-        }
-    }
-    // The key's object, for its removal, which does not begin its time to idle anew. If it has ended it is absent, but is removed all the same: an update that found it before
-    // must not renew it.
-    Seen look_to_take(const inside::Identity &known, Key key) {
-        const uint64_t now = generation();
-        Pinned pinned(inner_->entries);
-        const Seen seen = pinned.look_at_all(known.index, inner_->entries.tries());
-        // This acquires what the object was made with, before its key is compared.
-        const bool has_ended = seen.object != nullptr && inner_->entries.has_ended(*seen.object, now);
-        Seen taken = own(seen, key);
-        if (taken.object != nullptr && has_ended) {
-            taken.status = Status::absent;
-        }
-        return taken;
-    }
-    // Puts a key that is absent, or says `present`. What is there gives way if it has ended, or is another key's.
-    Status put_new(const inside::Identity &known, Key key, Own &object, Change &change, bool is_computed = false) {
-        Objects &objects = inner_->entries;
-        for (uint32_t repeat = 0;; repeat++) {
-            const Seen seen = look_up(Pinned(objects), known, key, objects.tries(), object->generation());
-            if (seen.status != Status::absent) {
-                return seen.status == Status::ok ? Status::present : seen.status;
-            }
-            const Status status = objects.put_new(known.index, seen.since, object, is_computed, change);
-            if (!inside::is_lost(status)) {
-                if (change.renewed) {
-                    objects.gave_way(change);
-                }
-                return status;
-            }
-            if (repeat >= objects.tries()) {
-                return Status::changed;
-            }
-        }
-    }
-    // Makes an object of what the function makes of the key's value. `seen`: what it looked up.
-    template <class Function>
-    [[gnu::always_inline]] Own made_of(const inside::Identity &known, Key key, const Life &life, Function &function, uint64_t begun, Seen &seen) {
-        Objects &objects = inner_->entries;
-        Pinned pinned(objects);
-        seen = look_up(pinned, known, key, objects.tries(), begun);
-        if (seen.status != Status::ok) {
-            return Own();
-        }
-        const auto made = [&] { return function(static_cast<const V &>(seen.object->value)); };
-        // It has the generation of what it replaces.
-        const auto make = [&](const auto &give) {
-            const uint64_t deadline = life ? objects.deadline(life) : Objects::deadline_of(*seen.object);
-            return objects.make(key, give, seen.object->generation(), deadline);
-        };
-        if constexpr (std::is_same_v<decltype(made()), std::optional<V>>) {
-            std::optional<V> next = made();
-            seen.status = next ? Status::ok : Status::declined;
-            return next ? make([&] { return std::move(*next); }) : Own();
-        } else {
-            return make(made);
-        }
-    }
-    // A copy of the key's value, if it is there. It isn't counted.
-    std::optional<V> seek(Key key) const {
-        const Pinned pinned(inner_->entries);
-        const Seen seen = look_up(pinned, inner_->identities.of(key), key, inner_->entries.looks(), generation());
-        return seen.status == Status::ok ? std::optional<V>(seen.object->value) : std::nullopt;
-    }
-    // Computes the key's value, if no other call does so now, and puts it. None: another call did.
-    template <class Function> std::optional<Computed<V>> compute(Key key, Function &function, Own &object, Change &change) {
-        const inside::Identity known = inner_->identities.of(key);
-        inside::Flight flight(inner_->entries.flights.of(known), known);
-        if (!flight.has_begun()) {
-            return std::nullopt;
-        }
-        const uint64_t begun = generation();
-        // Another flight may have ended between the lookup and the begin of this one.
-        if (std::optional<V> found = seek(key)) {
-            flight.end();
-            return Computed<V>{Status::ok, std::move(*found), false};
-        }
-        V value = function();
-        object = inner_->entries.make(key, [&]() -> const V & { return value; }, begun, inner_->entries.deadline({}));
-        const Status status = flight.land([&] { return object ? put_new(known, key, object, change, true) : Status::no_memory; });
-        flight.end();
-        return Computed<V>{status, std::move(value), true};
-    }
-    // Replaces the value, until no other thread is first.
-    template <class Function> Status renew(Key key, const Life &life, Function &function) {
-        if (!inner_) {
-            return Status::closed;
-        }
-        const inside::Identity known = inner_->identities.of(key);
-        inner_->entries.flights.outdate(known);
-        const uint64_t begun = generation();
-        for (uint32_t repeat = 0;; repeat++) {
-            Seen seen{};
-            Change change(inner_->entries);
-            Own object = made_of(known, key, life, function, begun, seen);
-            if (seen.status != Status::ok) {
-                return seen.status;
-            }
-            // A flight may have begun while the function ran.
-            inner_->entries.flights.outdate(known);
-            const Status status = object ? inner_->entries.replace(known.index, seen.since, object, change) : Status::no_memory;
-            if (!inside::is_lost(status)) {
-                return status;
-            }
-            if (repeat >= inner_->entries.tries()) {
-                return Status::changed;
-            }
-        }
-    }
-    // Makes an object, and puts it.
-    template <class Value, class Put> [[gnu::always_inline]] Stored put(Key key, std::remove_reference_t<Value> &value, const Life &life, Put make) {
-        if (!inner_) {
-            return {Status::closed, false, false};
-        }
-        const inside::Identity known = inner_->identities.of(key);
-        const auto give = [&]() -> Value && { return std::forward<Value>(value); };
-        Objects &objects = inner_->entries;
-        Own object = objects.make(key, give, generation(), objects.deadline(life));
-        if (!object) {
-            return {Status::no_memory, false, false};
-        }
-        inner_->entries.flights.outdate(known);
-        Change change(objects);
-        const Status status = make(known, object, change);
-        if constexpr (std::is_same_v<Value, V> && std::is_move_assignable_v<V>) {
-            if (object) {
-                value = std::move(object->value);
-            }
-        }
-        if (change.renewed && !Equal()(change.old->key, key)) {
-            objects.gave_way(change);
-        }
-        return {status, change.renewed, change.evicted};
-    }
-
     static_assert(std::is_object_v<K> && std::is_object_v<V> && !std::is_const_v<V>, "keys and values are objects");
     static_assert(std::is_nothrow_destructible_v<K> && std::is_nothrow_destructible_v<V>, "destructors of keys and values throw nothing");
     static_assert(inside::hashes<Hash, inside::Taken<K, Hash>>, "a hash has the call that cefrodil::map asks for");

@@ -287,10 +287,16 @@ static void printed() {
                                  "cefrodil_waiting_objects{cache=\"names\"} 9\ncefrodil_waiting_objects{cache=\"a\\\"b\\\\c\\nd\"} 0\n"
                                  "# HELP cefrodil_waiting_weight What the objects weigh that wait to be freed.\n"
                                  "# TYPE cefrodil_waiting_weight gauge\n"
-                                 "cefrodil_waiting_weight{cache=\"names\"} 10\ncefrodil_waiting_weight{cache=\"a\\\"b\\\\c\\nd\"} 0\n";
+                                 "cefrodil_waiting_weight{cache=\"names\"} 10\ncefrodil_waiting_weight{cache=\"a\\\"b\\\\c\\nd\"} 0\n"
+                                 "# HELP cefrodil_entries Entries that are there.\n# TYPE cefrodil_entries gauge\n"
+                                 "cefrodil_entries{cache=\"names\"} 11\n"
+                                 "# HELP cefrodil_capacity Entries that there is room for.\n# TYPE cefrodil_capacity gauge\n"
+                                 "cefrodil_capacity{cache=\"names\"} 12\n"
+                                 "# HELP cefrodil_weight What the entries weigh.\n# TYPE cefrodil_weight gauge\n"
+                                 "cefrodil_weight{cache=\"names\"} 13\n";
     Counts most_hits;
     most_hits.hits = UINT64_MAX;
-    MUST(prometheus({{"names", {1, 2, 3, 4, 5, 6, 7, 8, 9, 10}}, {"a\"b\\c\nd", most_hits}}) == expected);
+    MUST(prometheus({{"names", {1, 2, 3, 4, 5, 6, 7, 8, 9, 10, 11, 12, 13}}, {"a\"b\\c\nd", most_hits}}) == expected);
 }
 
 int main() {

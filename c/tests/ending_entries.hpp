@@ -84,6 +84,7 @@ template <class Map> static void lives_of_entries() {
     MUST(numbers.insert_for(1, 11, forever).status == Status::present);
     MUST(numbers.insert_or_assign_for(3, 30, nanoseconds(0)).status == Status::ok && !numbers.contains(3));
     MUST(numbers.insert_for(4, 40, nanoseconds(-7)).status == Status::ok && !numbers.contains(4));
+    MUST(numbers.insert_or_assign_for(4, 41, nanoseconds::min()).status == Status::ok && !numbers.contains(4));
     now = 5499;
     MUST(numbers.find(1) == 10u && numbers.find(2) == 20u && status_of(numbers.update_for(1, nanoseconds(10), next)) == Status::ok);
     now = 5508;
@@ -95,7 +96,8 @@ template <class Map> static void lives_of_entries() {
     MUST(status_of(plain.update(3, next)) == Status::ok && plain.find(3) == 31u && plain.insert(2, 21).status == Status::ok && plain.find(2) == 21u);
     MUST(plain.insert(4, 40).status == Status::ok && plain.find(4) == 40u && status_of(plain.update_for(4, nanoseconds(0), next)) == Status::ok);
     MUST(!plain.find(4) && plain.size() == 4 && plain.erase_expired() == Status::ok && plain.size() == 3);
-    Map moved = std::move(plain);
+    Map moved = std::move(plain), &same = moved;
+    moved = std::move(same);
     MUST(moved.find(3) == 31u && moved.close() == Status::ok);
 }
 

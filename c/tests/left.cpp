@@ -125,7 +125,8 @@ static void listeners_that_put() {
         const Status status = map.insert(key, uint64_t(value)).status;
         refused += status == Status::too_deep;
         MUST(status == Status::ok || (status == Status::too_deep && depth == 16));
-        MUST(depth < 16 || (map.erase(key) == Status::absent && map.insert_or_assign(key, uint64_t(0)).status == Status::too_deep));
+        MUST(depth < 16 || (map.erase(key) == Status::absent && map.insert_or_assign(key, uint64_t(0)).status == Status::too_deep &&
+                            map.set_most_weight(0) == Status::too_deep));
         depth--;
     };
     MUST(map.open({40, 1}, put_back) == Status::ok);

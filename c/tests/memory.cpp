@@ -309,6 +309,8 @@ static void by_object_maps() {
     MUST(numbers.insert(2, std::move(two)).status == Status::no_memory && *two == 2 && numbers.size() == 1);
     MUST(numbers.insert_or_assign(1, std::move(two)).status == Status::no_memory && *two == 2);
     MUST(numbers.update(1, [&](const std::unique_ptr<int> &) { return is_called = true, nullptr; }) == Status::no_memory && !is_called);
+    const auto pinned = numbers.pin_or_compute(2, [&] { return is_called = true, std::make_unique<int>(2); });
+    MUST(pinned.status == Status::no_memory && !pinned.value && !pinned.computed && !is_called && numbers.size() == 1);
     MUST(numbers.look(1, [&](const std::unique_ptr<int> &one) { is_called = *one == 1; }) == Status::ok && is_called);
     left = -1;
     MUST(at_last(1, [&] { return numbers.clear(); }, [&] { return numbers.contains(1) && numbers.size() == 1; }) && numbers.size() == 0);

@@ -130,12 +130,54 @@ static void threads(long less, const cefrodil::MapOptions &options) {
     MUST(living == 0);
 }
 
+static void what_was_computed_is_pinned() {
+    using Maybe = std::optional<Tracked>;
+    object_map<uint64_t, Tracked> map;
+    const auto closed = map.pin_or_compute(1, [] { return Tracked(1); });
+    MUST(closed.status == Status::closed && !closed.value && !closed.computed);
+    decltype(map)::Rules rules;
+    rules.weigher = [](const uint64_t &, const Tracked &value) { return value.number; };
+    rules.most_weight = 100;
+    MUST(map.open({1000}, rules) == Status::ok);
+    const auto declined = map.pin_or_compute(1, [] { return Maybe(); });
+    MUST(declined.status == Status::declined && !declined.value && declined.computed && map.size() == 0);
+    const auto first = map.pin_or_compute(1, [] { return Maybe(Tracked(10)); });
+    MUST(first.status == Status::ok && first.computed && first.value->number == 10 && map.size() == 1);
+    const auto again = map.pin_or_compute(1, [] { return Tracked(11); });
+    MUST(again.status == Status::ok && !again.computed && again.value.get() == first.value.get());
+    // What is not put is the caller's alone.
+    const auto heavy = map.pin_or_compute(2, [] { return Tracked(101); });
+    MUST(heavy.status == Status::too_heavy && heavy.computed && heavy.value->number == 101 && !map.pin(2));
+    const auto stale = map.pin_or_compute(3, [&] { return static_cast<void>(map.erase(3)), Tracked(30); });
+    MUST(stale.status == Status::stale && stale.value->number == 30 && !map.pin(3) && map.close() == Status::ok && first.value->number == 10 && living == 3);
+}
+
+static void threads_compute_once() {
+    object_map<uint64_t, Tracked> map;
+    MUST(map.open({1000}) == Status::ok);
+    std::atomic<uint64_t> computed{0}, wrong{0};
+    std::vector<std::thread> running;
+    for (uint64_t n = 0; n < 4; n++) {
+        running.emplace_back([&] {
+            for (uint64_t key = 0; key < 200; key++) {
+                const auto found = map.pin_or_compute(key, [&] { return computed++, Tracked(key); });
+                wrong += found.status != Status::ok || found.value->number != key;
+            }
+        });
+    }
+    std::for_each(running.begin(), running.end(), [](std::thread &thread) { thread.join(); });
+    MUST(computed == 200 && wrong == 0);
+}
+
 int main(int argc, char **argv) {
     const long less = argc > 1 ? std::atol(argv[1]) : 1;
     a_pin_keeps_one_object();
     a_pin_outlives_the_map();
     no_pin_of_what_ended();
     extracts();
+    what_was_computed_is_pinned();
+    MUST(living == 0);
+    threads_compute_once();
     threads(less, {1000});
     threads(less, {10, 1, 3});
     return outcome("pins");

@@ -107,6 +107,14 @@ static void calls_within() {
 #endif
 }
 
+// If another write is first at each try, erase_if says so.
+template <class Map> static void others_are_first(Map &&map) {
+    MUST(map.open({100, 1, 3, 5}) == Status::ok && map.insert(1, uint64_t(1)).status == Status::ok);
+    int asked = 0;
+    const Erased erased = map.erase_if([&](const uint64_t &key, const uint64_t &) { return asked++, map.insert_or_assign(key, uint64_t(2)).renewed; });
+    MUST(erased.status == Status::held && erased.count == 0 && asked == 6 && map.contains(1));
+}
+
 // Beside threads that put and remove, each key that stays is shown once, with one of its values, and no accepted one is left at the end.
 template <class Map> static void beside_writers(Map &&map, long less) {
     MUST(map.open({2000, 4}) == Status::ok);
@@ -154,6 +162,8 @@ int main(int argc, char **argv) {
     });
     keys_of_a_map();
     calls_within();
+    others_are_first(cefrodil::map<uint64_t, uint64_t>());
+    others_are_first(cefrodil::object_map<uint64_t, uint64_t>());
     beside_writers(cefrodil::map<uint64_t, uint64_t>(), less);
     beside_writers(cefrodil::object_map<uint64_t, uint64_t>(), less);
     return outcome("sweeps");

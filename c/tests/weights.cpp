@@ -286,6 +286,26 @@ static void threads(const cefrodil::MapOptions &options, uint64_t calls) {
     }
 }
 
+static void the_bound_changes() {
+    Numbers numbers;
+    MUST(numbers.set_most_weight(1) == Status::closed && numbers.open({1000, 1}, bounded(100)) == Status::ok);
+    for (uint64_t key = 0; key < 10; key++) {
+        MUST(numbers.insert(key, 10).status == Status::ok);
+    }
+    // What is used stays.
+    MUST(numbers.contains(3) && numbers.set_most_weight(35) == Status::ok && numbers.weight() == 30 && numbers.size() == 3 && numbers.contains(3));
+    MUST(numbers.insert(20, 36).status == Status::too_heavy && numbers.insert(20, 10).status == Status::ok && numbers.weight() == 30);
+    MUST(numbers.set_most_weight(UINT64_MAX) == Status::ok && numbers.insert(21, uint64_t(1) << 47).status == Status::ok && numbers.size() == 4);
+    MUST(numbers.insert(22, UINT64_MAX).status == Status::too_heavy);
+    MUST(numbers.set_most_weight(0) == Status::ok && numbers.size() == 0 && numbers.weight() == 0 && numbers.insert(1, 1).status == Status::too_heavy);
+    const cefrodil::Counts counts = numbers.counts();
+    MUST(numbers.set_most_weight(9) == Status::ok && numbers.insert(5, 9).status == Status::ok && counts.entries == 0 && counts.weight == 0);
+    MUST(numbers.counts().entries == 1 && numbers.counts().weight == 9 && numbers.counts().capacity == numbers.capacity() && numbers.counts().evictions != 0);
+    // No weigher, no bound.
+    Numbers plain;
+    MUST(plain.open({1000}) == Status::ok && plain.insert(1, 1).status == Status::ok && plain.set_most_weight(0) == Status::ok && plain.size() == 1);
+}
+
 int main(int argc, char **argv) {
     const uint64_t less = argc > 1 ? std::strtoull(argv[1], nullptr, 10) : 1;
     answers();
@@ -296,6 +316,7 @@ int main(int argc, char **argv) {
     shares();
     entries_alone();
     waiting();
+    the_bound_changes();
     agrees_with_a_model<cefrodil::SipHash<uint64_t>>({1000}, 1000, 30000 / less);
     agrees_with_a_model<cefrodil::SipHash<uint64_t>>({20, 2}, 1000, 30000 / less);
     agrees_with_a_model<Meeting>({1000}, 1000, 30000 / less);

@@ -37,6 +37,8 @@ struct Counts {
     uint64_t stalled = 0;   // for how many seconds calls have given up so, if one did in the last ten: then a thread stopped within a write
     // Objects that have left an object_map and wait to be freed, and what they weigh by its weigher. While a function of `look` runs, none is freed.
     uint64_t waiting = 0, waiting_weight = 0;
+    // Of a map, by its `counts`: its size, its capacity and, of an object_map, its weight.
+    uint64_t entries = 0, capacity = 0, weight = 0;
 
     // Which part of the lookups that were not busy found their key: 0 to 1. Without any, 0.
     double hit_rate() const noexcept { return hits == 0 ? 0 : static_cast<double>(hits) / static_cast<double>(hits + misses); }
@@ -118,7 +120,7 @@ class Lines {
         const auto number = static_cast<uint64_t>(std::max<int64_t>(0, static_cast<int64_t>(all[waiting])));
         const uint64_t weight = waiting_weight_.load(std::memory_order_relaxed);
         return {all[hits],     all[misses],      all[busy],        all[held], all[evictions],
-                all[refusals], stalls_.number(), stalls_.length(), number,    weight};
+                all[refusals], stalls_.number(), stalls_.length(), number,    weight, 0, 0, 0};
     }
     Stalls &stalls() noexcept { return stalls_; }
     // What the objects weigh that have left a map and wait to be freed. Relaxed: a number says nothing of other memory.
@@ -234,12 +236,19 @@ inline std::string prometheus(const std::vector<std::pair<std::string, Counts>> 
                         {"given_up_total", "counter", "Calls of a map that were held or busy at each try.", &Counts::given_up},
                         {"stalled_seconds", "gauge", "For how long calls of a map have given up.", &Counts::stalled},
                         {"waiting_objects", "gauge", "Objects that have left a map and wait to be freed.", &Counts::waiting},
-                        {"waiting_weight", "gauge", "What the objects weigh that wait to be freed.", &Counts::waiting_weight}};
+                        {"waiting_weight", "gauge", "What the objects weigh that wait to be freed.", &Counts::waiting_weight},
+                        {"entries", "gauge", "Entries that are there.", &Counts::entries},
+                        {"capacity", "gauge", "Entries that there is room for.", &Counts::capacity},
+                        {"weight", "gauge", "What the entries weigh.", &Counts::weight}};
     std::string text;
     for (const Row &row : rows) {
         const std::string name = std::string("cefrodil_") + row.name;
         text += "# HELP " + name + ' ' + row.help + "\n# TYPE " + name + ' ' + row.type + '\n';
+        const bool is_of_map = row.number == &Counts::entries || row.number == &Counts::capacity || row.number == &Counts::weight;
         for (const auto &[cache, counts] : caches) {
+            if (is_of_map && counts.capacity == 0) {
+                continue;
+            }
             text += name + "{cache=\"" + inside::label(cache) + "\"} " + std::to_string(counts.*row.number) + '\n';
         }
     }

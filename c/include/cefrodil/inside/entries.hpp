@@ -42,11 +42,16 @@ inline bool is_lost(Status status) noexcept {
     return status == Status::changed || status == Status::absent || status == Status::present;
 }
 
+// So many keys are looked up by one call of the index.
+inline constexpr size_t few_keys = 32;
+
 template <size_t Words> class Entries : public Turns<Words> {
   public:
     Generation generations{};
     AllFlights flights{};
 
+    // Only objects are weighed.
+    static uint64_t weight() noexcept { return 0; }
     // Ends all entries, and outdates what is being computed.
     Status invalidate_all() noexcept {
         generations.begin_next();
@@ -55,6 +60,16 @@ template <size_t Words> class Entries : public Turns<Words> {
     }
 
   protected:
+    // Looks a few keys up.
+    void get_few(const Identity *keys, size_t count, std::array<uint64_t, Words> *found, cefrodil_answer *answers) noexcept {
+        std::array<uint64_t, few_keys> indices;
+        std::transform(keys, keys + count, indices.begin(), [](const Identity &key) { return key.index; });
+        this->call([&](Slot<Words> &slot) {
+            // It is ok: an open handle has an answer for each key.
+            [[maybe_unused]] const cefrodil_status status =
+                cefrodil_get_many_or_none(slot.handle.raw(), indices.data(), count, found->data(), Words * count, answers, count);
+        });
+    }
     // Calls with the number and the words of each entry of a list of all, until a call fails. Each shard is listed at a moment of its own. Of some
     // entries others may be first.
     template <class Call> Status each_listed(Call call) {

@@ -1,5 +1,5 @@
 // Computations under way, for both maps: of several callers that miss a key, one computes its value, and the others wait for it. If the
-// key is changed meanwhile, the value may be older than the change, and is not put.
+// key is changed meanwhile, the value may be older than the change, and is not put. Nor is what a computation computes for its own key.
 #ifndef CEFRODIL_INSIDE_FLIGHTS_HPP
 #define CEFRODIL_INSIDE_FLIGHTS_HPP
 
@@ -64,11 +64,12 @@ template <class Parts> class alignas(64) FlightsOf {
 // The computation of one key's value by one caller. It lies on that caller's stack, so it also ends by an exception.
 template <class Parts> class FlightOf {
   public:
-    // Begins, or waits for the end of another flight for this key.
+    // Begins, or waits for the end of another thread's flight for this key.
     FlightOf(FlightsOf<Parts> &flights, const Identity &key) : flights_(flights), key_(key) {
         std::unique_lock<typename Parts::Mutex> guard(flights_.lock_);
-        if (flights_.flight_of(key_) != nullptr) {
-            flights_.ended_.wait(guard, [&] { return flights_.flight_of(key_) == nullptr; });
+        if (const FlightOf *const other = flights_.flight_of(key_)) {
+            is_within_ = other->thread_ == thread_;
+            flights_.ended_.wait(guard, [&] { return is_within_ || flights_.flight_of(key_) == nullptr; });
             return;
         }
         next_ = flights_.first_;
@@ -83,6 +84,8 @@ template <class Parts> class FlightOf {
     ~FlightOf() { end(); }
 
     bool has_begun() const noexcept { return has_begun_; }
+    // Whether this thread's flight for this key calls this one. Then it computes for itself alone.
+    bool is_within() const noexcept { return is_within_; }
 
     // From now on no call waits for it.
     void end() {
@@ -104,15 +107,17 @@ template <class Parts> class FlightOf {
     // Puts what was computed by this call, unless the key was changed since the flight began. A change that begins meanwhile waits.
     template <class Put> [[nodiscard]] Status land(Put put) {
         const std::lock_guard<typename Parts::Mutex> guard(flights_.lock_);
-        return is_outdated_ ? Status::stale : put();
+        return is_outdated_ || is_within_ ? Status::stale : put();
     }
 
   private:
     friend FlightsOf<Parts>;
     FlightsOf<Parts> &flights_;
     const Identity key_;
+    const decltype(Parts::this_thread()) thread_ = Parts::this_thread();
     FlightOf *next_ = nullptr;
     bool has_begun_ = false;
+    bool is_within_ = false;
     bool is_outdated_ = false;
 };
 

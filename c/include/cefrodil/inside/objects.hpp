@@ -3,7 +3,7 @@
 #define CEFRODIL_INSIDE_OBJECTS_HPP
 
 #include "entries.hpp"
-#include "object.hpp"
+#include "object_maker.hpp"
 #include "weights.hpp"
 #include <algorithm>
 #include <array>
@@ -17,16 +17,18 @@
 namespace cefrodil::inside {
 
 // The entries of a map of objects, and what has left them.
-template <class K, class V> class Objects : public Entries<1> {
-  public:
-    using Each = Object<K, V>;
-    using Heavy = WeighedObject<K, V>;
-    using Dated = MortalObject<K, V>;
-    using Own = std::unique_ptr<Each, Destroy>;
-    using Rules = ObjectRules<K, V>;
+template <class K, class V> class Objects : public Entries<1>, public ObjectMaker<K, V> {
+    using Maker = ObjectMaker<K, V>;
+    using Maker::rules_;
 
-    Objects(size_t slots, Rules &&its_rules)
-        : epochs_(allowed(slots)), rules_(std::move(its_rules)), clock_(rules_.lives), weights_(std::min(rules_.most_weight, Rules().most_weight)) {}
+  public:
+    using typename Maker::Each;
+    using typename Maker::Heavy;
+    using typename Maker::Own;
+    using typename Maker::Rules;
+    using Maker::has_ended;
+
+    Objects(size_t slots, Rules &&its_rules) : Maker(std::move(its_rules)), epochs_(allowed(slots)), weights_(allowed_weight(rules_.most_weight)) {}
     Objects(const Objects &) = delete;
     Objects &operator=(const Objects &) = delete;
     // No call runs any more. Without memory for a list of the entries, their objects leak.
@@ -62,14 +64,27 @@ template <class K, class V> class Objects : public Entries<1> {
             if (seen.status != Status::ok) {
                 return {seen.status, nullptr, seen.since};
             }
-            Each *const object = Each::found_at(word[0]);
-            return objects_.is_used(*object, generation) ? Seen{Status::ok, object, seen.since} : Seen{Status::absent, nullptr, seen.since};
+            return used(word[0], seen.since, generation);
         }
         // The same, also what has ended. It is no use of the object.
         Seen look_at_all(uint64_t index, uint32_t most) const noexcept {
             std::array<uint64_t, 1> word;
             const inside::Seen seen = objects_.get(slot_, index, most, word);
             return {seen.status, seen.status == Status::ok ? Each::found_at(word[0]) : nullptr, seen.since};
+        }
+        // As `look`, of a few keys, by one call of the index.
+        void look_few(const Identity *keys, size_t count, uint64_t generation, Seen *seen) const noexcept {
+            std::array<std::array<uint64_t, 1>, few_keys> words;
+            std::array<cefrodil_answer, few_keys> answers;
+            objects_.get_few(keys, count, words.data(), answers.data());
+            for (size_t n = 0; n < count; n++) {
+                if (answers[n].status == CEFRODIL_OK) {
+                    seen[n] = used(words[n][0], answers[n].since, generation);
+                } else {
+                    const bool is_absent = answers[n].status == CEFRODIL_ABSENT;
+                    seen[n] = is_absent ? Seen{Status::absent, nullptr, 0} : look(keys[n].index, objects_.looks(), generation);
+                }
+            }
         }
         // Counts a lookup of the map.
         [[gnu::always_inline]] void count(Status status) const noexcept { objects_.count(slot_, static_cast<Counted>(status)); }
@@ -84,6 +99,11 @@ template <class K, class V> class Objects : public Entries<1> {
         }
 
       private:
+        [[gnu::always_inline]] Seen used(uint64_t word, uint64_t since, uint64_t generation) const noexcept {
+            Each *const object = Each::found_at(word);
+            return objects_.is_used(*object, generation) ? Seen{Status::ok, object, since} : Seen{Status::absent, nullptr, since};
+        }
+
         Objects &objects_;
         Slot<1> *const slot_;
         Epochs::Pinned own_;
@@ -103,19 +123,6 @@ template <class K, class V> class Objects : public Entries<1> {
         bool renewed = false, evicted = false; // as in `Stored`
         Retired *first = nullptr, **last = &first; // all that has left, each with the next one
     };
-    // Makes an object of this generation. None without memory: then the function is not called.
-    template <class Key, class Give>
-    [[gnu::always_inline]] Own make(const Key &key, const Give &give, uint64_t generation, uint64_t deadline) const {
-        if (clock_.has_lives() || deadline != never) {
-            return make_mortal(key, give, generation, deadline);
-        }
-        return rules_.weigher ? made<Heavy>(Each::weighed, key, give, generation) : made<Each>(Each::plain, key, give, generation);
-    }
-    // For a call of this generation.
-    bool has_ended(Each &object, uint64_t generation) const noexcept { return object.generation() < generation || has_expired(object); }
-    // Of what is put now, with a time to live of its own or that of the map.
-    uint64_t deadline(const std::optional<std::chrono::nanoseconds> &life) const noexcept { return clock_.deadline(life); }
-    static uint64_t deadline_of(Each &object) noexcept { return is_mortal(object) ? Dated::of(object).deadline : never; }
     // Puts whatever is there. The object gets the generation with the key's lock, so what gives way is of no newer one.
     [[gnu::always_inline]] Status put(uint64_t index, Own &object, Change &change) noexcept {
         const auto is_new = [&] { return !has(index); };
@@ -198,8 +205,19 @@ template <class K, class V> class Objects : public Entries<1> {
     uint64_t waiting_weight() const noexcept { return waiting_weight_->load(std::memory_order_relaxed); }
     // The weights of all objects that are there, with those that calls are about to put. Without a weigher 0.
     uint64_t weight() const noexcept { return weights_.sum(); }
+    // Changes their bound, and evicts what is too much.
+    Status set_most_weight(uint64_t most) noexcept {
+        if (is_too_deep()) {
+            return Status::too_deep;
+        }
+        weights_.set_bound(allowed_weight(most));
+        Change change(*this);
+        shrink(change);
+        return weights_.is_over() ? Status::held : Status::ok;
+    }
 
   private:
+    static uint64_t allowed_weight(uint64_t most) noexcept { return std::min(most, Rules().most_weight); }
     // Counts a new key, unless another one gave way to it.
     static Swapped<1> counted(Slot<1> &slot, const Swapped<1> &tried) noexcept {
         slot.add(tried.status == Status::ok && !tried.old ? 1 : 0);
@@ -234,43 +252,6 @@ template <class K, class V> class Objects : public Entries<1> {
         object->next = nullptr;
         *std::exchange(change.last, &object->next) = object;
         return object;
-    }
-    static bool is_mortal(const Each &object) noexcept { return object.kind() == Each::mortal; }
-    bool has_expired(Each &object) const noexcept {
-        return is_mortal(object) &&
-               (clock_.has_passed(Dated::of(object).deadline) || clock_.has_passed(Dated::of(object).idle_deadline.load(std::memory_order_relaxed)));
-    }
-    // A call of this generation has found it. Whether it has not ended: then its time to idle begins anew.
-    [[gnu::always_inline]] bool is_used(Each &object, uint64_t generation) noexcept {
-        const uint64_t head = object.head.load(std::memory_order_acquire);
-        return Each::generation_of(head) >= generation && (Each::kind_of(head) != Each::mortal || is_used_in_time(Dated::of(object)));
-    }
-    [[gnu::noinline]] bool is_used_in_time(Dated &object) noexcept {
-        const bool is_live = !has_expired(object);
-        if (is_live && clock_.is_due(object.idle_deadline.load(std::memory_order_relaxed))) {
-            object.idle_deadline.store(clock_.idle_deadline(), std::memory_order_relaxed);
-        }
-        return is_live;
-    }
-    template <class Made, class Key, class Give>
-    Own made(typename Each::Kind kind, const Key &key, const Give &give, uint64_t generation, [[maybe_unused]] uint64_t deadline = never) const {
-        std::unique_ptr<Made> object(new (std::nothrow) Made(key, give));
-        if (!object) {
-            return Own();
-        }
-        if constexpr (!std::is_same_v<Made, Each>) {
-            object->weight = rules_.weigher ? rules_.weigher(object->key, object->value) : 0;
-        }
-        if constexpr (std::is_same_v<Made, Dated>) {
-            object->deadline = deadline;
-            object->idle_deadline.store(clock_.idle_deadline(), std::memory_order_relaxed);
-        }
-        object->end_making(kind, generation);
-        return Own(object.release());
-    }
-    template <class Key, class Give>
-    [[gnu::cold]] [[gnu::noinline]] Own make_mortal(const Key &key, const Give &give, uint64_t generation, uint64_t deadline) const {
-        return made<Dated>(Each::mortal, key, give, generation, deadline);
     }
     // `make` is called with the key's lock, at each try. `is_new`: whether the key has no object so far, if that is asked.
     template <class IsNew, class Make>
@@ -387,8 +368,6 @@ template <class K, class V> class Objects : public Entries<1> {
 
     bool is_open_ = false;
     Epochs epochs_;
-    const Rules rules_;
-    const Clock clock_;
     Weights weights_;
     // That of what has left and waits to be freed. All puts of a map with a weigher share a sum, so they may share this.
     std::atomic<uint64_t> uncounted_{0}, *waiting_weight_ = &uncounted_;

@@ -108,14 +108,11 @@ class Table : public Entries<Packing<V, Times::moments>::words>, private Packing
     // The same, but it isn't counted.
     Status seek(Identity key, Words &packed) noexcept { return seek_by(this->own_slot(), key, packed); }
     // Looks a few keys up, by one call of the index. Each is counted. Sets the values that are there. A key that is busy is looked up again by itself.
-    static constexpr size_t few = 32;
     void find_few(const Identity *keys, size_t count, std::optional<V> *values) noexcept {
-        std::array<uint64_t, few> indices;
-        std::array<Words, few> found;
-        std::array<cefrodil_answer, few> answers;
-        std::transform(keys, keys + count, indices.begin(), [](const Identity &key) { return key.index; });
+        std::array<Words, few_keys> found;
+        std::array<cefrodil_answer, few_keys> answers;
         const uint64_t generation = generations.now();
-        get_many(indices.data(), count, found.data(), answers.data());
+        this->get_few(keys, count, found.data(), answers.data());
         uint64_t hits = 0, misses = 0;
         for (size_t i = 0; i < count; i++) {
             const bool is_found = answers[i].status == CEFRODIL_OK;
@@ -180,7 +177,7 @@ class Table : public Entries<Packing<V, Times::moments>::words>, private Packing
         return put_new(key, value, Times::ends({}), [generation] { return generation; });
     }
 
-    // Puts what the function makes of the key's value. If the key is absent, puts `first`, or nothing if that is null. The new entry has the generation in
+    // Puts what the function makes of the key's value, if it makes one. If the key is absent, puts `first`, or nothing if that is null. The new entry has the generation in
     // which the old one was found.
     template <class Function> Found<V> update(const Identity &key, const V *first, const Function &function, const Life &life = {}) {
         for (uint32_t repeat = 0;; repeat++) {
@@ -276,13 +273,6 @@ class Table : public Entries<Packing<V, Times::moments>::words>, private Packing
         }
         return Status::ok;
     }
-    void get_many(const uint64_t *indices, size_t count, Words *found, cefrodil_answer *answers) noexcept {
-        this->call([&](Slot<words> &slot) {
-            // It is ok: an open handle has an answer for each key.
-            [[maybe_unused]] const cefrodil_status status =
-                cefrodil_get_many_or_none(slot.handle.raw(), indices, count, found->data(), words * count, answers, count);
-        });
-    }
     // Begins the time to idle of an entry anew. If the entry was changed, looks it up again.
     [[gnu::cold]] [[gnu::noinline]] void use(const Identity &known, uint64_t since, Words packed) noexcept {
         for (uint32_t repeat = 0; repeat < this->looks() && Times::is_due(ends_of(packed)); repeat++) {
@@ -348,8 +338,12 @@ class Table : public Entries<Packing<V, Times::moments>::words>, private Packing
     }
     // Puts what the function makes of an entry's value, if the entry is still the same.
     template <class Function> Found<V> renew(const Identity &known, const Entry &entry, const Function &function, const Life &life) {
-        const V value = function(*entry.value);
-        return {put_over(known, entry.since, pack(known, Times::renewed(entry.ends, life), value)), value};
+        const auto made = function(*entry.value);
+        if constexpr (std::is_same_v<decltype(made), const V>) {
+            return {put_over(known, entry.since, pack(known, Times::renewed(entry.ends, life), made)), made};
+        } else {
+            return made ? renew(known, entry, [&](const V &) { return *made; }, life) : Found<V>{Status::declined, std::nullopt};
+        }
     }
 };
 

@@ -5,6 +5,7 @@
 
 #include <atomic>
 #include <condition_variable>
+#include <cstdint>
 #include <mutex>
 
 namespace cefrodil::inside {
@@ -13,6 +14,11 @@ struct Threads {
     template <class T> using Atomic = std::atomic<T>;
     using Mutex = std::mutex;
     using Condition = std::condition_variable;
+    // Differs for any two threads that live at the same time.
+    static uintptr_t this_thread() noexcept {
+        static thread_local char place = 0;
+        return reinterpret_cast<uintptr_t>(&place);
+    }
 
 #ifdef __SANITIZE_THREAD__
 // ThreadSanitizer does not see the fence. Without it no access of the map is a race.

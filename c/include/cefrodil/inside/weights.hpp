@@ -11,7 +11,7 @@ namespace cefrodil::inside {
 
 // The sum of all, and how many objects each shard has. A key is one of the shard.
 //
-// Relaxed steps suffice. Of all objects that are there take the one whose weight was added last. Its call compares the sum after that, and sees them
+// Relaxed steps suffice, but where the bound changes. Of all objects that are there take the one whose weight was added last. Its call compares the sum after that, and sees them
 // all. It goes on until the sum is within the bound. The numbers only say where to evict.
 class Weights {
   public:
@@ -22,8 +22,14 @@ class Weights {
     void add(uint64_t key, uint64_t weight) noexcept { change(key, weight, 1); }
     void subtract(uint64_t key, uint64_t weight) noexcept { change(key, 0 - weight, uint64_t(0) - 1); }
     uint64_t sum() const noexcept { return sum_.load(std::memory_order_relaxed); }
-    bool is_over() const noexcept { return sum() > bound_; }
-    uint64_t bound() const noexcept { return bound_; }
+    bool is_over() const noexcept { return sum() > bound(); }
+    uint64_t bound() const noexcept { return bound_.load(std::memory_order_relaxed); }
+    // Release, and acquire in `change`: a call that adds its weight after this sees the bound. What was added before is in the sum that the caller reads
+    // next.
+    void set_bound(uint64_t bound) noexcept {
+        bound_.store(bound, std::memory_order_relaxed);
+        sum_.fetch_add(0, std::memory_order_release);
+    }
     // A key of the next shard. Threads go round together.
     uint64_t next() noexcept { return next_.fetch_add(1, std::memory_order_relaxed) << bits_before; }
     // A key of that one of the next shards which has the most objects.
@@ -47,12 +53,11 @@ class Weights {
     static constexpr int bits_before = 48;
     std::atomic<uint64_t> &of(uint64_t key) noexcept { return numbers_[key >> bits_before & (numbers_.size() - 1)].objects; }
     void change(uint64_t key, uint64_t weight, uint64_t objects) noexcept {
-        sum_.fetch_add(weight, std::memory_order_relaxed);
+        sum_.fetch_add(weight, std::memory_order_acquire);
         of(key).fetch_add(objects, std::memory_order_relaxed);
     }
 
-    const uint64_t bound_;
-    std::atomic<uint64_t> sum_{0}, next_{0};
+    std::atomic<uint64_t> bound_, sum_{0}, next_{0};
     std::vector<Number> numbers_{};
 };
 
