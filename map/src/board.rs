@@ -49,7 +49,8 @@ pub(crate) const TASK_TRIES: u32 = SLEEPS_FROM;
 
 impl<K: Key + ?Sized, V: Copy + Send + Sync + 'static, S: BuildHasher> Map<K, V, S> {
     /// The key's value, or else the right to load it, or else a future that waits for another one that loads it. So of all tasks that want a
-    /// key, one loads it. It needs no runtime, and no thread is blocked. [`get_or_insert_async`](Map::get_or_insert_async) does all this in one call:
+    /// key, one loads it. It needs no runtime, and no thread waits for a load.
+    /// [`get_or_insert_async`](Map::get_or_insert_async) does all this in one call:
     ///
     /// ```
     /// use cefrodil_map::{Board, Map};

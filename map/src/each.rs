@@ -1,4 +1,4 @@
-//! Calls for all entries of a map that can give its keys back.
+//! Calls for all entries of a map: of one that can give its keys back, but for `remove_expired`.
 use crate::error::ClearError;
 use crate::generation::check_in;
 use crate::handle::AnyHandle;
@@ -6,7 +6,7 @@ use crate::inner::{Found, Inner};
 use crate::key::{Key, Number};
 use crate::map::Map;
 use crate::stats::Kind;
-use crate::words::{check, Seen};
+use crate::words::{check, Entry, Seen};
 use std::hash::BuildHasher;
 
 // The bound is that of the calls: so the compiler says of other keys why they can't be given back.
@@ -61,40 +61,34 @@ impl<K: Key + ?Sized, V: Copy + Send + Sync + 'static, S: BuildHasher> Map<K, V,
     where
         K: Number,
     {
-        let core = &self.inner.core;
-        core.flights.detach_all();
-        let removed = core.list(core.tries, AnyHandle::keys).and_then(|listed| {
-            listed.into_iter().try_fold(0, |removed, hash| Ok(removed + usize::from(self.inner.remove_unless(hash, &mut keeps)?)))
-        });
-        removed.map_err(|why| core.refused(why))
+        let inner = &self.inner;
+        inner.core.flights.detach_all();
+        let find = |hash, words: &mut [u64]| inner.entry(inner.core.generation.now(), hash, words);
+        inner.remove_those(find, |(key, value)| !keeps(key, value))
+    }
+
+    /// Removes the entries that have expired, and returns how many. Those that [`invalidate_all`](Map::invalidate_all) has invalidated stay until they expire. It takes
+    /// memory as [`clear`](Map::clear), and a turn at each one's shard.
+    ///
+    /// ```
+    /// use std::time::Duration;
+    ///
+    /// let codes = cefrodil_map::Map::<str, u32>::builder(100).time_to_live(Duration::from_secs(60)).open()?;
+    /// codes.insert("ann", 1)?;
+    /// codes.insert_for("bob", 2, Duration::ZERO)?;
+    /// assert_eq!((codes.len(), codes.remove_expired(), codes.len()), (2, Ok(1), 1));
+    /// # Ok::<(), Box<dyn std::error::Error>>(())
+    /// ```
+    ///
+    /// # Errors
+    ///
+    /// [`ClearError`]: expired entries may be left.
+    pub fn remove_expired(&self) -> Result<usize, ClearError> {
+        self.inner.remove_those(|_, words| self.inner.has_expired(&Entry::of(words, self.inner.layout)).then_some(()), |()| true)
     }
 }
 
 impl<K: Number, V: Copy, S: BuildHasher> Inner<K, V, S> {
-    // Removes the entry under this key of the index unless `keeps` keeps it, and says whether it did. If it was put or used meanwhile, `keeps` is asked
-    // again.
-    fn remove_unless(&self, hash: u64, keeps: &mut impl FnMut(&K, &V) -> bool) -> Result<bool, ClearError> {
-        for _ in 0..self.core.tries {
-            let generation = self.core.generation.now();
-            let seen = self.core.slots.within(self.core.tries, || {
-                match Seen::of(&mut self.core.slots.call(|handle| handle.peek(hash))) {
-                    Seen::Entry(words, since) => Some(self.entry(generation, hash, words).map(|entry| (entry, since))),
-                    Seen::Absent => Some(None),
-                    Seen::Busy => None,
-                }
-            });
-            let Some(((key, value), since)) = seen.ok_or(ClearError::Held)? else { return Ok(false) };
-            if keeps(&key, &value) {
-                return Ok(false);
-            }
-            if ClearError::of_take(self.take_if(hash, since, self.core.tries))? {
-                self.core.slots.count(Kind::Removed);
-                return Ok(true);
-            }
-        }
-        Err(ClearError::Held)
-    }
-
     // The key and the value of an entry that has not expired.
     //
     // Its check word is the number with the generation. One that is of another generation has a number whose hash is not there.
@@ -106,5 +100,48 @@ impl<K: Number, V: Copy, S: BuildHasher> Inner<K, V, S> {
             Some(Found::Live(entry, _)) if print.key == hash => Some((key, entry.value)),
             _ => None,
         }
+    }
+}
+
+impl<K: Key + ?Sized, V: Copy, S: BuildHasher> Inner<K, V, S> {
+    // Removes the entries of which `find` gives something for which they are to leave, and returns how many.
+    fn remove_those<T>(
+        &self,
+        mut find: impl FnMut(u64, &mut [u64]) -> Option<T>,
+        mut leave: impl FnMut(&T) -> bool,
+    ) -> Result<usize, ClearError> {
+        let removed = self.core.list(self.core.tries, AnyHandle::keys).and_then(|listed| {
+            listed
+                .into_iter()
+                .try_fold(0, |removed, hash| Ok(removed + usize::from(self.remove_that(hash, &mut find, &mut leave)?)))
+        });
+        removed.map_err(|why| self.core.refused(why))
+    }
+
+    // The same for the entry under one key of the index. If it was put or used meanwhile, it is found and asked of again.
+    fn remove_that<T>(
+        &self,
+        hash: u64,
+        find: &mut impl FnMut(u64, &mut [u64]) -> Option<T>,
+        leave: &mut impl FnMut(&T) -> bool,
+    ) -> Result<bool, ClearError> {
+        for _ in 0..self.core.tries {
+            let seen = self.core.slots.within(self.core.tries, || {
+                match Seen::of(&mut self.core.slots.call(|handle| handle.peek(hash))) {
+                    Seen::Entry(words, since) => Some(find(hash, words).map(|found| (found, since))),
+                    Seen::Absent => Some(None),
+                    Seen::Busy => None,
+                }
+            });
+            let Some((found, since)) = seen.ok_or(ClearError::Held)? else { return Ok(false) };
+            if !leave(&found) {
+                return Ok(false);
+            }
+            if ClearError::of_take(self.take_if(hash, since, self.core.tries))? {
+                self.core.slots.count(Kind::Removed);
+                return Ok(true);
+            }
+        }
+        Err(ClearError::Held)
     }
 }

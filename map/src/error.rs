@@ -34,7 +34,7 @@ pub enum GetError {
 #[derive(Clone, Copy, Debug, PartialEq, Eq, Hash)]
 #[non_exhaustive]
 pub enum InsertError {
-    /// Other threads were writing to the key's shard at each try. Call again.
+    /// Other threads were writing to the key's shard, or to a key of the same lock, at each try. Call again.
     Held,
     /// There is no place for the key: its buckets are full, and no moves free a slot. Go on without, or take a larger capacity.
     NoPlace,

@@ -3,7 +3,7 @@ use std::ffi::c_int;
 use std::sync::atomic::{AtomicU64, Ordering::Relaxed};
 use std::sync::Once;
 
-// How many forks made this process out of the one in which counting began. The child counts it before it does anything else.
+// How many forks made this process out of the one in which counting began. The child counts it before `fork` returns.
 static FORKS: AtomicU64 = AtomicU64::new(0);
 
 type Handler = Option<extern "C" fn()>;

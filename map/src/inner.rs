@@ -77,11 +77,16 @@ impl<K: Key + ?Sized, V: Copy, S: BuildHasher> Inner<K, V, S> {
         let entry = Entry::of(words, self.layout);
         Some(if entry.check != print.check {
             Found::Other(since)
-        } else if self.core.clock.has_passed(entry.deadline.min(entry.idle)) {
+        } else if self.has_expired(&entry) {
             Found::Expired(since)
         } else {
             Found::Live(entry, since)
         })
+    }
+
+    #[inline]
+    pub fn has_expired(&self, entry: &Entry<V>) -> bool {
+        self.core.clock.has_passed(entry.deadline.min(entry.idle))
     }
 
     /// Looks the key up, and counts that. `told` makes of the answer what the caller returns.

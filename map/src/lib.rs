@@ -48,4 +48,4 @@ pub use objects::{
     Pinned, Put, Reason, Refused,
 };
 pub use published::Published;
-pub use stats::Stats;
+pub use stats::{prometheus, Stats};

@@ -249,7 +249,7 @@ impl<K: ?Sized, V, S> Map<K, V, S> {
     /// How many entries the map has, expired ones included. While other threads write it is an estimate.
     #[must_use]
     pub fn len(&self) -> usize {
-        self.stats().entries()
+        self.inner.core.slots.stats().left() as usize
     }
 
     /// Whether [`len`](Map::len) is 0.
@@ -261,7 +261,7 @@ impl<K: ?Sized, V, S> Map<K, V, S> {
     /// What the calls of all threads came to.
     #[must_use]
     pub fn stats(&self) -> Stats {
-        self.inner.core.slots.stats()
+        self.inner.core.slots.stats().of_map(self.capacity(), 0)
     }
 }
 

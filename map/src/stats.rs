@@ -1,11 +1,12 @@
 //! What the calls of a map came to.
+use std::fmt::Write;
 use std::sync::atomic::{AtomicU64, Ordering::Relaxed};
 use std::time::Duration;
 
 /// How many calls came to what, since the map was opened. The sums of all threads, each read at a moment of its own.
 ///
-/// `hits`, `misses` and `busy` together are the lookups: one for each call of `get`, `look`, `contains_key`, `get_or_insert_with` and `try_board`, and of
-/// their other forms, and one for each key of `get_many`, `get_many_with` and `look_many`.
+/// `hits`, `misses` and `busy` together are the lookups: one for each call of `get`, `look`, `pin`, `contains_key`, `get_or_insert_with` and
+/// `try_board`, and of their other forms, and one for each key of `get_many`, `get_many_with` and `look_many`.
 #[derive(Clone, Copy, Debug, Default, PartialEq, Eq, Hash)]
 #[non_exhaustive]
 pub struct Stats {
@@ -40,6 +41,12 @@ pub struct Stats {
     pub waiting: u64,
     /// What those weigh, by the weigher of `max_weight`; 0 without one.
     pub waiting_weight: u64,
+    /// As [`len`](crate::Map::len).
+    pub entries: u64,
+    /// As [`capacity`](crate::Map::capacity).
+    pub capacity: u64,
+    /// As `weight` of an `ObjectMap`.
+    pub weight: u64,
 }
 
 /// What is counted. The order is that of `NUMBERS`.
@@ -106,7 +113,57 @@ impl Stats {
     }
 
     /// How many entries these numbers leave.
-    pub(crate) fn entries(&self) -> usize {
-        self.added.saturating_sub(self.evicted + self.removed) as usize
+    pub(crate) fn left(&self) -> u64 {
+        self.added.saturating_sub(self.evicted + self.removed)
     }
+
+    /// Those of a map that has room for so many entries, and weighs so much.
+    pub(crate) fn of_map(self, capacity: usize, weight: u64) -> Stats {
+        Stats { entries: self.left(), capacity: capacity as u64, weight, ..self }
+    }
+}
+
+/// The numbers of some maps, each by its name, in the text format of Prometheus.
+///
+/// ```
+/// use cefrodil_map::{prometheus, Map};
+///
+/// let ages = Map::<str, u64>::builder(100).shards(1).open()?;
+/// ages.insert("ann", 41)?;
+/// assert_eq!(ages.get("ann"), Some(41));
+/// let text = prometheus(&[("ages", ages.stats())]);
+/// assert!(text.contains("\ncefrodil_map_hits_total{cache=\"ages\"} 1\n") && text.contains("\ncefrodil_map_capacity{cache=\"ages\"} 100\n"));
+/// # Ok::<(), Box<dyn std::error::Error>>(())
+/// ```
+#[must_use]
+pub fn prometheus(maps: &[(&str, Stats)]) -> String {
+    type Number = fn(&Stats) -> u64;
+    let rows: [(&str, &str, &str, Number); 17] = [
+        ("hits_total", "counter", "Lookups that found a value.", |stats| stats.hits),
+        ("misses_total", "counter", "Lookups that found none.", |stats| stats.misses),
+        ("expired_total", "counter", "Misses whose value had expired.", |stats| stats.expired),
+        ("collided_total", "counter", "Misses that found another key's entry.", |stats| stats.collided),
+        ("busy_total", "counter", "Lookups that were busy.", |stats| stats.busy),
+        ("added_total", "counter", "Keys that were put and are new.", |stats| stats.added),
+        ("renewed_total", "counter", "Entries that were overwritten.", |stats| stats.renewed),
+        ("evictions_total", "counter", "Entries that gave way.", |stats| stats.evicted),
+        ("removed_total", "counter", "Entries that were removed.", |stats| stats.removed),
+        ("refusals_total", "counter", "Writes that failed.", |stats| stats.refused),
+        ("given_up_total", "counter", "Calls that were held or busy at each try.", |stats| stats.given_up),
+        ("stalled_seconds", "gauge", "For how long calls have given up.", |stats| stats.stalled.as_secs()),
+        ("waiting_objects", "gauge", "Objects that have left and wait to be freed.", |stats| stats.waiting),
+        ("waiting_weight", "gauge", "What the objects weigh that wait to be freed.", |stats| stats.waiting_weight),
+        ("entries", "gauge", "Entries that are there.", |stats| stats.entries),
+        ("capacity", "gauge", "Entries that there is room for.", |stats| stats.capacity),
+        ("weight", "gauge", "What the entries weigh.", |stats| stats.weight),
+    ];
+    let mut text = String::new();
+    for (name, kind, help, number) in rows {
+        let _ = write!(text, "# HELP cefrodil_map_{name} {help}\n# TYPE cefrodil_map_{name} {kind}\n");
+        for (map, stats) in maps {
+            let label = map.replace('\\', "\\\\").replace('"', "\\\"").replace('\n', "\\n");
+            let _ = writeln!(text, "cefrodil_map_{name}{{cache=\"{label}\"}} {}", number(stats));
+        }
+    }
+    text
 }

@@ -58,6 +58,27 @@ impl<K: Key + ?Sized, V: Copy + Send + Sync + 'static, S: BuildHasher> Map<K, V,
         self.inner.change_detached(self.inner.print(key), self.inner.core.tries, None, |old| old.map(&mut change))
     }
 
+    /// Like [`modify`](Map::modify), with a `change` that may return `None`: then nothing is put, and this returns `None`, too.
+    ///
+    /// ```
+    /// let stock = cefrodil_map::Map::<str, u64>::new(100)?;
+    /// stock.insert("apples", 1)?;
+    /// assert_eq!(stock.modify_some("apples", |left| left.checked_sub(1)), Ok(Some(0)));
+    /// assert_eq!(stock.modify_some("apples", |left| left.checked_sub(1)), Ok(None));
+    /// assert_eq!(stock.get("apples"), Some(0));
+    /// # Ok::<(), Box<dyn std::error::Error>>(())
+    /// ```
+    ///
+    /// # Errors
+    ///
+    /// [`UpdateError`]: this call changed nothing.
+    pub fn modify_some<Q: Key + ?Sized>(&self, key: &Q, mut change: impl FnMut(V) -> Option<V>) -> Result<Option<V>, UpdateError>
+    where
+        K: Borrow<Q>,
+    {
+        self.inner.change_detached(self.inner.print(key), self.inner.core.tries, None, |old| old.and_then(&mut change))
+    }
+
     /// Like [`modify`](Map::modify), and the entry's time to live begins anew with `life`. This renews an entry: a removal that comes
     /// between is not undone.
     ///

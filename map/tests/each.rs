@@ -1,5 +1,5 @@
 //! Calls with each key and its value, of maps that can give their keys back.
-use cefrodil_map::{Builder, Map, Number};
+use cefrodil_map::{Builder, ClearError, Map, Number};
 use std::collections::hash_map::RandomState;
 use std::collections::BTreeMap;
 use std::fmt::Debug;
@@ -113,4 +113,13 @@ fn what_was_being_computed_is_not_put() {
         10
     });
     assert_eq!((computed, map.get(&1)), (10, None));
+}
+
+// Another write is first at each try.
+#[test]
+fn a_key_that_the_function_puts_each_time_stays() {
+    let map = Map::<u64, u64>::new(100).unwrap();
+    map.insert(&1, 10).unwrap();
+    let retained = map.retain(|key, value| map.insert(key, value + 1).is_err());
+    assert_eq!((retained, map.contains_key(&1), map.stats().refused), (Err(ClearError::Held), true, 1));
 }

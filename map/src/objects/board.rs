@@ -38,7 +38,7 @@ where
     S: BuildHasher,
 {
     /// A clone of the key's value, or else the right to load it, or else a future that waits for another one that loads it. So of all tasks
-    /// that want a key, one loads it. It needs no runtime, and no thread is blocked.
+    /// that want a key, one loads it. It needs no runtime, and no thread waits for a load.
     ///
     /// [`get_or_insert_async`](Self::get_or_insert_async) does all this in one call. What [`Map::try_board`](crate::Map::try_board) says of a lead that is
     /// dropped, of threads and of waiting is true here, too. Its example is one for this map, but that a wait gives no value: call this again. Keys with

@@ -43,7 +43,23 @@ where
     /// # Errors
     ///
     /// [`UpdateError`]: this call changed nothing.
-    pub fn modify<Q: Hash + Eq + ?Sized>(&self, key: &Q, change: impl FnMut(&V) -> V) -> Result<Option<Put>, UpdateError>
+    pub fn modify<Q: Hash + Eq + ?Sized>(&self, key: &Q, mut change: impl FnMut(&V) -> V) -> Result<Option<Put>, UpdateError>
+    where
+        K: Borrow<Q> + Clone,
+    {
+        self.inner.modify(key, None, |old| Some(change(old))).map_err(|why| self.inner.core.refused(why))
+    }
+
+    /// Like [`modify`](Self::modify), with a `change` that may return `None`: then nothing is put, and this returns `None`, too.
+    ///
+    /// # Errors
+    ///
+    /// [`UpdateError`]: this call changed nothing.
+    pub fn modify_some<Q: Hash + Eq + ?Sized>(
+        &self,
+        key: &Q,
+        change: impl FnMut(&V) -> Option<V>,
+    ) -> Result<Option<Put>, UpdateError>
     where
         K: Borrow<Q> + Clone,
     {
@@ -60,12 +76,12 @@ where
         &self,
         key: &Q,
         life: Duration,
-        change: impl FnMut(&V) -> V,
+        mut change: impl FnMut(&V) -> V,
     ) -> Result<Option<Put>, UpdateError>
     where
         K: Borrow<Q> + Clone,
     {
-        self.inner.modify(key, Some(life), change).map_err(|why| self.inner.core.refused(why))
+        self.inner.modify(key, Some(life), |old| Some(change(old))).map_err(|why| self.inner.core.refused(why))
     }
 }
 
@@ -107,7 +123,7 @@ impl<K: Hash + Eq, V, S: BuildHasher> ObjectInner<Object<K, V>, S> {
         &self,
         key: &Q,
         anew: Option<Duration>,
-        mut change: impl FnMut(&V) -> V,
+        mut change: impl FnMut(&V) -> Option<V>,
     ) -> Result<Option<Put>, UpdateError>
     where
         K: Borrow<Q> + Clone,
@@ -116,7 +132,7 @@ impl<K: Hash + Eq, V, S: BuildHasher> ObjectInner<Object<K, V>, S> {
         for _ in 0..self.core.tries {
             let pinned = self.pin();
             let (Some(seen), over) = pinned.place(hash, key, self.core.tries).ok_or(UpdateError::Busy)? else { return Ok(None) };
-            let value = change(&seen.object.value);
+            let Some(value) = change(&seen.object.value) else { return Ok(None) };
             let object = self.object(seen.object.key.clone(), value, anew, seen.object.generation());
             self.detach(hash);
             let put = match anew {

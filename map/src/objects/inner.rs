@@ -93,7 +93,7 @@ impl<O: Held, S> ObjectInner<O, S> {
 
     /// What the calls of all threads came to, and what waits to be freed.
     pub fn stats(&self) -> Stats {
-        let mut stats = self.core.slots.stats();
+        let mut stats = self.core.slots.stats().of_map(self.core.capacity, self.weights.as_ref().map_or(0, Weights::sum));
         self.epochs.each_waiting(|word| {
             // SAFETY: the word was in this map's index, so it is one of `into_word` of these types. It waits, so no owner is made of it.
             let object = unsafe { &*pointer::<O>(word) };

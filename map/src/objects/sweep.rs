@@ -3,9 +3,9 @@ use super::builder::Reason;
 use super::inner::ObjectInner;
 use super::map::ObjectMap;
 use super::object::Held;
+use super::pinned::Pinned;
 use crate::error::ClearError;
 use crate::stats::Kind;
-use super::pinned::Pinned;
 use cefrodil::{Handle, Reply, Take};
 
 impl<K, V, S> ObjectMap<K, V, S> {
@@ -129,7 +129,9 @@ impl<O: Held, S> ObjectInner<O, S> {
     fn take_listed(&self, reason: Reason, mut leaves: impl FnMut(&O) -> bool) -> Result<usize, ClearError> {
         let pinned = self.pin();
         let listed = self.list()?.into_iter();
-        listed.map(|(hash, _)| self.take_that(&pinned, hash, reason, &mut leaves)).try_fold(0, |sum, taken| Ok(sum + usize::from(taken?)))
+        listed
+            .map(|(hash, _)| self.take_that(&pinned, hash, reason, &mut leaves))
+            .try_fold(0, |sum, taken| Ok(sum + usize::from(taken?)))
     }
 
     // Takes out the object under this hash if `leaves` returns true, and says whether it did. If another was put meanwhile, `leaves` is asked of that one.

@@ -1,5 +1,6 @@
 //! Calls that other threads disturb. With one try each, many fail. What fails says so, and has changed nothing.
 use super::one_shard;
+use super::turns::calls;
 use crate::flight::Boarding;
 use crate::handle::{AnyHandle, MANY};
 use crate::wait::TRIES;
@@ -167,7 +168,11 @@ fn a_single_lookup_does_not_wait() {
     let write = || {
         let _ = map.insert(&2, 20);
     };
-    beside(write, |_| [map.try_get(&1) == Err(GetError::Busy)]);
+    beside(write, |_| {
+        let (calls, found) = calls(|| map.try_get(&1));
+        assert_eq!(calls, 1);
+        [found == Err(GetError::Busy)]
+    });
 }
 
 #[test]

@@ -51,6 +51,31 @@ fn a_put_begins_the_time_anew_and_an_update_does_not() {
 }
 
 #[test]
+fn what_has_expired_is_removed_and_nothing_else() {
+    for builder in [Map::<u64, u64>::builder(100).time_to_live(seconds(100)), Map::builder(100).time_to_idle(seconds(100))] {
+        let map = builder.shards(4).open().unwrap();
+        (0..50).for_each(|key| done(map.insert(&key, key).unwrap()));
+        turn(&map, seconds(60));
+        (20..80).for_each(|key| done(map.insert(&key, key + 1).unwrap()));
+        assert_eq!((map.remove_expired(), map.len()), (Ok(0), 80));
+        turn(&map, seconds(40));
+        let before = map.stats();
+        assert_eq!((map.remove_expired(), map.remove_expired(), map.len()), (Ok(20), Ok(0), 60));
+        let stats = map.stats();
+        assert_eq!((stats.removed - before.removed, stats.hits, stats.expired), (20, before.hits, before.expired));
+        assert!((0..80).all(|key| map.get(&key) == (key >= 20).then_some(key + 1)));
+        // What was invalidated stays until it expires.
+        map.invalidate_all();
+        assert_eq!((map.remove_expired(), map.len()), (Ok(0), 60));
+        turn(&map, seconds(100));
+        assert_eq!((map.remove_expired(), map.len()), (Ok(60), 0));
+    }
+    let map = Map::<u64, u64>::new(100).unwrap();
+    map.insert(&1, 1).unwrap();
+    assert_eq!((map.remove_expired(), map.len()), (Ok(0), 1));
+}
+
+#[test]
 fn a_renewal_moves_the_deadline() {
     let map = timed(seconds(100));
     for key in 1..=4 {

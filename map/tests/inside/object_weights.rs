@@ -3,7 +3,7 @@ use super::turns::Turn;
 use super::{done, one_shard};
 use crate::slots::BEFORE_CALL;
 use crate::{Block, BytesMap, Head, InsertError, Inserted, ObjectBuilder, ObjectMap, RemoveError};
-use cefrodil::Handle;
+use cefrodil::{Handle, Shape};
 use std::hash::{BuildHasher, BuildHasherDefault, Hasher};
 use std::sync::{Arc, Mutex, OnceLock};
 
@@ -32,6 +32,17 @@ fn a_sum_that_stays_above_the_bound_is_mended_by_the_next_put() {
     drop(turn.lock().unwrap().take());
     assert_eq!(map.insert(3, 1).unwrap(), Inserted::Evicted);
     assert_eq!((map.weight(), map.get(&1), map.get(&2), map.get(&3)), (61, Some(60), None, Some(1)));
+}
+
+// There are enough changes for one insert and one replacement.
+#[test]
+fn a_put_that_has_nothing_evicted_since_the_shard_is_spent_says_so() {
+    let shape = Shape { limit: 4, depth: 0, ..one_shard(8) };
+    let map: Numbers = ObjectMap::builder(1).max_weight(10, |_, value| *value).open_shaped(&shape, 1, TRIES).unwrap();
+    map.insert(1, 10).unwrap();
+    map.replace_if(1, 1, 10, None).unwrap();
+    assert_eq!(map.insert(2, 5).unwrap_err().why, InsertError::Spent);
+    assert_eq!((map.get(&1), map.weight()), (Some(10), 10));
 }
 
 // Another thread has the turn for each try to evict, and not any more for a put after them.

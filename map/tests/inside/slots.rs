@@ -64,13 +64,13 @@ fn no_count_is_lost() {
 fn what_is_removed_before_it_is_counted_is_no_entry() {
     let slots = Arc::new(Slots::new(vec![(); 2]));
     slots.count(Kind::Removed);
-    assert_eq!(slots.stats().entries(), 0);
+    assert_eq!(slots.stats().left(), 0);
     slots.count(Kind::Added);
     slots.count(Kind::Added);
     slots.count(Kind::Added);
-    assert_eq!(slots.stats().entries(), 2);
+    assert_eq!(slots.stats().left(), 2);
     slots.count(Kind::Evicted);
-    assert_eq!(slots.stats().entries(), 1);
+    assert_eq!(slots.stats().left(), 1);
 }
 
 // Each kind has a number of its own, by a handle of a thread's own and by the shared one.

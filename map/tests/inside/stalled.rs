@@ -2,8 +2,8 @@
 use super::one_shard;
 use super::turns::Turn;
 use crate::handle::AnyHandle;
-use crate::wait::SLEEPS_FROM;
-use crate::{InsertError, Map, RemoveError};
+use crate::wait::{SLEEPS_FROM, TRIES};
+use crate::{Board, InsertError, Map, Published, RemoveError};
 use std::thread::sleep;
 use std::time::Duration;
 
@@ -45,4 +45,25 @@ fn a_call_that_never_slept_is_not_counted() {
     let _turn = hold(&map);
     assert_eq!(map.insert(&1, 11), Err(InsertError::Held));
     assert_eq!((map.stats().given_up, map.stats().stalled), (0, Duration::ZERO));
+}
+
+// A call that sleeps and gives up is counted.
+#[test]
+fn the_put_of_a_task_never_sleeps() {
+    let map = open(TRIES);
+    let Board::Lead(lead) = map.try_board(&2) else { panic!("nobody else loads it") };
+    let _turn = hold(&map);
+    assert!(matches!(lead.try_publish(20), Published::Refused { value: 20, .. }));
+    assert_eq!((map.stats().given_up, map.stats().refused), (0, 1));
+}
+
+#[cfg(feature = "objects")]
+#[test]
+fn nor_does_that_of_an_object() {
+    let map = crate::ObjectMap::<u64, u64>::builder(1).open_shaped(&one_shard(100), 1, TRIES).unwrap();
+    map.insert(1, 10).unwrap();
+    let Board::Lead(lead) = map.try_board(&2) else { panic!("nobody else loads it") };
+    let _turn = Turn::begin(&map.inner.core.slots, cefrodil::Handle::<1>::try_entries);
+    assert!(matches!(lead.try_publish(20), Published::Refused { value: 20, .. }));
+    assert_eq!((map.stats().given_up, map.stats().refused), (0, 1));
 }

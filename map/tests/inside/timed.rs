@@ -279,8 +279,9 @@ fn agrees(map: &impl Timed, life: u64) {
             }
         }
         let (mut stats, len, is_empty) = map.stats();
-        (stats.shared, stats.waiting) = (0, 0);
-        assert_eq!((stats, len, is_empty), (model.counts, model.entries.len(), model.entries.is_empty()), "call {number}");
+        (stats.shared, stats.waiting, stats.capacity) = (0, 0, 0);
+        let counts = Stats { entries: model.entries.len() as u64, ..model.counts };
+        assert_eq!((stats, len, is_empty), (counts, model.entries.len(), model.entries.is_empty()), "call {number}");
     }
     let counts = model.counts;
     assert!(

@@ -20,7 +20,9 @@ pub enum Did {
     Changed(Value, Value),
     /// It has this, whatever it had.
     Set(Value),
-    /// It had nothing, and this was made, from that moment on, and put. It is not put only if another call wrote, or tried to.
+    /// It was refused, and changed nothing.
+    Failed,
+    /// It had nothing, and this was made, from that moment on, and put. It is not put only if another call wrote, or tried to, or if puts are refused.
     Made { value: u64, from: u64, is_put: Option<bool> },
     /// It had this, or nothing: then another call was making this, and this one waited for it.
     Joined(u64),
@@ -42,7 +44,7 @@ impl Call {
 
     // Whether what was being made may be lost by this call.
     fn may_outdate(&self) -> bool {
-        self.is_write() || matches!(self.did, Did::Missed(_) | Did::Tried)
+        self.is_write() || matches!(self.did, Did::Missed(_) | Did::Tried | Did::Failed)
     }
 
     fn is_beside(&self, other: &Call) -> bool {
@@ -56,20 +58,30 @@ impl Debug for Call {
     }
 }
 
+/// What else may happen.
+#[derive(Clone, Copy, Debug, Default)]
+pub struct May {
+    /// The key may lose what it has at any time.
+    pub evict: bool,
+    /// What it has may have ended for one call, and then be renewed by another one that found it before.
+    pub renew: bool,
+    /// What was made may be refused, or lost by a write of another key with the same hash.
+    pub refuse: bool,
+}
+
 /// The calls that concern one key.
 pub struct History {
     calls: Vec<Call>,
-    // Whether the key may lose what it has at any time.
-    may_evict: bool,
+    may: May,
     // The sets of calls, with what the key has after them, from which the search has gone on.
     tried: HashSet<(u64, Value)>,
 }
 
 impl History {
     /// At most 64 calls.
-    pub fn new(calls: Vec<Call>, may_evict: bool) -> History {
+    pub fn new(calls: Vec<Call>, may: May) -> History {
         assert!(calls.len() <= 64);
-        History { calls, may_evict, tried: HashSet::new() }
+        History { calls, may, tried: HashSet::new() }
     }
 
     /// Whether there is an order of the calls that explains what each did. At first the key has nothing.
@@ -84,12 +96,16 @@ impl History {
         if !self.tried.insert((done, value)) {
             return false;
         }
-        if self.may_evict && value.is_some() && self.goes_on(done, None) {
+        if self.may.evict && value.is_some() && self.goes_on(done, None) {
             return true;
         }
         open.into_iter().any(|call| {
-            let nexts = if self.calls[call].begin < first_end { self.nexts(call, done, value) } else { [None; 2] };
-            nexts.into_iter().flatten().any(|next| self.goes_on(done | 1 << call, next))
+            let is_next = self.calls[call].begin < first_end;
+            let nexts = if is_next { self.nexts(call, done, value) } else { [None; 2] };
+            let is_hidden = is_next && self.may.renew && value.is_some();
+            let hidden =
+                if is_hidden { self.nexts(call, done, None).map(|next| next.map(|next| next.or(value))) } else { [None; 2] };
+            nexts.into_iter().chain(hidden).flatten().any(|next| self.goes_on(done | 1 << call, next))
         })
     }
 
@@ -102,9 +118,10 @@ impl History {
             Did::Missed(seen) => [is(seen != value, value), None],
             Did::Changed(old, new) => [is(old == value, new), None],
             Did::Set(new) => [Some(new), None],
+            Did::Failed => [Some(value), None],
             Did::Made { value: made, from, is_put } => {
                 let may_put = value.is_none() && is_put != Some(false) && !self.has_written(done, from);
-                let may_lose = value.is_none() && is_put != Some(true) && self.is_beside_writer(call);
+                let may_lose = value.is_none() && is_put != Some(true) && (self.may.refuse || self.is_beside_writer(call));
                 [is(may_put, Some(made)), is(may_lose, None)]
             }
             Did::Joined(made) => [is(value == Some(made), value), is(value.is_none() && self.may_join(call, made), None)],
@@ -144,7 +161,7 @@ mod tests {
 
     fn has_order(calls: &[(u64, u64, Did)]) -> bool {
         let call = |&(begin, end, did): &(u64, u64, Did)| Call { begin, end, thread: 0, did };
-        History::new(calls.iter().map(call).collect(), false).has_order()
+        History::new(calls.iter().map(call).collect(), May::default()).has_order()
     }
 
     #[test]

@@ -1,39 +1,57 @@
 //! The calls of an `ObjectMap`.
-use crate::history::Did::{self, Changed, Joined, Made, Missed, Saw, Set, Tried};
+use crate::drawn::{wait_for, Drawn};
+use crate::history::Did::{self, Changed, Failed, Joined, Made, Missed, Saw, Set, Tried};
 use crate::rounds::{take_a_while, Caller, Calls, Told, KEYS};
-use cefrodil_map::{AbsentError, Board, IfError, Look, ObjectMap, Published};
+use cefrodil_map::{AbsentError, Board, IfError, Inserted, Look, ObjectMap, Published, Stats};
 use std::cell::Cell;
+use std::hash::BuildHasher;
+use std::sync::atomic::{AtomicU64, Ordering::SeqCst};
+use std::sync::Arc;
 use std::time::Duration;
 
-type Numbers = ObjectMap<u64, u64>;
-
-pub struct Objects {
-    map: Numbers,
-    // Whether an entry may have a life of its own.
-    has_lives: bool,
-}
-
-pub fn plain(map: Numbers) -> Objects {
-    Objects { map, has_lives: false }
-}
-
-pub fn timed(map: Numbers) -> Objects {
-    Objects { map, has_lives: true }
+pub struct Objects<S> {
+    drawn: Drawn,
+    map: ObjectMap<u64, u64, S>,
+    // The next key that fills the map.
+    filler: AtomicU64,
+    // Of how many objects the listener heard, and how many were freed.
+    left: AtomicU64,
+    freed: Arc<AtomicU64>,
 }
 
 fn told<E>(did: Result<Did, E>) -> Told {
-    did.map_or(Told::Failed, Told::Key)
+    Told::Key(did.unwrap_or(Failed))
 }
 
-impl Objects {
-    fn compute(&self, caller: &Caller, key: u64, value: u64) -> Told {
-        let mut from = None;
-        let made = || {
-            from = Some(caller.clock.next());
+impl<S: BuildHasher> Objects<S> {
+    pub fn new(drawn: Drawn, map: ObjectMap<u64, u64, S>, freed: Arc<AtomicU64>) -> Objects<S> {
+        Objects { drawn, map, filler: AtomicU64::new(1_000), left: AtomicU64::new(0), freed }
+    }
+
+    /// An object leaves. Some make the listener put another one.
+    pub fn hear(&self, value: u64) {
+        self.left.fetch_add(1, SeqCst);
+        if self.drawn.nests && value % 8 == 1 {
+            self.fill();
+        }
+    }
+
+    // Whether another key gave way.
+    fn fill(&self) -> bool {
+        self.map.insert(self.filler.fetch_add(1, SeqCst), 0).is_ok_and(|did| did == Inserted::Evicted)
+    }
+
+    fn compute(&self, caller: &mut Caller, key: u64, value: u64) -> Told {
+        let (mut from, clock) = (None, caller.clock);
+        let mut made = || {
+            from = Some(clock.next());
             take_a_while(value);
             value
         };
-        let found = self.map.get_or_insert_with(&key, made);
+        let found = match caller.draw(2) {
+            0 => self.map.get_or_insert_with(&key, made),
+            _ => wait_for(self.map.get_or_insert_async(&key, async { made() })),
+        };
         Told::Key(match from {
             Some(from) if found == value => Made { value, from, is_put: None },
             Some(_) => Saw(Some(found)),
@@ -52,8 +70,7 @@ impl Objects {
         match lead.try_publish(value) {
             Published::Put(_) => Told::Key(Made { value, from, is_put: Some(true) }),
             Published::Other(found) => Told::Key(Saw(Some(found))),
-            Published::Outdated(_) => Told::Key(Made { value, from, is_put: Some(false) }),
-            _ => Told::Failed,
+            _ => Told::Key(Made { value, from, is_put: Some(false) }),
         }
     }
 
@@ -78,7 +95,7 @@ impl Objects {
         match changed {
             Ok(new) => Told::Key(Changed(Some(old), new)),
             Err(IfError::NotThere { .. } | IfError::Changed { .. }) => Told::Key(Missed(Some(old))),
-            Err(_) => Told::Failed,
+            Err(_) => Told::Key(Failed),
         }
     }
 
@@ -86,7 +103,7 @@ impl Objects {
         match self.map.insert_if_absent(key, value).map_err(|refused| refused.why) {
             Ok(_) => Told::Key(Changed(None, Some(value))),
             Err(AbsentError::Present { .. }) => Told::Key(Missed(None)),
-            Err(_) => Told::Failed,
+            Err(_) => Told::Key(Failed),
         }
     }
 
@@ -111,55 +128,124 @@ impl Objects {
             2 => self.modify(Some(Duration::MAX), key, value),
             // If it does nothing, that says nothing.
             3 => Told::Key(if self.map.touch(&key, Duration::MAX) { Missed(None) } else { return self.look(caller, key) }),
-            _ => self.map.remove_expired().map_or(Told::Failed, |_| self.look(caller, key)),
+            _ => self.map.remove_expired().map_or(Told::Unknown, |_| Told::Nothing),
         }
+    }
+
+    // Each key is looked up at a moment of its own, or only this one is removed.
+    fn call_for_each(&self, caller: &mut Caller, key: u64) -> Told {
+        if caller.draw(2) == 0 {
+            let mut seen = [None; KEYS.len()];
+            let see = |key: &u64, value: &u64| KEYS.iter().position(|own| own == key).map_or((), |own| seen[own] = Some(*value));
+            return self.map.for_each(see).map_or(Told::Nothing, |_| Told::Each(seen.map(Saw)));
+        }
+        let mut seen = None;
+        let removed = self.map.retain(|own, value| {
+            *own != key || {
+                seen = Some(*value);
+                false
+            }
+        });
+        // What is being made for another key may be lost.
+        let did = |count| KEYS.map(|own| if own == key { Changed(seen.filter(|_| count == 1), None) } else { Failed });
+        removed.map_or(Told::Unknown, |count| Told::Each(did(count)))
+    }
+
+    // The value stays while it is pinned.
+    fn pin(&self, caller: &mut Caller, key: u64) -> Told {
+        let pin = match caller.draw(2) {
+            0 => self.map.pin(&key),
+            _ => return told(self.map.take(&key).map(|pin| Changed(pin.map(|pin| *pin), None))),
+        };
+        let seen = pin.as_deref().copied();
+        take_a_while(seen.unwrap_or(0));
+        assert_eq!(pin.as_deref().copied(), seen);
+        Told::Key(Saw(seen))
+    }
+
+    // What concerns other keys.
+    fn call_others(&self, caller: &mut Caller) -> Told {
+        match caller.draw(3) {
+            0 if self.drawn.is_full => drop(self.fill()),
+            1 if self.drawn.most_weight.is_some() => drop(self.map.set_most_weight(1 + caller.draw(64))),
+            _ => drop(self.map.free_unused()),
+        }
+        Told::Nothing
     }
 }
 
-impl Calls for Objects {
+impl<S: BuildHasher + Send + Sync> Calls for Objects<S> {
     fn call(&self, caller: &mut Caller, key: u64, value: u64) -> Told {
         let map = &self.map;
-        if self.has_lives && caller.draw(4) == 0 {
+        if self.drawn.life.is_some() && caller.draw(4) == 0 {
             return self.call_with_life(caller, key, value);
         }
-        match caller.draw(20) {
-            0 | 1 => Told::Key(Saw(map.get(&key))),
+        // A map that is to be full is seldom cleared.
+        let is_to_stay_full = self.drawn.is_full && caller.draw(10) > 0;
+        match caller.draw(if is_to_stay_full { 22 } else { 24 }) {
+            0 => Told::Key(Saw(map.get(&key))),
+            1 => Told::Key(Saw(map.get_many([&key])[0])),
             2 => told(map.peek(&key).map(Saw)),
             3 | 4 => self.look(caller, key),
-            5 | 6 => told(map.insert(key, value).map(|_| Set(Some(value)))),
+            5 => told(map.insert(key, value).map(|_| Set(Some(value)))),
+            6 => told(map.try_insert(key, value).map(|_| Set(Some(value)))),
             7 | 8 => self.put_if_absent(key, value),
-            9 | 10 => {
+            call @ (9 | 10) => {
                 let seen = Cell::new(None);
                 let change = |old: Option<&u64>| {
                     seen.set(old.copied());
                     take_a_while(value);
                     value
                 };
-                told(map.update(key, change).map(|_| Changed(seen.get(), Some(value))))
+                let updated = if call == 9 { map.update(key, change) } else { map.try_update(key, change) };
+                told(updated.map(|_| Changed(seen.get(), Some(value))))
             }
             11 => self.modify(None, key, value),
-            12 | 13 => told(map.remove(&key).map(|old| Changed(old, None))),
+            12 => told(map.remove(&key).map(|old| Changed(old, None))),
+            13 => told(map.try_remove(&key).map(|old| Changed(old, None))),
             14 => self.compute(caller, key, value),
             15 => self.load(caller, key, value),
-            16 => map.clear().map_or(Told::Failed, |_| Told::All(Set(None))),
-            17 => {
+            16 | 17 => self.change_if(caller, key, value),
+            18 | 19 => self.pin(caller, key),
+            20 => self.call_for_each(caller, key),
+            21 => self.call_others(caller),
+            22 => map.clear().map_or(Told::Unknown, |_| Told::All(Set(None))),
+            _ => {
                 map.invalidate_all();
                 Told::All(Set(None))
             }
-            _ => self.change_if(caller, key, value),
         }
     }
 
     fn empty(&self) {
-        KEYS.iter().for_each(|key| assert!(self.map.remove(key).is_ok()));
+        if let Some(most) = self.drawn.most_weight {
+            assert!(self.map.set_most_weight(most).is_ok());
+        }
+        if !self.drawn.is_full {
+            return KEYS.iter().for_each(|key| assert!(self.map.remove(key).is_ok()));
+        }
+        assert!(self.map.clear().is_ok());
+        (0..2 * self.map.capacity()).any(|_| self.fill());
     }
 
-    fn busy(&self) -> u64 {
-        self.map.stats().busy
+    fn stats(&self) -> Stats {
+        self.map.stats()
     }
 
-    fn evicted(&self) -> u64 {
-        self.map.stats().evicted
+    fn drawn(&self) -> &Drawn {
+        &self.drawn
+    }
+
+    // Each object that was put is there, or has left once, and then waits or is freed.
+    fn fault(&self) -> Option<String> {
+        let (stats, there) = (self.map.stats(), self.map.len() as u64);
+        let (left, freed) = (self.left.load(SeqCst), self.freed.load(SeqCst));
+        let adds_up = stats.added + stats.renewed == there + left && left == freed + stats.waiting;
+        let is_too_heavy =
+            self.drawn.most_weight.is_some_and(|most| self.map.set_most_weight(most).is_err() || self.map.weight() > most);
+        let is_wrong = is_too_heavy || self.drawn.listens && !adds_up;
+        is_wrong
+            .then(|| format!("{there} are there of weight {}, {left} have left, {freed} are freed: {stats:?}", self.map.weight()))
     }
 
     fn find(&self, key: u64) -> Option<u64> {

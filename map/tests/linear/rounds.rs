@@ -1,7 +1,9 @@
 //! Rounds of random calls by several threads, which signals stop.
-use crate::history::{Call, Did, History};
+use crate::drawn::Drawn;
+use crate::history::{Call, Did, History, May};
+use cefrodil_map::Stats;
 use std::ffi::{c_int, c_long};
-use std::process::{self, abort};
+use std::process::abort;
 use std::ptr;
 use std::sync::atomic::{AtomicU64, AtomicUsize, Ordering::SeqCst};
 use std::sync::{Barrier, Mutex};
@@ -14,11 +16,14 @@ const THREADS: usize = 4;
 const MOST_CALLS: u64 = 8;
 const MOST_SIGNALS: usize = 1000;
 
-/// What a call says: what it did with its key, or with all keys. `None`: it failed, so it says nothing.
+/// What a call says: what it did with its key, with all keys, with each, or that it did nothing with them.
 pub enum Told {
     Key(Did),
     All(Did),
-    Failed,
+    Each([Did; KEYS.len()]),
+    Nothing,
+    /// It may have removed some keys. So the round says nothing.
+    Unknown,
 }
 
 /// The calls of a map.
@@ -29,11 +34,14 @@ pub trait Calls: Sync {
     /// Before a round, while no other call runs: the keys have nothing afterwards.
     fn empty(&self);
 
-    /// How many lookups were kept from looking. If that grows in a round, the round says nothing.
-    fn busy(&self) -> u64;
+    /// The counts of the map.
+    fn stats(&self) -> Stats;
 
-    /// How many entries were evicted. If that grows, a key may lose what it has at any time.
-    fn evicted(&self) -> u64;
+    /// The options of the map.
+    fn drawn(&self) -> &Drawn;
+
+    /// What does not add up, after the calls of a round.
+    fn fault(&self) -> Option<String>;
 
     /// What the key has, after the calls of a round.
     fn find(&self, key: u64) -> Option<u64>;
@@ -56,16 +64,34 @@ pub struct Caller<'a> {
     pub clock: &'a Clock,
     /// A token of each key, and the value that it is of.
     pub tokens: [Option<(u64, u64)>; KEYS.len()],
-    seed: u64,
+    pub random: Random,
 }
 
 impl Caller<'_> {
     /// A random number below this one.
     pub fn draw(&mut self, below: u64) -> u64 {
-        self.seed ^= self.seed << 13;
-        self.seed ^= self.seed >> 7;
-        self.seed ^= self.seed << 17;
-        self.seed % below
+        self.random.draw(below)
+    }
+}
+
+/// Draws numbers, the same from each seed.
+pub struct Random(u64);
+
+impl Random {
+    pub fn new(seed: u64) -> Random {
+        Random(seed.wrapping_mul(0x9e37_79b9_7f4a_7c15) | 1)
+    }
+
+    pub fn draw(&mut self, below: u64) -> u64 {
+        self.0 ^= self.0 << 13;
+        self.0 ^= self.0 >> 7;
+        self.0 ^= self.0 << 17;
+        self.0 % below
+    }
+
+    /// Once in so many times.
+    pub fn is(&mut self, times: u64) -> bool {
+        self.draw(times) == 0
     }
 }
 
@@ -83,10 +109,10 @@ pub fn take_a_while(value: u64) {
 pub struct Rounds {
     /// Those that say something.
     pub told: u64,
-    /// Those of them in which entries were evicted.
-    pub evicting: u64,
-    /// In which a call failed or was disturbed.
+    /// In which a call was disturbed, or removed nobody knows what.
     pub untold: u64,
+    /// The calls of those that say something.
+    pub calls: u64,
     /// The first history without an order.
     pub wrong: Option<String>,
 }
@@ -106,8 +132,8 @@ struct Shared<'a> {
 }
 
 impl Rounds {
-    /// Runs rounds for so long, and until one says something, or until one is wrong.
-    pub fn run(calls: &dyn Calls, time: Duration) -> Rounds {
+    /// Runs rounds for so long, and until one says something, or until one is wrong. The seed says what calls are made.
+    pub fn run(calls: &dyn Calls, time: Duration, seed: u64) -> Rounds {
         handle_signals();
         let shared = Shared {
             calls,
@@ -119,11 +145,10 @@ impl Rounds {
             is_over: AtomicUsize::new(0),
             start: Barrier::new(THREADS + 1),
         };
-        let seed = 1 + u64::from(process::id()) * 1_000_003;
         thread::scope(|threads| {
             for thread in 0..THREADS {
                 let shared = &shared;
-                threads.spawn(move || shared.work(thread, seed + thread as u64));
+                threads.spawn(move || shared.work(thread, Random::new(seed * THREADS as u64 + thread as u64)));
             }
             shared.lead(time)
         })
@@ -146,7 +171,7 @@ impl Shared<'_> {
         let (mut rounds, begin) = (Rounds::default(), Instant::now());
         while rounds.wrong.is_none() && (begin.elapsed() < time || rounds.told == 0 && rounds.untold < 1_000) {
             self.calls.empty();
-            let (busy, evicted) = (self.calls.busy(), self.calls.evicted());
+            let before = self.calls.stats();
             self.running.store(THREADS, SeqCst);
             self.start.wait();
             self.stop_threads();
@@ -154,13 +179,16 @@ impl Shared<'_> {
             let ended: Vec<_> = KEYS.map(|key| (Some(key), self.timed(THREADS, || Did::Saw(self.calls.find(key))))).into();
             let mut calls = std::mem::take(&mut *self.histories.lock().unwrap());
             calls.extend(ended);
-            let may_evict = self.calls.evicted() != evicted;
-            if self.failed.swap(0, SeqCst) > 0 || self.calls.busy() != busy {
+            let (after, drawn) = (self.calls.stats(), self.calls.drawn());
+            let evict = after.evicted != before.evicted || drawn.ends() || drawn.collides();
+            let may = May { evict, renew: drawn.ends(), refuse: after.refused != before.refused || drawn.collides() };
+            rounds.wrong = self.calls.fault();
+            if self.failed.swap(0, SeqCst) > 0 || after.busy != before.busy {
                 rounds.untold += 1;
-            } else {
+            } else if rounds.wrong.is_none() {
                 rounds.told += 1;
-                rounds.evicting += u64::from(may_evict);
-                rounds.wrong = KEYS.iter().find_map(|key| self.wrong(*key, &calls, may_evict));
+                rounds.calls += calls.len() as u64;
+                rounds.wrong = KEYS.iter().find_map(|key| self.wrong(*key, &calls, may));
             }
         }
         self.is_over.store(1, SeqCst);
@@ -169,7 +197,7 @@ impl Shared<'_> {
     }
 
     // The history of this key, if it has no order.
-    fn wrong(&self, key: u64, calls: &[(Option<u64>, Call)], may_evict: bool) -> Option<String> {
+    fn wrong(&self, key: u64, calls: &[(Option<u64>, Call)], may: May) -> Option<String> {
         let mine = calls.iter().filter(|(of, _)| of.is_none_or(|of| of == key)).map(|(_, call)| *call);
         let mut calls: Vec<Call> = mine.collect();
         calls.sort_by_key(|call| call.begin);
@@ -181,8 +209,8 @@ impl Shared<'_> {
                 _ => {}
             }
         }
-        let mut history = History::new(calls, may_evict);
-        (!history.has_order()).then(|| format!("key {key}\n{history:?}"))
+        let mut history = History::new(calls, may);
+        (!history.has_order()).then(|| format!("no order explains this of key {key}, where {may:?}:\n{history:?}"))
     }
 
     fn timed(&self, thread: usize, call: impl FnOnce() -> Did) -> Call {
@@ -205,11 +233,11 @@ impl Shared<'_> {
         }
     }
 
-    fn work(&self, thread: usize, seed: u64) {
+    fn work(&self, thread: usize, random: Random) {
         let _ends_all = EndsAll;
         // SAFETY: it takes nothing.
         self.threads[thread].store(unsafe { pthread_self() }, SeqCst);
-        let mut caller = Caller { clock: &self.clock, tokens: [None; KEYS.len()], seed };
+        let mut caller = Caller { clock: &self.clock, tokens: [None; KEYS.len()], random };
         let mut value = (thread as u64 + 1) << 40;
         loop {
             self.start.wait();
@@ -236,7 +264,11 @@ impl Shared<'_> {
         match told {
             Told::Key(did) => calls.push((Some(key), Call { begin, end, thread, did })),
             Told::All(did) => calls.push((None, Call { begin, end, thread, did })),
-            Told::Failed => drop(self.failed.fetch_add(1, SeqCst)),
+            Told::Each(did) => {
+                calls.extend(KEYS.iter().zip(did).map(|(key, did)| (Some(*key), Call { begin, end, thread, did })))
+            }
+            Told::Nothing => {}
+            Told::Unknown => drop(self.failed.fetch_add(1, SeqCst)),
         }
     }
 }

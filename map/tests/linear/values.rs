@@ -1,51 +1,40 @@
 //! The calls of a `Map`.
-use crate::history::Did::{self, Changed, Joined, Made, Saw, Set, Tried};
+use crate::drawn::{wait_for, Drawn};
+use crate::history::Did::{self, Changed, Failed, Joined, Made, Saw, Set, Tried};
 use crate::rounds::{take_a_while, Caller, Calls, Told, KEYS};
-use cefrodil_map::{Board, Inserted, Map, Published};
+use cefrodil_map::{Board, Inserted, Map, Published, Stats};
 use std::cell::Cell;
+use std::hash::BuildHasher;
 use std::sync::atomic::{AtomicU64, Ordering::SeqCst};
 use std::time::Duration;
 
-type Numbers = Map<u64, u64>;
-
-pub struct Values {
-    map: Numbers,
-    // Whether an entry may have a life of its own.
-    has_lives: bool,
-    // The next key that fills the map, if it is to be full.
-    filler: Option<AtomicU64>,
-}
-
-pub fn plain(map: Numbers) -> Values {
-    Values { map, has_lives: false, filler: None }
-}
-
-pub fn timed(map: Numbers) -> Values {
-    Values { has_lives: true, ..plain(map) }
-}
-
-/// A map that is full, so that new keys evict others.
-pub fn full(map: Numbers) -> Values {
-    Values { filler: Some(AtomicU64::new(1_000)), ..plain(map) }
-}
-
-pub fn full_timed(map: Numbers) -> Values {
-    Values { has_lives: true, ..full(map) }
+pub struct Values<S> {
+    drawn: Drawn,
+    map: Map<u64, u64, S>,
+    // The next key that fills the map.
+    filler: AtomicU64,
 }
 
 fn told<E>(did: Result<Did, E>) -> Told {
-    did.map_or(Told::Failed, Told::Key)
+    Told::Key(did.unwrap_or(Failed))
 }
 
-impl Values {
-    fn compute(&self, caller: &Caller, key: u64, value: u64) -> Told {
-        let mut from = None;
-        let made = || {
-            from = Some(caller.clock.next());
+impl<S: BuildHasher> Values<S> {
+    pub fn new(drawn: Drawn, map: Map<u64, u64, S>) -> Values<S> {
+        Values { drawn, map, filler: AtomicU64::new(1_000) }
+    }
+
+    fn compute(&self, caller: &mut Caller, key: u64, value: u64) -> Told {
+        let (mut from, clock) = (None, caller.clock);
+        let mut made = || {
+            from = Some(clock.next());
             take_a_while(value);
             value
         };
-        let found = self.map.get_or_insert_with(&key, made);
+        let found = match caller.draw(2) {
+            0 => self.map.get_or_insert_with(&key, made),
+            _ => wait_for(self.map.get_or_insert_async(&key, async { made() })),
+        };
         Told::Key(match from {
             Some(from) if found == value => Made { value, from, is_put: None },
             Some(_) => Saw(Some(found)),
@@ -64,8 +53,7 @@ impl Values {
         match lead.try_publish(value) {
             Published::Put(_) => Told::Key(Made { value, from, is_put: Some(true) }),
             Published::Other(found) => Told::Key(Saw(Some(found))),
-            Published::Outdated(_) => Told::Key(Made { value, from, is_put: Some(false) }),
-            _ => Told::Failed,
+            _ => Told::Key(Made { value, from, is_put: Some(false) }),
         }
     }
 
@@ -90,35 +78,64 @@ impl Values {
             _ => self.modify(Some(Duration::MAX), key, value),
         }
     }
+
+    // Each key is looked up at a moment of its own, or only this one is removed.
+    fn call_for_each(&self, caller: &mut Caller, key: u64) -> Told {
+        if caller.draw(2) == 0 {
+            let mut seen = [None; KEYS.len()];
+            let see = |key: &u64, value: &u64| KEYS.iter().position(|own| own == key).map_or((), |own| seen[own] = Some(*value));
+            return self.map.for_each(see).map_or(Told::Nothing, |_| Told::Each(seen.map(Saw)));
+        }
+        let mut seen = None;
+        let removed = self.map.retain(|own, value| {
+            *own != key || {
+                seen = Some(*value);
+                false
+            }
+        });
+        // What is being made for another key may be lost.
+        let did = |count| KEYS.map(|own| if own == key { Changed(seen.filter(|_| count == 1), None) } else { Failed });
+        removed.map_or(Told::Unknown, |count| Told::Each(did(count)))
+    }
 }
 
-impl Calls for Values {
+impl<S: BuildHasher + Send + Sync> Calls for Values<S> {
     fn call(&self, caller: &mut Caller, key: u64, value: u64) -> Told {
         let map = &self.map;
-        if self.has_lives && caller.draw(4) == 0 {
+        if self.drawn.life.is_some() && caller.draw(4) == 0 {
             return self.call_with_life(caller, key, value);
         }
         // A map that is to be full is seldom cleared.
-        let is_to_stay_full = self.filler.is_some() && caller.draw(10) > 0;
-        match caller.draw(if is_to_stay_full { 15 } else { 17 }) {
-            0..=2 => Told::Key(Saw(map.get(&key))),
+        let is_to_stay_full = self.drawn.is_full && caller.draw(10) > 0;
+        match caller.draw(if is_to_stay_full { 17 } else { 19 }) {
+            0 | 1 => Told::Key(Saw(map.get(&key))),
+            2 => told(map.try_get(&key).map(Saw)),
             3 => told(map.peek(&key).map(Saw)),
             4 => Told::Key(Saw(map.get_many([&key])[0])),
-            5..=7 => told(map.insert(&key, value).map(|_| Set(Some(value)))),
-            8 | 9 => {
+            5 | 6 => told(map.insert(&key, value).map(|_| Set(Some(value)))),
+            7 => told(map.try_insert(&key, value).map(|_| Set(Some(value)))),
+            call @ (8 | 9) => {
                 let mut seen = None;
                 let change = |old| {
                     seen = old;
                     take_a_while(value);
                     value
                 };
-                told(map.update(&key, change).map(|_| Changed(seen, Some(value))))
+                let updated = if call == 8 { map.update(&key, change) } else { map.try_update(&key, change) };
+                told(updated.map(|_| Changed(seen, Some(value))))
             }
             10 => self.modify(None, key, value),
-            11 | 12 => told(map.remove(&key).map(|old| Changed(old, None))),
+            11 => told(map.remove(&key).map(|old| Changed(old, None))),
+            12 => told(map.try_remove(&key).map(|old| Changed(old, None))),
             13 => self.compute(caller, key, value),
             14 => self.load(caller, key, value),
-            15 => map.clear().map_or(Told::Failed, |_| Told::All(Set(None))),
+            15 => self.call_for_each(caller, key),
+            16 if self.drawn.is_full => {
+                let _ = map.insert(&self.filler.fetch_add(1, SeqCst), 0);
+                Told::Nothing
+            }
+            16 => Told::Key(map.get_or_try_insert_with(&key, || Err(())).map_or(Saw(None), Joined)),
+            17 => map.clear().map_or(Told::Unknown, |_| Told::All(Set(None))),
             _ => {
                 map.invalidate_all();
                 Told::All(Set(None))
@@ -127,18 +144,25 @@ impl Calls for Values {
     }
 
     fn empty(&self) {
-        let Some(filler) = &self.filler else { return KEYS.iter().for_each(|key| assert!(self.map.remove(key).is_ok())) };
+        if !self.drawn.is_full {
+            return KEYS.iter().for_each(|key| assert!(self.map.remove(key).is_ok()));
+        }
         assert!(self.map.clear().is_ok());
         // Now one shard is full, and others have room.
-        while self.map.insert(&filler.fetch_add(1, SeqCst), 0).unwrap() != Inserted::Evicted {}
+        let mut fills = (0..2 * self.map.capacity()).map(|_| self.map.insert(&self.filler.fetch_add(1, SeqCst), 0));
+        fills.any(|did| did == Ok(Inserted::Evicted));
     }
 
-    fn busy(&self) -> u64 {
-        self.map.stats().busy
+    fn stats(&self) -> Stats {
+        self.map.stats()
     }
 
-    fn evicted(&self) -> u64 {
-        self.map.stats().evicted
+    fn drawn(&self) -> &Drawn {
+        &self.drawn
+    }
+
+    fn fault(&self) -> Option<String> {
+        None
     }
 
     fn find(&self, key: u64) -> Option<u64> {

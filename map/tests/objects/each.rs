@@ -1,6 +1,6 @@
 //! A call with each key and its value, and one that removes what its function refuses.
 use crate::ledger::Ledger;
-use cefrodil_map::{ObjectMap, Reason};
+use cefrodil_map::{ClearError, ObjectMap, Reason};
 use std::collections::HashMap;
 use std::panic::{catch_unwind, AssertUnwindSafe};
 use std::sync::{Arc, Mutex};
@@ -131,4 +131,13 @@ fn what_was_being_computed_is_not_put() {
         10
     });
     assert_eq!((computed, map.get(&1)), (10, None));
+}
+
+// Another write is first at each try.
+#[test]
+fn a_key_that_the_function_puts_each_time_stays() {
+    let map = ObjectMap::<u64, u64>::new(100).unwrap();
+    map.insert(1, 10).unwrap();
+    let retained = map.retain(|key, value| map.insert(*key, value + 1).is_err());
+    assert_eq!((retained, map.contains_key(&1), map.stats().refused), (Err(ClearError::Held), true, 1));
 }

@@ -223,19 +223,21 @@ fn what_waits_to_be_freed_is_counted() {
     }
 }
 
-// A thread retires an object and ends. Other threads free it while they write.
+// A thread retires an object and ends. Other threads free it while they write, also if it had no handle of its own.
 #[test]
 fn what_a_thread_left_that_has_ended_is_freed_by_others() {
-    let ledger = Ledger::new(2_000);
-    let map = open(2);
-    map.insert(1, ledger.make(1)).unwrap();
-    thread::scope(|threads| {
-        let retire = || {
-            map.insert(2, ledger.make(2)).unwrap();
-            assert!(map.remove_with(&2, |_| ()).is_ok());
-        };
-        threads.spawn(retire).join().unwrap();
-    });
-    (0..1_000).for_each(|_| done(map.insert(3, ledger.make(3)).unwrap()));
-    assert!(ledger.has_dropped(1), "it is the second that was made");
+    for threads in [1, 2] {
+        let ledger = Ledger::new(2_000);
+        let map = open(threads);
+        map.insert(1, ledger.make(1)).unwrap();
+        thread::scope(|threads| {
+            let retire = || {
+                map.insert(2, ledger.make(2)).unwrap();
+                assert!(map.remove_with(&2, |_| ()).is_ok());
+            };
+            threads.spawn(retire).join().unwrap();
+        });
+        (0..1_000).for_each(|_| done(map.insert(3, ledger.make(3)).unwrap()));
+        assert!(ledger.has_dropped(1), "it is the second that was made");
+    }
 }

@@ -106,6 +106,14 @@ fn what_was_being_made_when_it_came_is_not_found() {
         map.update(1, |old| invalidate(old.unwrap() + 50)).unwrap();
         map.update(2, |old| invalidate(*old.unwrap_or(&3))).unwrap();
         assert_eq!((map.get(&1), map.get(&2)), (None, None));
+        // Where nothing is, the value is made anew.
+        let mut made = 0;
+        let make = |old: Option<&u64>| {
+            made += 1;
+            old.map_or(0, |_| 1_000) + if made == 1 { invalidate(made) } else { made }
+        };
+        map.update(KEYS, make).unwrap();
+        assert_eq!(map.get(&KEYS), Some(2));
         put_all(&map, 0);
         map.modify(&1, |old| invalidate(*old)).unwrap().unwrap();
         assert_eq!((map.get(&1), map.get_or_insert_with(&3, || invalidate(8)), map.get(&3)), (None, 8, None));

@@ -1,6 +1,6 @@
 //! The listener hears of each object that leaves, once, and of no other.
 use crate::ledger::{done, next, Ledger, Owned};
-use cefrodil_map::{ObjectMap, Reason};
+use cefrodil_map::{AbsentError, IfError, InsertError, Look, ObjectMap, Reason, UpdateError};
 use std::cell::Cell;
 use std::collections::hash_map::RandomState;
 use std::sync::atomic::{AtomicU32, AtomicU64, Ordering::SeqCst};
@@ -82,6 +82,20 @@ fn it_may_call_the_map() {
     }
 }
 
+fn each_put_is_too_deep(map: &ObjectMap<u64, u64>, absent: u64) {
+    const DEEP: InsertError = InsertError::TooDeep;
+    assert_eq!(map.insert(absent, 0).unwrap_err().why, DEEP);
+    assert_eq!(map.insert_if_absent(absent, 0).unwrap_err().why, AbsentError::Insert(DEEP));
+    assert_eq!(map.update(absent, |_| 0), Err(UpdateError::Insert(DEEP)));
+    let put_at = |key| match map.look(&key, |_| ()) {
+        Ok(Look::Found { since, .. }) => Some((key, since)),
+        _ => None,
+    };
+    let (key, since) = (0..1_000).find_map(put_at).expect("the map is full");
+    assert_eq!(map.replace_if(key, since, 0, None).unwrap_err().why, IfError::TooDeep);
+    assert_eq!(map.modify(&key, |_| 0), Err(UpdateError::Insert(DEEP)));
+}
+
 // Without an end to this the thread has no stack left at some depth.
 #[test]
 fn a_put_within_many_calls_of_listeners_is_refused() {
@@ -91,8 +105,12 @@ fn a_put_within_many_calls_of_listeners_is_refused() {
     let put_back = |key: &u64, value: &u64, _| {
         DEPTH.set(DEPTH.get() + 1);
         DEEPEST.fetch_max(DEPTH.get(), SeqCst);
-        let put = MAP.get().unwrap().insert(*key, *value);
-        assert!(put.is_ok_and(|_| DEPTH.get() < 16) || DEPTH.get() == 16);
+        let map = MAP.get().unwrap();
+        if DEPTH.get() == 16 {
+            each_put_is_too_deep(map, *key);
+        } else {
+            map.insert(*key, *value).unwrap();
+        }
         DEPTH.set(DEPTH.get() - 1);
     };
     let map = MAP.get_or_init(|| ObjectMap::builder(100).shards(1).listener(put_back).open().unwrap());

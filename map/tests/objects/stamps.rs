@@ -36,6 +36,10 @@ fn each_put_has_a_moment_of_its_own() {
     assert_eq!(map.look("one", |_| ()), Ok(Look::Found { result: (), at: 3, since: 2 }));
     assert_eq!(map.update(text("one"), |old| format!("{}!", old.unwrap())).unwrap().at, 4);
     assert_eq!(map.modify("one", |old| format!("{old}!")).unwrap().unwrap().at, 5);
+    assert_eq!(
+        (map.modify_some("one", |_| None), map.modify_some("none", |_| unreachable!("it is not there"))),
+        (Ok(None), Ok(None))
+    );
     assert_eq!(map.remove_with("one", String::clone), Ok(Look::Found { result: text("b!!"), at: 6, since: 5 }));
     assert_eq!(map.remove_with("one", String::clone), Ok(Look::Absent { at: 6 }));
     assert_eq!((since(&map, "two"), map.remove_if("two", 3)), (3, Ok(7)));
@@ -57,6 +61,7 @@ fn a_replacement_needs_the_last_moment() {
     map.insert(text("one"), text("b")).unwrap();
     let refused = map.replace_if(text("one"), second, text("c"), None).unwrap_err();
     assert_eq!((refused.why, map.get("one")), (IfError::Changed { since: since(&map, "one") }, Some(text("b"))));
+    assert_eq!(map.stats().refused, 3);
 }
 
 #[test]
