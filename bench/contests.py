@@ -24,6 +24,7 @@ ALL = tuple(SHOWN)
 # Those of the bench of maps: the language of the program, and the contestant's name there.
 MAPS = {'rust_cefrodil': '`cefrodil-map`', 'rust_dashmap': 'dashmap', 'rust_locked': SHOWN['locked'], 'rust_lru': SHOWN['lru'],
         'cpp_cefrodil': '`cefrodil::map`', 'cpp_libcuckoo': 'libcuckoo', 'cpp_tbb': 'TBB'}
+LARGE_MAPS = ('rust_cefrodil', 'rust_dashmap', 'cpp_cefrodil', 'cpp_libcuckoo', 'cpp_tbb')
 # Those of the bench of full caches: the policies, and the LRU cache of the crate lru.
 POLICIES = {'scan_resistant': 'scan-resistant', 'clock': 'CLOCK', 'full_lru': '`Mutex<LruCache>`'}
 SHOWN.update(MAPS | POLICIES)
@@ -153,10 +154,8 @@ def threads():
 def maps():
     """Maps of a program's own types. Keys are numbers and values have 32 bytes, unless the row says otherwise."""
     rows = []
-    for keys, every in (1000, (1, 3, 4)), (100_000, (1, 2, 3, 4)), (1_000_000, (1, 4)):
+    for keys, every in (1000, (1, 3, 4)), (100_000, (1, 2, 3, 4)):
         rows += [calls(f'hit, {keys:,} keys', options('hit', keys), n) for n in every]
-    many = options('hit', 1_000_000, f' --many {MANY}')
-    rows += [calls(f'hit, 1,000,000 keys, {MANY} keys per call', many, n)._replace(names=('cpp_cefrodil',)) for n in (1, 4)]
     rows += [calls(f'miss, {keys:,} keys', options('miss', keys), 1) for keys in (1000, 100_000)]
     for label, more, every in ('8 bytes', ' --words 1', (1,)), ('56 bytes', ' --words 7', (1, 4)), ('strings', ' --letters 16', (1, 4)):
         rows += [calls(f'hit, 100,000 keys, {label}', options('hit', 100_000, more), n) for n in every]
@@ -167,6 +166,16 @@ def maps():
     full.append(full[-1]._replace(label='the same: hit ratio', figure='hit_ratio'))
     full = [row._replace(names=('rust_cefrodil', 'rust_lru', 'cpp_cefrodil')) for row in full]
     return rows + full
+
+
+def millions():
+    """Hits in maps of so many keys that most are in no cache of the processor."""
+    rows = []
+    for keys in (1_000_000, 4_000_000, 16_000_000):
+        rows += [calls(f'{keys:,} keys', options('hit', keys), n)._replace(names=LARGE_MAPS) for n in (1, 4)]
+        many = options('hit', keys, f' --many {MANY}')
+        rows += [calls(f'{keys:,} keys, by {MANY}', many, n)._replace(names=('rust_cefrodil', 'cpp_cefrodil')) for n in (1, 4)]
+    return rows
 
 
 def calls(label, run, threads, role='--readers'):
@@ -223,7 +232,7 @@ def sizes():
 
 
 BENCHES = {'peers': peers(), 'large': large(False), 'huge': large(True), 'turns': turns(), 'threads': threads(), 'sizes': sizes(),
-           'maps': maps(), 'full': full(), 'latencies': latencies(), 'puts': puts(), 'used': used(), 'shares': shares()}
+           'maps': maps(), 'millions': millions(), 'full': full(), 'latencies': latencies(), 'puts': puts(), 'used': used(), 'shares': shares()}
 
 
 def alone(run):
@@ -307,7 +316,7 @@ def cell(told, row, name):
 
 
 def table(bench, told):
-    names = {'turns': WRITERS, 'maps': tuple(MAPS), 'full': tuple(POLICIES), 'latencies': TIMED, 'shares': ('cefrodil',)}.get(bench, ALL)
+    names = {'turns': WRITERS, 'maps': tuple(MAPS), 'millions': LARGE_MAPS, 'full': tuple(POLICIES), 'latencies': TIMED, 'shares': ('cefrodil',)}.get(bench, ALL)
     lines = ['| | ' + ' | '.join(SHOWN[name] for name in names) + ' |', '|---' * (len(names) + 1) + '|']
     for row in filter(lambda row: is_measured(told, row), BENCHES[bench]):
         lines.append(f'| {row.title()} | ' + ' | '.join(cell(told, row, name) for name in names) + ' |')

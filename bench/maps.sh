@@ -34,5 +34,7 @@ printf '[source.crates-io]\nreplace-with = "debian"\n[source.debian]\ndirectory 
 cp "$built/maps/target/release/maps" "$built/maps_rust"
 
 results=${RESULTS:-$built}
-"$top/bench/contests.py" run maps "$built" "$results/maps.jsonl"
-"$top/bench/contests.py" table maps "$results/maps.jsonl"
+"$top/bench/contests.py" run maps,millions "$built" "$results/maps.jsonl"
+for bench in maps millions; do
+    "$top/bench/contests.py" table $bench "$results/maps.jsonl"
+done

@@ -3,7 +3,8 @@
 //! A [`Handle`] belongs to one thread at a time. Move it between threads like any value, or lend it by a [`Pool`]. A [`Writing`] holds the
 //! turns, so it writes without trying. Several writers that try want several shards, so that they rarely want the same turn.
 //! A [`Filler`] is for a cache beside a store that changes, a [`Meter`] for metrics, an [`AuditLog`] for a check of what was answered.
-//! A forked child may drop its parent's handles, which frees nothing, and open caches of its own. Any other call by its parent's panics.
+//! A forked child may drop its parent's handles, which frees nothing, and open caches of its own. Any other call by its parent's panics, but
+//! for [`Handle::prefetch`] and [`Handle::meter`].
 //! Without memory an opening, a list and [`Handle::more`] are errors. [`Filler::new`], [`Pool::new`] and [`prometheus`] end the process, as
 //! std's own types do.
 //! `docs/USING.md` has sizing, patterns and what to do about each answer.

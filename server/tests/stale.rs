@@ -75,6 +75,8 @@ fn an_older_value_is_stored_as_stale() {
         assert_eq!(found, "VA 1 t60 X W\n4\nVA 1 t60 Z X\n4\n", "{mode}");
         assert_eq!(client.ask(&format!("ms k 1 I C2{mode}\n3\nmg k v\n")), "HD\nVA 1 Z X\n3\n");
         assert_eq!(client.ask(&format!("ms k 1 I C999999{mode}\n2\nmg k v\n")), "EX\nVA 1 Z X\n3\n");
+        // Four values were stored, so the last one has this token.
+        assert_eq!(client.ask(&format!("ms k 1 I C4{mode}\n2\nmg k v\n")), "HD\nVA 1\n2\n");
     }
 }
 
@@ -89,6 +91,7 @@ fn a_first_hit_is_told() {
         ("append k 0 0 1\n1\nadd k 0 0 1\n1\n", "STORED\nNOT_STORED\n"),
         ("get none\nmg k h\n", "END\nHD h0\n"),
         ("gat 0 k\nmg k h\n", "VALUE k 0 2\n61\nEND\nHD h1\n"),
+        ("ms k 1\n5\ntouch k 0\nmg k h\n", "HD\nTOUCHED\nHD h1\n"),
     ]);
 }
 

@@ -80,6 +80,11 @@ pub trait Contestant<K: Key, V, S>: Sync {
 
     fn get(&self, key: &K::Borrowed) -> Option<V>;
 
+    /// Looks up many keys by one call, if the map has one.
+    fn get_many(&self, _keys: &[K]) -> Vec<Option<V>> {
+        panic!("it has no call for many keys")
+    }
+
     /// Puts a key, whether it is there or not. Returns whether it was put.
     fn put(&self, key: &K::Borrowed, value: V) -> bool;
 }
@@ -112,6 +117,10 @@ impl<K: Key, V: Copy + Send + Sync + 'static, S: Opens> Contestant<K, V, S> for 
     #[inline(always)]
     fn get(&self, key: &K::Borrowed) -> Option<V> {
         self.0.get(key)
+    }
+
+    fn get_many(&self, keys: &[K]) -> Vec<Option<V>> {
+        self.0.get_many(keys.iter().map(Borrow::borrow))
     }
 
     #[inline(always)]

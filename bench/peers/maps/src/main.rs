@@ -34,11 +34,21 @@ impl Tally {
         key: &K::Borrowed,
         number: u64,
     ) -> bool {
-        let found = map.get(key);
+        self.count(map.get(key), number)
+    }
+
+    #[inline(always)]
+    fn count<const N: usize>(&mut self, found: Option<[u64; N]>, number: u64) -> bool {
         self.lookups += 1;
         self.hits += u64::from(found.is_some());
         self.torn += found.map_or(0, |value| u64::from(value.iter().fold(0, |bits, word| bits | (word ^ number)) != 0));
         found.is_some()
+    }
+
+    fn look_together<const N: usize, K: Key, S, C: Contestant<K, [u64; N], S>>(&mut self, map: &C, numbers: &[u64]) {
+        let keys: Vec<K> = numbers.iter().map(|number| K::with(*number, ToOwned::to_owned)).collect();
+        map.get_many(&keys).into_iter().zip(numbers).for_each(|(found, number)| _ = self.count(found, *number));
+        self.calls += numbers.len() as u64;
     }
 
     #[inline(always)]
@@ -66,7 +76,13 @@ fn work<const N: usize, K: Key, S, C: Contestant<K, [u64; N], S>>(
         std::hint::spin_loop();
     }
     let (began, used) = (Instant::now(), processor_time());
+    let mut together = vec![0; options.many as usize];
     while !signals.over.load(SeqCst) {
+        if together.len() > 1 {
+            together.iter_mut().for_each(|number| *number = key_of(first + draw.below(options.keys.into())));
+            tally.look_together::<N, K, S, C>(map, &together);
+            continue;
+        }
         for _ in 0..64 {
             let number = key_of(first + draw.below(options.keys.into()));
             K::with(number, |key| {
