@@ -46,7 +46,8 @@ def django(source, port, folder):
 
 def main():
     program, *source = sys.argv[1:]
-    with running(program) as (_, port), tempfile.TemporaryDirectory() as folder:
+    # By one thread: a test of pymemcache sends `flush_all` and leaves, and the next one's `set` must not overtake it.
+    with running(program, '-t', '1') as (_, port), tempfile.TemporaryDirectory() as folder:
         each = [pymemcache(port, folder), *(django(path, port, folder) for path in source)]
     return 0 if all(each) else 1
 
