@@ -36,6 +36,23 @@ macro_rules! any {
     };
 }
 
+// The same for a handle of a map of such values, with this layout. If the compiler knows the layout, it leaves the other widths out.
+macro_rules! of_width {
+    ($any:expr, $layout:expr, $value:ty, $handle:ident => $call:expr) => {
+        match ($layout.width::<$value>(), $any) {
+            (1, AnyHandle::One($handle)) => $call,
+            (2, AnyHandle::Two($handle)) => $call,
+            (3, AnyHandle::Three($handle)) => $call,
+            (4, AnyHandle::Four($handle)) => $call,
+            (5, AnyHandle::Five($handle)) => $call,
+            (6, AnyHandle::Six($handle)) => $call,
+            (7, AnyHandle::Seven($handle)) => $call,
+            (8, AnyHandle::Eight($handle)) => $call,
+            _ => unreachable!("opening takes this width"),
+        }
+    };
+}
+
 impl AnyHandle {
     /// Opens an index whose entries have this width.
     pub fn open(width: usize, shape: &Shape, shards: u32, handles: usize) -> Result<Vec<AnyHandle>, OpenError> {
@@ -60,30 +77,33 @@ impl AnyHandle {
         any!(self, handle => handle.capacity())
     }
 
-    /// Looks the key up by `get_or_turn` of a handle of a map of such values, with this layout. Gives the handle back, and then calls `then`.
-    ///
-    /// The compiler knows the width, and leaves the calls for the others out. The words stay where the index wrote them.
+    /// Looks the key up by `get_or_turn` of a handle of a map of such values, with this layout. Gives the handle back, and then calls `then`. The words
+    /// stay where the index wrote them.
     #[inline(always)]
     pub fn get<V, R>(mut handle: impl DerefMut<Target = AnyHandle>, key: u64, layout: Layout, then: impl FnOnce(Seen) -> R) -> R {
-        macro_rules! get {
-            ($($width:literal $variant:ident),*) => {
-                match (layout.width::<V>(), &mut *handle) {
-                    $(($width, AnyHandle::$variant(by_width)) => {
-                        let mut reply = Reply::Busy;
-                        by_width.get_or_turn_into(key, &mut reply);
-                        drop(handle);
-                        then(Seen::of(&mut reply))
-                    })*
-                    _ => unreachable!("opening takes this width"),
-                }
-            };
-        }
-        get!(1 One, 2 Two, 3 Three, 4 Four, 5 Five, 6 Six, 7 Seven, 8 Eight)
+        of_width!(&mut *handle, layout, V, by_width => {
+            let mut reply = Reply::Busy;
+            by_width.get_or_turn_into(key, &mut reply);
+            drop(handle);
+            then(Seen::of(&mut reply))
+        })
     }
 
-    /// Looks these keys up, `MANY` at most. There must be as many replies.
-    pub fn get_many(&mut self, keys: &[u64], replies: &mut [Reply<MOST>]) {
-        any!(self, handle => wide_replies(handle, keys, replies))
+    /// Looks these keys up, `MANY` at most. Gives the handle back, and then calls `then` for each, in order.
+    #[inline(always)]
+    pub fn get_many<V>(
+        mut handle: impl DerefMut<Target = AnyHandle>,
+        keys: &[u64],
+        layout: Layout,
+        mut then: impl FnMut(usize, Seen),
+    ) {
+        of_width!(&mut *handle, layout, V, by_width => {
+            let mut replies = [Reply::Busy; MANY];
+            let replies = &mut replies[..keys.len()];
+            by_width.get_many(keys, replies);
+            drop(handle);
+            replies.iter_mut().enumerate().for_each(|(index, reply)| then(index, Seen::of(reply)));
+        })
     }
 
     pub fn get_or_turn(&mut self, key: u64) -> Reply<MOST> {
@@ -147,13 +167,6 @@ fn wide_reply<const WIDTH: usize>(reply: Reply<WIDTH>) -> Reply<MOST> {
         Reply::Absent { at } => Reply::Absent { at },
         Reply::Busy => Reply::Busy,
     }
-}
-
-fn wide_replies<const WIDTH: usize>(handle: &mut Handle<WIDTH>, keys: &[u64], replies: &mut [Reply<MOST>]) {
-    let mut narrow = [Reply::Busy; MANY];
-    let narrow = &mut narrow[..keys.len()];
-    handle.get_many(keys, narrow);
-    replies.iter_mut().zip(narrow).for_each(|(wide, narrow)| *wide = wide_reply(*narrow));
 }
 
 #[cfg(test)]

@@ -6,9 +6,9 @@ use crate::handle::{AnyHandle, MANY};
 use crate::key::Key;
 use crate::map::Inserted;
 use crate::print::{Print, Printer};
-use crate::stats::Kind;
+use crate::stats::{Counts, Kind};
 use crate::words::{check, deadline, set_check, Entry, Layout, Seen, Words};
-use cefrodil::{PutIfError, Reply, TurnError};
+use cefrodil::{PutIfError, TurnError};
 use std::hash::BuildHasher;
 use std::time::Duration;
 
@@ -115,20 +115,32 @@ impl<K: Key + ?Sized, V: Copy, S: BuildHasher> Inner<K, V, S> {
         let Some((handle, counts)) = self.core.slots.own() else {
             return told(self.get_shared(print, tries));
         };
-        // Each asks for the layout itself: a captured one is known to the compiler only where the closure is inlined.
-        AnyHandle::get::<V, _>(handle, print.key, Layout::laid::<TIMED>(), |seen| match seen {
-            Seen::Entry(words, _)
-                if check(words) == print.check && !self.core.clock.has_passed(deadline(words, Layout::laid::<TIMED>())) =>
-            {
+        let layout = Layout::laid::<TIMED>();
+        AnyHandle::get::<V, _>(handle, print.key, layout, |seen| self.seen_first::<TIMED, R>(print, seen, counts, tries, told))
+    }
+
+    // What the first of so many tries saw by the thread's own handle.
+    #[inline(always)]
+    fn seen_first<const TIMED: bool, R>(
+        &self,
+        print: Print,
+        seen: Seen,
+        counts: &Counts,
+        tries: u32,
+        told: impl FnOnce(Result<Option<V>, GetError>) -> R,
+    ) -> R {
+        let layout = Layout::laid::<TIMED>();
+        match seen {
+            Seen::Entry(words, _) if check(words) == print.check && !self.core.clock.has_passed(deadline(words, layout)) => {
                 counts.add_alone(Kind::Hit);
-                told(Ok(Some(Entry::of(words, Layout::laid::<TIMED>()).value)))
+                told(Ok(Some(Entry::of(words, layout).value)))
             }
             Seen::Absent => {
                 counts.add_alone(Kind::Miss);
                 told(Ok(None))
             }
             other => told(self.get_again(print, other, tries)),
-        })
+        }
     }
 
     // By the handle that threads without one of their own share, and in a map whose entries end if they are not used.
@@ -159,16 +171,28 @@ impl<K: Key + ?Sized, V: Copy, S: BuildHasher> Inner<K, V, S> {
         let _ = self.core.slots.call(|handle| handle.put_if(print.key, *since, &words));
     }
 
-    /// Looks up to `MANY` keys up by one call of the index, and counts each. A key that is busy is looked up again by itself.
+    /// Looks up to `MANY` keys up, and counts each: by one call of the index, unless uses are noted or the thread has no handle of its own.
     pub fn get_many(&self, prints: &[Print], values: &mut Vec<Option<V>>) {
-        let (mut keys, mut replies) = ([0; MANY], [Reply::Busy; MANY]);
-        let (keys, replies) = (&mut keys[..prints.len()], &mut replies[..prints.len()]);
+        match self.layout {
+            Layout::Plain => self.get_many_laid::<false>(prints, values),
+            Layout::Timed => self.get_many_laid::<true>(prints, values),
+            Layout::Idle => self.get_each(prints, values),
+        }
+    }
+
+    // A key that is busy is looked up again by itself.
+    fn get_many_laid<const TIMED: bool>(&self, prints: &[Print], values: &mut Vec<Option<V>>) {
+        let Some((handle, counts)) = self.core.slots.own() else { return self.get_each(prints, values) };
+        let mut keys = [0; MANY];
         keys.iter_mut().zip(prints).for_each(|(key, print)| *key = print.key);
-        self.core.slots.call(|handle| handle.get_many(keys, replies));
-        values.extend(prints.iter().zip(replies).map(|(print, reply)| {
-            let found = self.found(*print, Seen::of(reply)).or_else(|| self.look_again(*print, self.core.looks() - 1));
-            self.used(*print, found).unwrap_or(None)
-        }));
+        AnyHandle::get_many::<V>(handle, &keys[..prints.len()], Layout::laid::<TIMED>(), |index, seen| {
+            let value = |told: Result<_, _>| told.unwrap_or(None);
+            values.push(self.seen_first::<TIMED, _>(prints[index], seen, counts, self.core.looks(), value));
+        });
+    }
+
+    fn get_each(&self, prints: &[Print], values: &mut Vec<Option<V>>) {
+        values.extend(prints.iter().map(|print| self.get_shared(*print, self.core.looks()).unwrap_or(None)));
     }
 
     /// Looks the key up, which is no use of it, and counts nothing.

@@ -135,10 +135,17 @@ impl<K: Key + ?Sized, V: Copy + Send + Sync + 'static, S: BuildHasher> Map<K, V,
     where
         K: Borrow<Q>,
     {
-        let prints: Vec<Print> = keys.into_iter().map(|key| self.inner.print_now(key)).collect();
-        let mut values = Vec::with_capacity(prints.len());
-        prints.chunks(MANY).for_each(|prints| self.inner.get_many(prints, &mut values));
-        values
+        let mut keys = keys.into_iter().fuse();
+        let mut values = Vec::with_capacity(keys.size_hint().0);
+        let mut prints = [Print::default(); MANY];
+        loop {
+            // The array is asked first, so no key is taken that has no place.
+            let count = prints.iter_mut().zip(&mut keys).map(|(print, key)| *print = self.inner.print_now(key)).count();
+            self.inner.get_many(&prints[..count], &mut values);
+            if count < MANY {
+                return values;
+            }
+        }
     }
 
     /// The key's value, which doesn't count as used: it is evicted as if nobody had looked. [`stats`](Map::stats) doesn't count the call. It takes

@@ -200,7 +200,12 @@ pub(crate) fn many<const WORDS: usize>(handle: &mut OpenHandle, keys: &[u64], re
             not_told(status);
         }
         for ((reply, answer), value) in replies.iter_mut().zip(answers).zip(values) {
-            *reply = Reply::of((answer.status, RawReply { at: answer.at, since: answer.since, ..RawReply::default() }), value);
+            *reply = match answer.status {
+                raw::OK => Reply::Found { value, at: answer.at, since: answer.since },
+                raw::ABSENT => Reply::Absent { at: answer.at },
+                raw::BUSY => Reply::Busy,
+                other => not_told(other),
+            };
         }
     }
 }

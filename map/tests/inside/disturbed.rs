@@ -4,8 +4,9 @@ use super::turns::calls;
 use crate::flight::Boarding;
 use crate::handle::{AnyHandle, MANY};
 use crate::wait::TRIES;
+use crate::words::Seen;
 use crate::{ClearError, GetError, InsertError, Inserted, Map, RemoveError, UpdateError};
-use cefrodil::{Reply, Shape};
+use cefrodil::Shape;
 use std::cell::Cell;
 use std::sync::atomic::{AtomicBool, Ordering::SeqCst};
 use std::thread;
@@ -258,10 +259,11 @@ fn a_busy_key_of_many_is_looked_up_again() {
         let _ = map.insert(&2, 20);
     };
     beside(write, |_| {
-        let mut replies = [Reply::Busy; MANY];
-        map.inner.core.slots.call(|handle| handle.get_many(&[key; MANY], &mut replies));
+        let mut is_busy = false;
+        let look = |_, seen: Seen| is_busy |= matches!(seen, Seen::Busy);
+        map.inner.core.slots.call(|handle| AnyHandle::get_many::<u64>(handle, &[key; MANY], map.inner.layout, look));
         assert_eq!(map.get_many(&[1; 40]), [Some(10); 40]);
-        [replies.contains(&Reply::Busy)]
+        [is_busy]
     });
     assert_eq!(map.stats().busy, 0);
 }
