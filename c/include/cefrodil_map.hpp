@@ -73,7 +73,7 @@ struct MapOptions {
                               // 1,000 times at most, which takes over a tenth of a second.
 };
 
-// The answers of lookups, updates and puts are `Found` and `Stored`, in cefrodil/inside/table.hpp.
+// The answers of lookups and updates are `Found`, in cefrodil/inside/table.hpp. Those of puts are `Stored`, in cefrodil/inside/slot.hpp.
 
 // The answer of find_or_compute. `value` is a V. If the function returns an optional, so is `value`: it is empty if the function declined. If the status
 // is not ok, it says why the value was not put.
@@ -236,7 +236,7 @@ class map : public inside::AnyMap<inside::Opened<K, Hash, inside::Table<V, Times
     }
     // The same, with the value that it removed, if it is ok.
     [[nodiscard]] Found<V> extract(Key key) noexcept(never_throws) {
-        return change(key, Found<V>{Status::closed, std::nullopt}, [&](const auto &known) { return inner_->entries.extract(known); });
+        return change(key, Found<V>{Status::closed, std::nullopt}, [&](Entries &entries, const auto &known) { return entries.extract(known); });
     }
     // Replaces the value of a key that is there by what the function makes of it, `V function(const V &)`, and returns that. No other change is
     // lost: if another thread is first, the function is called again, with the newer value. The function may return a
@@ -336,21 +336,21 @@ class map : public inside::AnyMap<inside::Opened<K, Hash, inside::Table<V, Times
         return this->open_as(options, [&] { return std::make_unique<Inner>(std::move(hash), Times(lives...)); });
     }
     Stored put_if_absent(Key key, const V &value, const Life &life) noexcept(never_throws) {
-        return change(key, Stored{Status::closed, false, false}, [&](const auto &known) { return inner_->entries.put_if_absent(known, value, life); });
+        return change(key, Stored{Status::closed, false, false}, [&](Entries &entries, const auto &known) { return entries.put_if_absent(known, value, life); });
     }
     Stored put(Key key, const V &value, const Life &life) noexcept(never_throws) {
-        return change(key, Stored{Status::closed, false, false}, [&](const auto &known) { return inner_->entries.put(known, value, life); });
+        return change(key, Stored{Status::closed, false, false}, [&](Entries &entries, const auto &known) { return entries.put(known, value, life); });
     }
     // A flight may begin while the user's function runs: after another thread has removed the key. It may not see what the function does. So after
     // the function it is outdated, too.
     template <class Function> Found<V> update(Key key, const V *first, Function &function, const Life &life) {
-        return change(key, Found<V>{Status::closed, std::nullopt}, [&](const auto &known) {
+        return change(key, Found<V>{Status::closed, std::nullopt}, [&](Entries &entries, const auto &known) {
             const auto outdating = [&](const V &old) {
                 const inside::Made<V, Function, const V &> value = function(old);
-                inner_->entries.flights.outdate(known);
+                entries.flights.outdate(known);
                 return value;
             };
-            return inner_->entries.update(known, first, outdating, life);
+            return entries.update(known, first, outdating, life);
         });
     }
 
@@ -362,9 +362,10 @@ class map : public inside::AnyMap<inside::Opened<K, Hash, inside::Table<V, Times
         if (!inner_) {
             return closed;
         }
-        const inside::Identity known = inner_->identities.of(key);
-        inner_->entries.flights.outdate(known);
-        return make(known);
+        Inner &inner = *inner_;
+        const inside::Identity known = inner.identities.of(key);
+        inner.entries.flights.outdate(known);
+        return make(inner.entries, known);
     }
 
     // Each fault has one message. A type that is too large or not trivial gets no second one. Clang skips the members after a failed assertion, so

@@ -133,6 +133,7 @@ template <class T> class OwnedPointer : Owned {
 
     explicit operator bool() const noexcept { return get() != nullptr; }
     T *operator->() const noexcept { return static_cast<T *>(get()); }
+    T &operator*() const noexcept { return *static_cast<T *>(get()); }
     // Null before. False without memory.
     [[nodiscard]] bool own(std::unique_ptr<T> &&made) noexcept { return Owned::own(made.get()) && made.release() != nullptr; }
     // Destroys what is owned. Whether anything was.
