@@ -266,8 +266,9 @@ class map : public inside::AnyMap<inside::Opened<K, Hash, inside::Table<V, Times
 
     // The key's value, or what the function computes, `V function()`, which is then put. Of several callers that miss the key one computes, and
     // the others wait for it; if its value is refused or its function throws, the next one computes. The function may call the map.
-    // It may return a `std::optional<V>`. If that is empty, nothing is put: declined. stale: the key was changed while the function ran, or this is a call
-    // by the function itself. present: another value was put meanwhile. Two functions that ask for each other's keys wait forever.
+    // It may return a `std::optional<V>`. If that is empty, nothing is put: declined. stale: the key was changed while the function ran, or the caller
+    // could not wait: the key's value is being computed by this thread, or by one that waits for what this thread computes, in any map. Then it computed
+    // for itself alone. present: another value was put meanwhile.
     template <class Function> [[nodiscard]] Computed<inside::Made<V, Function>> find_or_compute(Key key, Function function) {
         if (!inner_) {
             return {Status::closed, function(), true};
@@ -277,7 +278,7 @@ class map : public inside::AnyMap<inside::Opened<K, Hash, inside::Table<V, Times
         // The lookup that counts.
         for (Status status = inner_->entries.find(known, found); status != Status::ok; status = inner_->entries.seek(known, found)) {
             inside::Flight flight(inner_->entries.flights.of(known), known);
-            if (!flight.has_begun() && !flight.is_within()) {
+            if (!flight.has_begun() && !flight.is_alone()) {
                 continue;
             }
             const uint64_t generation = inner_->entries.generations.now();

@@ -160,7 +160,7 @@ template <class K, class V, class Hash, class Equal> class ObjectCalls : public 
                 flight.end();
                 return {Status::ok, std::move(found), false};
             }
-            if (flight.has_begun() || flight.is_within()) {
+            if (flight.has_begun() || flight.is_alone()) {
                 return make(object, begun, [&] {
                     const Status status = object ? flight.land([&] { return put_new(known, key, object, change, true); }) : Status::no_memory;
                     flight.end();
