@@ -193,19 +193,13 @@ class Table : public Entries<Packing<V, Times::moments>::words>, private Packing
 
     // Returns what it removed. An entry that has expired is absent, but is removed all the same: an update that found it before must not renew it.
     Found<V> extract(const Identity &key) noexcept {
-        for (uint32_t repeat = 0;; repeat++) {
-            const Entry entry = look(now(key));
-            if (entry.status != Status::ok && !entry.has_expired) {
-                return {entry.status, std::nullopt};
-            }
-            const Status status = take_if(key.index, entry.since);
-            if (status == Status::ok) {
-                return {entry.status, entry.value};
-            }
-            if (status != Status::changed || repeat >= this->tries()) {
-                return {status, std::nullopt};
-            }
-        }
+        Entry entry{};
+        const auto find = [&] {
+            entry = look(now(key));
+            return Seen{entry.has_expired ? Status::ok : entry.status, entry.since};
+        };
+        const Status status = this->take_found(find, [&](uint64_t since) { return take_if(key.index, since); });
+        return status == Status::ok ? Found<V>{entry.status, entry.value} : Found<V>{status, std::nullopt};
     }
 
     // Removes each key that is listed.
