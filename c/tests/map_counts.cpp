@@ -165,6 +165,32 @@ static void shared_counts(uint64_t counts) {
     MUST(passes.shared().meter().counts().misses == 4 * counts);
 }
 
+// The keys up to 1 have one number in the index. All others have numbers of their own.
+struct SomeMeet {
+    cefrodil::HashPair operator()(const uint64_t &key, const cefrodil::HashSecret &) const noexcept {
+        return {key < 2 ? 7 : key * 0x9e3779b97f4a7c15, key};
+    }
+};
+// Threads that share a pass evict at the same time, by the index and over a key with the same number: no eviction is lost.
+static void shared_evictions(uint64_t puts) {
+    cefrodil::object_map<uint64_t, uint64_t, SomeMeet> map;
+    MUST(map.open({100, 1, 1}) == Status::ok);
+    std::atomic<uint64_t> ready{0}, evicted{0};
+    std::vector<std::thread> running;
+    for (uint64_t thread = 0; thread < 4; thread++) {
+        running.emplace_back([&, thread] {
+            for (ready++; ready != 4;) {
+                std::this_thread::yield();
+            }
+            for (uint64_t n = 0; n < puts; n++) {
+                evicted += map.insert_or_assign(thread < 2 ? n % 2 : 2 + n * 4 + thread, uint64_t(n)).evicted ? 1 : 0;
+            }
+        });
+    }
+    std::for_each(running.begin(), running.end(), [](std::thread &thread) { thread.join(); });
+    MUST(evicted > puts && map.meter().counts().evictions == evicted);
+}
+
 static void rates() {
     Numbers numbers;
     MUST(numbers.meter().counts().hit_rate() == 0 && numbers.open({100}) == Status::ok && numbers.meter().counts().hit_rate() == 0);
@@ -185,6 +211,7 @@ int main(int argc, char **argv) {
         threads<Objects>(passes, 4000 / less / 20 * 20);
     }
     shared_counts(2000000 / less);
+    shared_evictions(50000 / less);
     rates();
     return outcome("map_counts");
 }

@@ -155,7 +155,7 @@ template <class K, class V> class Objects : public Entries<1>, public ObjectMake
     void gave_way(Change &change) noexcept {
         change.why = Left::evicted, change.renewed = false, change.evicted = true;
         if (!has_ended(*change.old, generations.now())) {
-            count(own_slot(), evictions);
+            count_beside_calls(own_slot(), evictions);
         }
     }
     // Removes what was put at that moment.

@@ -187,9 +187,18 @@ template <size_t Words> class Passes {
     template <class Call> auto call(Call made) noexcept { return call_by(own_slot(), made); }
     // The same with this slot, which `own_slot` returned.
     template <class Call> auto call_by(Slot<Words> *slot, Call made) noexcept { return slot != nullptr ? made(*slot) : call_shared(made); }
-    // Counts by such a slot.
+    // Counts by such a slot. No call of the index counts this, too: with the lock, which this doesn't take.
     [[gnu::always_inline]] void count(Slot<Words> *slot, Counted what, uint64_t number = 1) noexcept {
         slot != nullptr ? slot->count(what, number) : Counting::counter(slots_[0].handle).add_shared(what, number);
+    }
+    // Counts what calls of the index count, too.
+    void count_beside_calls(Slot<Words> *slot, Counted what) noexcept {
+        if (slot != nullptr) {
+            slot->count(what, 1);
+            return;
+        }
+        const std::lock_guard<std::mutex> guard(sharing_);
+        slots_[0].count(what, 1);
     }
 
     // How many keys all calls added, less those that they removed. Calls that run meanwhile count or not.
