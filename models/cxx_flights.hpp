@@ -14,7 +14,7 @@ struct CxxFlights : rl::test_suite<CxxFlights, 3> {
                                                            "release of the count", "lock around check and put", "lock of the change"};
 
     // The header's atomics and fences. The threads above 0 compute.
-    struct Parts {
+    struct Parts : explored::Flying {
         template <class T> struct Atomic : explored::Atomic<T> {
             using Own = explored::Atomic<T>;
             using Own::Own;
@@ -23,9 +23,6 @@ struct CxxFlights : rl::test_suite<CxxFlights, 3> {
                 return Own::fetch_sub(less, explored::without("release of the count") ? std::memory_order_relaxed : order);
             }
         };
-        using Mutex = explored::Mutex;
-        using Condition = explored::Condition;
-        static unsigned this_thread() { return explored::this_thread(); }
         static void fence() {
             if (!explored::without(explored::this_thread() == 0 ? "fence of the change" : "fence of the flight")) {
                 explored::fence();
@@ -36,6 +33,7 @@ struct CxxFlights : rl::test_suite<CxxFlights, 3> {
     enum { none, older, newer };
 
     explored::Atomic<int> store{older}, entry{none};
+    explored::Process process{};
     cefrodil::inside::FlightsOf<Parts> flights{};
     const cefrodil::inside::Identity key{1, 1};
 
@@ -47,7 +45,7 @@ struct CxxFlights : rl::test_suite<CxxFlights, 3> {
                 return found;
             }
             cefrodil::inside::FlightOf<Parts> flight(flights, key);
-            if (!flight.has_begun() && !flight.is_within()) {
+            if (!flight.has_begun() && !flight.is_alone()) {
                 continue;
             }
             if (const int found = find(); found != none) {

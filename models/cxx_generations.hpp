@@ -14,23 +14,14 @@ struct CxxGenerations : rl::test_suite<CxxGenerations, 3> {
     static constexpr std::array<std::string_view, 5> steps{"generation before the function", "lock of a put", "generation of an entry",
                                                            "release of the generation", "acquire of the generation"};
 
-    struct Parts {
-        template <class T> struct Atomic : explored::Atomic<T> {
-            using explored::Atomic<T>::Atomic;
-        };
-        using Mutex = explored::Mutex;
-        using Condition = explored::Condition;
-        static unsigned this_thread() { return explored::this_thread(); }
-        static void fence() { explored::fence(); }
-    };
-
     enum { none, older, newer, first_put, second_put };
 
     explored::Atomic<int> store{older};
     // A value and the generation before it, or 0.
     explored::Atomic<uint64_t> entry{0};
     cefrodil::inside::GenerationOf<explored::Counting> generation{};
-    cefrodil::inside::FlightsOf<Parts> flights{};
+    explored::Process process{};
+    cefrodil::inside::FlightsOf<explored::Flying> flights{};
     const cefrodil::inside::Identity key{1, 1};
     explored::Mutex lock{};
     explored::Plain<bool> was_found{false}; // the second put, before all was invalidated
@@ -66,7 +57,7 @@ struct CxxGenerations : rl::test_suite<CxxGenerations, 3> {
         if (find() != none) {
             return;
         }
-        cefrodil::inside::FlightOf<Parts> flight(flights, key);
+        cefrodil::inside::FlightOf<explored::Flying> flight(flights, key);
         const uint64_t begun = generation.now();
         if (!flight.has_begun() || find() != none) {
             return;

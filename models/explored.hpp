@@ -126,6 +126,24 @@ inline void fence_unless(std::string_view step) {
     }
 }
 
+// What all maps of a process share. Each run has its own.
+struct Process {
+    Process() { of_run = this; }
+    Mutex lock{};
+    cefrodil::inside::Wait *first_wait = nullptr;
+    static inline Process *of_run;
+};
+
+// Parts of flights.
+struct Flying {
+    template <class T> using Atomic = explored::Atomic<T>;
+    using Mutex = explored::Mutex;
+    using Condition = explored::Condition;
+    static unsigned this_thread() { return explored::this_thread(); }
+    static void fence() { explored::fence(); }
+    static Process &of_process() { return *Process::of_run; }
+};
+
 // Parts of a count of generations.
 struct Counting {
     template <class T> struct Atomic : explored::Atomic<T> {

@@ -73,7 +73,7 @@ struct MapOptions {
                               // 1,000 times at most, which takes over a tenth of a second.
 };
 
-// The answers of lookups, updates and puts are `Found` and `Stored`, in cefrodil/inside/table.hpp.
+// The answers of lookups and updates are `Found`, in cefrodil/inside/table.hpp. Those of puts are `Stored`, in cefrodil/inside/slot.hpp.
 
 // The answer of find_or_compute. `value` is a V. If the function returns an optional, so is `value`: it is empty if the function declined. If the status
 // is not ok, it says why the value was not put.
@@ -236,7 +236,7 @@ class map : public inside::AnyMap<inside::Opened<K, Hash, inside::Table<V, Times
     }
     // The same, with the value that it removed, if it is ok.
     [[nodiscard]] Found<V> extract(Key key) noexcept(never_throws) {
-        return change(key, Found<V>{Status::closed, std::nullopt}, [&](const auto &known) { return inner_->entries.extract(known); });
+        return change(key, Found<V>{Status::closed, std::nullopt}, [&](Entries &entries, const auto &known) { return entries.extract(known); });
     }
     // Replaces the value of a key that is there by what the function makes of it, `V function(const V &)`, and returns that. No other change is
     // lost: if another thread is first, the function is called again, with the newer value. The function may return a
@@ -266,8 +266,9 @@ class map : public inside::AnyMap<inside::Opened<K, Hash, inside::Table<V, Times
 
     // The key's value, or what the function computes, `V function()`, which is then put. Of several callers that miss the key one computes, and
     // the others wait for it; if its value is refused or its function throws, the next one computes. The function may call the map.
-    // It may return a `std::optional<V>`. If that is empty, nothing is put: declined. stale: the key was changed while the function ran, or this is a call
-    // by the function itself. present: another value was put meanwhile. Two functions that ask for each other's keys wait forever.
+    // It may return a `std::optional<V>`. If that is empty, nothing is put: declined. stale: the key was changed while the function ran, or the caller
+    // could not wait: the key's value is being computed by this thread, or by one that waits for what this thread computes, in any map. Then it computed
+    // for itself alone. present: another value was put meanwhile.
     template <class Function> [[nodiscard]] Computed<inside::Made<V, Function>> find_or_compute(Key key, Function function) {
         if (!inner_) {
             return {Status::closed, function(), true};
@@ -277,7 +278,7 @@ class map : public inside::AnyMap<inside::Opened<K, Hash, inside::Table<V, Times
         // The lookup that counts.
         for (Status status = inner_->entries.find(known, found); status != Status::ok; status = inner_->entries.seek(known, found)) {
             inside::Flight flight(inner_->entries.flights.of(known), known);
-            if (!flight.has_begun() && !flight.is_within()) {
+            if (!flight.has_begun() && !flight.is_alone()) {
                 continue;
             }
             const uint64_t generation = inner_->entries.generations.now();
@@ -336,21 +337,21 @@ class map : public inside::AnyMap<inside::Opened<K, Hash, inside::Table<V, Times
         return this->open_as(options, [&] { return std::make_unique<Inner>(std::move(hash), Times(lives...)); });
     }
     Stored put_if_absent(Key key, const V &value, const Life &life) noexcept(never_throws) {
-        return change(key, Stored{Status::closed, false, false}, [&](const auto &known) { return inner_->entries.put_if_absent(known, value, life); });
+        return change(key, Stored{Status::closed, false, false}, [&](Entries &entries, const auto &known) { return entries.put_if_absent(known, value, life); });
     }
     Stored put(Key key, const V &value, const Life &life) noexcept(never_throws) {
-        return change(key, Stored{Status::closed, false, false}, [&](const auto &known) { return inner_->entries.put(known, value, life); });
+        return change(key, Stored{Status::closed, false, false}, [&](Entries &entries, const auto &known) { return entries.put(known, value, life); });
     }
     // A flight may begin while the user's function runs: after another thread has removed the key. It may not see what the function does. So after
     // the function it is outdated, too.
     template <class Function> Found<V> update(Key key, const V *first, Function &function, const Life &life) {
-        return change(key, Found<V>{Status::closed, std::nullopt}, [&](const auto &known) {
+        return change(key, Found<V>{Status::closed, std::nullopt}, [&](Entries &entries, const auto &known) {
             const auto outdating = [&](const V &old) {
                 const inside::Made<V, Function, const V &> value = function(old);
-                inner_->entries.flights.outdate(known);
+                entries.flights.outdate(known);
                 return value;
             };
-            return inner_->entries.update(known, first, outdating, life);
+            return entries.update(known, first, outdating, life);
         });
     }
 
@@ -362,9 +363,10 @@ class map : public inside::AnyMap<inside::Opened<K, Hash, inside::Table<V, Times
         if (!inner_) {
             return closed;
         }
-        const inside::Identity known = inner_->identities.of(key);
-        inner_->entries.flights.outdate(known);
-        return make(known);
+        Inner &inner = *inner_;
+        const inside::Identity known = inner.identities.of(key);
+        inner.entries.flights.outdate(known);
+        return make(inner.entries, known);
     }
 
     // Each fault has one message. A type that is too large or not trivial gets no second one. Clang skips the members after a failed assertion, so

@@ -31,9 +31,9 @@
 //
 // This header is plain C++ and is not proved. The index below it is. The map's own part is an argument by hand: map/SAFETY.md of Cefrodil's repository.
 // Whoever finds an object keeps it until its call ends. An object that has left the map is freed by a later call that writes, once no call can have
-// found it. So a value's destructor runs in any thread that writes, and under no lock of the map. One whose every call removes the next object of a
-// chain needs stack for all of them. While a function of `look` or `look_many` runs, all objects that leave the map wait for it, above any bound, and so do up to 32 of
-// each thread that left shortly before. For anything that may block, take a `pin`: it keeps one object alone. `waiting` and `waiting_weight` say how
+// found it. So a value's destructor runs in any thread that writes, and under no lock of the map. It may call the map: what is freed then is freed once it
+// has ended. While a function of `look` or `look_many` runs, all objects that leave the map wait for it, above any bound, and so do up to 32 of each thread
+// that left shortly before. For anything that may block, take a `pin`: it keeps one object alone. `waiting` and `waiting_weight` say how
 // many objects wait, and `meter` does.
 //
 // Keys are compared. Two keys whose hashes of 64 bits are the same can't be in the map at once: the later one replaces the earlier.
@@ -280,7 +280,8 @@ class object_map : public inside::ObjectCalls<K, V, Hash, Equal> {
         return inner_ ? inner_->entries.erase_if(asked) : Erased{Status::closed, 0};
     }
 
-    // Frees what has left the map and no call can use any more. Other calls do so now and then. Returns how many objects.
+    // Frees what has left the map and no call can use any more. Other calls do so now and then. Returns how many objects. Within a destructor that runs
+    // because the map frees its object, it returns 0, and they are freed once the destructor has ended.
     size_t free_unused() noexcept { return inner_ ? inner_->entries.free_now() : 0; }
 
     // Changes the bound on the sum of the weights, and evicts what is too much. held: not all of it, as other threads were first; the next put goes on.

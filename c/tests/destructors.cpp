@@ -1,6 +1,7 @@
-// A value's destructor calls the map: here that of a value that was computed and is too heavy. So no call may wait for its flight any more.
+// A value's destructor calls the map.
 #include "cefrodil_object_map.hpp"
 #include "must.h"
+#include <utility>
 
 using cefrodil::Status;
 
@@ -32,7 +33,8 @@ void Value::compute_anew() {
     computed = map->find_or_compute(1, [] { return Value(2); }).value.weight;
 }
 
-int main() {
+// The value was computed and is too heavy. So no call may wait for its flight any more.
+static void of_a_heavy_value() {
     Map opened;
     map = &opened;
     Map::Rules rules;
@@ -47,5 +49,39 @@ int main() {
     };
     MUST(opened.find_or_compute(1, compute).status == Status::too_heavy && computed == 2);
     MUST(opened.look(1, [](const Value &value) { MUST(value.weight == 2); }) == Status::ok);
+}
+
+// Removes the next one of a chain, and has it freed.
+struct Link {
+    using Links = cefrodil::object_map<int, Link>;
+    Links *links;
+    int next;
+    Link(Links *its_links, int its_next) : links(its_links), next(its_next) {}
+    Link(Link &&other) noexcept : links(std::exchange(other.links, nullptr)), next(other.next) {}
+    ~Link() {
+        if (links != nullptr) {
+            static_cast<void>(links->erase(next));
+            static_cast<void>(links->free_unused());
+        }
+    }
+};
+
+// All links of a chain need the stack of one of them: in one map, or by turns in two.
+static void of_a_chain(bool is_in_two) {
+    constexpr int links = 100000;
+    Link::Links one, two;
+    MUST(one.open({4 * links}) == Status::ok && two.open({4 * links}) == Status::ok);
+    for (int n = 0; n < links; n++) {
+        MUST(one.insert(n, is_in_two ? Link(&two, n) : Link(&one, n + 1)).status == Status::ok);
+        MUST(!is_in_two || two.insert(n, Link(&one, n + 1)).status == Status::ok);
+    }
+    MUST(one.erase(0) == Status::ok && one.free_unused() == links);
+    MUST(one.size() == 0 && two.size() == 0 && one.waiting() == 0 && two.waiting() == 0);
+}
+
+int main() {
+    of_a_heavy_value();
+    of_a_chain(false);
+    of_a_chain(true);
     return outcome("destructors");
 }

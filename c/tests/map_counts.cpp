@@ -1,8 +1,8 @@
 // A map counts its own lookups, each once, whatever calls of the index it takes. So its hit rate is exact: of each kind of map, in threads that come and
 // go, and with passes that they share. Argument: by how much less to do.
 #include "cefrodil_object_map.hpp"
+#include "in_threads.hpp"
 #include "must.h"
-#include <algorithm>
 #include <atomic>
 #include <cstdlib>
 #include <thread>
@@ -117,15 +117,11 @@ template <class Map> static void another_key() {
 
 // So many threads look up keys of which half are there, and end. Those that find no pass share one.
 template <class Map> static void look_up_in_threads(Map &map, uint64_t lookups) {
-    std::vector<std::thread> running;
-    for (int n = 0; n < 6; n++) {
-        running.emplace_back([&] {
-            for (uint64_t key = 0; key < lookups; key++) {
-                MUST(map.contains(key % 20) == (key % 20 < 10));
-            }
-        });
-    }
-    std::for_each(running.begin(), running.end(), [](std::thread &thread) { thread.join(); });
+    in_threads(6, [&](size_t) {
+        for (uint64_t key = 0; key < lookups; key++) {
+            MUST(map.contains(key % 20) == (key % 20 < 10));
+        }
+    });
 }
 
 // Passes come back, and other threads take them: their counts stay. Also those of a map that is closed.
@@ -149,20 +145,31 @@ static void shared_counts(uint64_t counts) {
     cefrodil_shape shape{};
     cefrodil::inside::Passes<1> passes;
     MUST(cefrodil_shape_for_items(100, 1, &shape) == CEFRODIL_OK && passes.open(shape, 1, 1) == Status::ok);
-    std::atomic<int> ready{0};
-    std::vector<std::thread> running;
-    for (int n = 0; n < 4; n++) {
-        running.emplace_back([&] {
-            for (ready++; ready != 4;) {
-                std::this_thread::yield();
-            }
-            for (uint64_t count = 0; count < counts; count++) {
-                passes.count(nullptr, cefrodil::inside::misses, 1);
-            }
-        });
-    }
-    std::for_each(running.begin(), running.end(), [](std::thread &thread) { thread.join(); });
+    in_threads(4, [&](size_t) {
+        for (uint64_t count = 0; count < counts; count++) {
+            passes.count(nullptr, cefrodil::inside::misses, 1);
+        }
+    });
     MUST(passes.shared().meter().counts().misses == 4 * counts);
+}
+
+// The keys up to 1 have one number in the index. All others have numbers of their own.
+struct SomeMeet {
+    cefrodil::HashPair operator()(const uint64_t &key, const cefrodil::HashSecret &) const noexcept {
+        return {key < 2 ? 7 : key * 0x9e3779b97f4a7c15, key};
+    }
+};
+// Threads that share a pass evict at the same time, by the index and over a key with the same number: no eviction is lost.
+static void shared_evictions(uint64_t puts) {
+    cefrodil::object_map<uint64_t, uint64_t, SomeMeet> map;
+    MUST(map.open({100, 1, 1}) == Status::ok);
+    std::atomic<uint64_t> evicted{0};
+    in_threads(4, [&](size_t thread) {
+        for (uint64_t n = 0; n < puts; n++) {
+            evicted += map.insert_or_assign(thread < 2 ? n % 2 : 2 + n * 4 + thread, uint64_t(n)).evicted ? 1 : 0;
+        }
+    });
+    MUST(evicted > puts && map.meter().counts().evictions == evicted);
 }
 
 static void rates() {
@@ -185,6 +192,7 @@ int main(int argc, char **argv) {
         threads<Objects>(passes, 4000 / less / 20 * 20);
     }
     shared_counts(2000000 / less);
+    shared_evictions(50000 / less);
     rates();
     return outcome("map_counts");
 }

@@ -1,5 +1,6 @@
 // Threads write a map that is full: no removal is undone, no update is lost, and no key counts twice.
 #include "cefrodil_map.hpp"
+#include "in_threads.hpp"
 #include "must.h"
 #include <algorithm>
 #include <cstdlib>
@@ -11,24 +12,6 @@ using cefrodil::Status;
 using Numbers = cefrodil::map<uint64_t, uint64_t>;
 
 static constexpr uint64_t threads = 4;
-
-// With an argument the rounds of the tests are so many times fewer, for valgrind.
-static uint64_t fewer = 1;
-
-// Runs a function in each thread. They begin together. It gets the thread's number.
-template <class Function> static void in_threads(Function function) {
-    std::atomic<uint64_t> waiting{threads};
-    std::vector<std::thread> all;
-    for (uint64_t thread = 0; thread < threads; thread++) {
-        all.emplace_back([&, thread] {
-            for (waiting--; waiting != 0;) {
-                std::this_thread::yield();
-            }
-            function(thread);
-        });
-    }
-    std::for_each(all.begin(), all.end(), [](std::thread &each) { each.join(); });
-}
 
 static uint64_t next_random(uint64_t &state) {
     state = state * 6364136223846793005u + 1442695040888963407u;
@@ -50,7 +33,7 @@ static void no_lookup_is_older_than_a_write_that_has_returned(uint32_t passes) {
     open_full(numbers, 60, passes);
     std::atomic<uint64_t> written[threads][keys]{}, found[threads]{}, older{0};
     const uint64_t rounds = 6000 / fewer;
-    in_threads([&](uint64_t thread) {
+    in_threads(threads, [&](uint64_t thread) {
         uint64_t state = thread + 1;
         for (uint64_t number = 1; number < rounds; number++) {
             const uint64_t own = next_random(state) % keys, key = thread * keys + own;
@@ -76,7 +59,7 @@ static void no_update_is_lost() {
     MUST(counts.open({40, 1}) == Status::ok);
     std::atomic<uint64_t> beginnings{0};
     std::vector<std::tuple<uint64_t, uint64_t, uint64_t>> made[threads], all;
-    in_threads([&](uint64_t thread) {
+    in_threads(threads, [&](uint64_t thread) {
         uint64_t state = thread + 1;
         for (uint64_t number = 0; number < 6000 / fewer; number++) {
             const uint64_t key = next_random(state) % 6;
@@ -99,7 +82,7 @@ static void no_update_is_lost() {
 static void sizes_stay_right() {
     Numbers numbers;
     open_full(numbers, 100);
-    in_threads([&](uint64_t thread) {
+    in_threads(threads, [&](uint64_t thread) {
         uint64_t state = thread + 1;
         for (uint64_t number = 0; number < 20000 / fewer; number++) {
             const uint64_t key = next_random(state) % 300;

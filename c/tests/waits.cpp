@@ -1,103 +1,11 @@
 // Calls of a map that other threads keep from their turn. They are repeated: at first they spin, then they yield, and then they sleep. No other
-// thread is needed: functions of this file stand in for some calls of the index and of the system.
-#include "cefrodil.h"
+// thread is needed: functions stand in for some calls of the index (stand_ins.hpp) and of the system.
 #include "must.h"
+#include "stand_ins.hpp"
 #include <sched.h>
 #include <sys/syscall.h>
 #include <time.h>
 #include <unistd.h>
-
-// How many calls of the index are disturbed from now on, and how many calls were made.
-static uint32_t disturbed = 0, made = 0;
-
-static bool is_disturbed() {
-    made++;
-    return disturbed != 0 && disturbed-- != 0;
-}
-static cefrodil_status some_get_or_turn(cefrodil_handle *pass, uint64_t key, uint64_t *value, size_t words, cefrodil_reply *reply) {
-    *reply = cefrodil_reply{};
-    return is_disturbed() ? cefrodil_status(CEFRODIL_BUSY) : cefrodil_get_or_turn_of_width(pass, key, value, words, reply);
-}
-static cefrodil_status some_put(cefrodil_handle *pass, uint64_t key, const uint64_t *value, size_t words, cefrodil_reply *reply) {
-    *reply = cefrodil_reply{};
-    return is_disturbed() ? cefrodil_status(CEFRODIL_HELD) : cefrodil_put_of_width(pass, key, value, words, reply);
-}
-// Before so many removals on a condition the key is put anew, as by another thread. Before so many puts on a condition the entry is.
-static uint32_t overtaken = 0, overtaken_puts = 0;
-// Before so many puts of absent keys the key is put with the value 99, and before so many removals the key is removed, as by another thread. It is
-// also removed before so many puts and removals on a condition.
-static uint32_t put_before = 0, removed_before = 0, removed_before_condition = 0;
-
-static void remove_before_condition(cefrodil_handle *pass, uint64_t key, cefrodil_reply *reply) {
-    if (removed_before_condition != 0) {
-        removed_before_condition--;
-        MUST(cefrodil_remove(pass, key, reply) == CEFRODIL_OK);
-    }
-}
-
-static cefrodil_status some_take_if(cefrodil_handle *pass, uint64_t key, uint64_t since, uint64_t *old, size_t words, cefrodil_reply *reply) {
-    if (overtaken != 0) {
-        overtaken--;
-        MUST(cefrodil_get_or_turn_of_width(pass, key, old, words, reply) == CEFRODIL_OK);
-        MUST(cefrodil_put_of_width(pass, key, old, words, reply) == CEFRODIL_OK);
-    }
-    remove_before_condition(pass, key, reply);
-    return cefrodil_take_if(pass, key, since, old, words, reply);
-}
-static cefrodil_status some_put_if(cefrodil_handle *pass, uint64_t key, uint64_t since, const uint64_t *value, size_t words, cefrodil_reply *reply) {
-    if (overtaken_puts != 0) {
-        overtaken_puts--;
-        uint64_t same[2];
-        MUST(words == 2 && cefrodil_get_or_turn_of_width(pass, key, same, 2, reply) == CEFRODIL_OK);
-        MUST(cefrodil_put_of_width(pass, key, same, 2, reply) == CEFRODIL_OK);
-    }
-    remove_before_condition(pass, key, reply);
-    return cefrodil_put_if(pass, key, since, value, words, reply);
-}
-static cefrodil_status some_put_if_absent(cefrodil_handle *pass, uint64_t key, const uint64_t *value, size_t words, cefrodil_reply *reply) {
-    if (put_before != 0) {
-        put_before--;
-        const uint64_t other[2] = {value[0], 99};
-        MUST(words == 2 && cefrodil_put_of_width(pass, key, other, 2, reply) == CEFRODIL_OK);
-    }
-    return cefrodil_put_if_absent(pass, key, value, words, reply);
-}
-// So many removals are held.
-static uint32_t held_removals = 0;
-
-static cefrodil_status some_remove(cefrodil_handle *pass, uint64_t key, cefrodil_reply *reply) {
-    if (removed_before != 0) {
-        removed_before--;
-        MUST(cefrodil_remove(pass, key, reply) == CEFRODIL_OK);
-    }
-    *reply = cefrodil_reply{};
-    if (held_removals != 0) {
-        held_removals--;
-        return CEFRODIL_HELD;
-    }
-    return is_disturbed() ? cefrodil_status(CEFRODIL_HELD) : cefrodil_remove(pass, key, reply);
-}
-static cefrodil_status some_entries(cefrodil_handle *pass, uint64_t *entries, size_t words, uint64_t *count) {
-    return is_disturbed() ? cefrodil_status(CEFRODIL_HELD) : cefrodil_entries_or_none(pass, entries, words, count);
-}
-// Each key counts as a call.
-static cefrodil_status some_get_many(cefrodil_handle *pass, const uint64_t *keys, size_t count, uint64_t *values, size_t words,
-                                     cefrodil_answer *answers, size_t answer_count) {
-    const cefrodil_status status = cefrodil_get_many_or_none(pass, keys, count, values, words, answers, answer_count);
-    for (size_t i = 0; i < count; i++) {
-        answers[i].status = is_disturbed() ? uint32_t(CEFRODIL_BUSY) : answers[i].status;
-    }
-    return status;
-}
-#define cefrodil_get_or_turn_of_width some_get_or_turn
-#define cefrodil_put_of_width some_put
-#define cefrodil_get_many_or_none some_get_many
-#define cefrodil_entries_or_none some_entries
-#define cefrodil_remove some_remove
-#define cefrodil_take_if some_take_if
-#define cefrodil_put_if some_put_if
-#define cefrodil_put_if_absent some_put_if_absent
-#include "cefrodil_map.hpp"
 
 using cefrodil::Status;
 
@@ -124,12 +32,6 @@ extern "C" int clock_gettime(clockid_t clock, struct timespec *time) noexcept {
 // Whether the waits since the last call of this were so many yields, and so many sleeps of 100 microseconds.
 static bool waited(uint64_t yielded, uint64_t slept) {
     return std::exchange(yields, 0) == yielded && std::exchange(nanoseconds, 0) == 100000 * slept;
-}
-
-// A call after which so many calls of the index are disturbed.
-static void disturb(uint32_t calls) {
-    made = 0;
-    disturbed = calls;
 }
 
 static void waits() {
@@ -176,98 +78,6 @@ static void lookups() {
     disturb(1001);
     const auto found = map.find_or_compute(1, [] { return 99; });
     MUST(found.status == Status::ok && found.value == 10 && !found.computed && made == 1002 && waited(193, 800));
-}
-
-// An erasure that is overtaken each time says so, and the key is still there.
-static void overtaken_erasures() {
-    cefrodil::map<int, int> map;
-    MUST(map.open({100, 1, 8, 5}) == Status::ok && map.insert(1, 10).status == Status::ok);
-    overtaken = 6;
-    MUST(map.erase(1) == Status::changed && overtaken == 0 && map.find(1) == 10 && map.size() == 1);
-    overtaken = 5;
-    MUST(map.erase(1) == Status::ok && overtaken == 0 && !map.find(1) && map.size() == 0);
-}
-
-// A key that another thread removes first is absent, and nothing brings it back.
-static void overtaken_by_removals() {
-    cefrodil::map<int, int> map;
-    const auto never = [](int old) { return old + 1; };
-    MUST(map.open({100, 1, 8, 5}) == Status::ok && map.insert(1, 10).status == Status::ok);
-    // The other thread counts its removal itself.
-    MUST(map.insert(2, 20).status == Status::ok);
-    removed_before_condition = 1;
-    MUST(map.erase(1) == Status::absent && removed_before_condition == 0 && !map.find(1) && map.size() == 2);
-    MUST(map.insert(1, 10).status == Status::ok);
-    removed_before_condition = 1;
-    const auto updated = map.update(1, never);
-    MUST(updated.status == Status::absent && !updated.value && removed_before_condition == 0 && !map.find(1));
-    MUST(map.insert(1, 10).status == Status::ok);
-    removed_before_condition = 1;
-    const auto first = map.update_or_insert(1, 7, never);
-    MUST(first.status == Status::ok && first.value == 7 && removed_before_condition == 0 && map.find(1) == 7);
-}
-
-// What another thread puts right before the put of a computed or a first value stays.
-static void overtaken_first_values() {
-    cefrodil::map<int, int> map;
-    MUST(map.open({100}) == Status::ok);
-    put_before = 1;
-    const auto computed = map.find_or_compute(1, [] { return 10; });
-    MUST(computed.status == Status::present && computed.value == 10 && computed.computed && put_before == 0 && map.find(1) == 99);
-    put_before = 1;
-    MUST(map.insert(2, 20).status == Status::present && put_before == 0 && map.find(2) == 99);
-    put_before = 1;
-    MUST(map.update_or_insert(3, 30, [](int old) { return old + 1; }).value == 100 && put_before == 0 && map.find(3) == 100);
-}
-
-// A hash by which all keys have one number in the index.
-struct Meeting {
-    cefrodil::HashPair operator()(const int &key, const cefrodil::HashSecret &) const noexcept { return {7, uint64_t(unsigned(key))}; }
-};
-
-// A put on the condition that the entry is still the same is repeated if it is not: that of an update, and that over another key's entry.
-static void overtaken_puts_on_a_condition() {
-    cefrodil::map<int, int, Meeting> map;
-    MUST(map.open({100, 1, 8, 5}) == Status::ok && map.insert(1, 10).status == Status::ok);
-    int calls = 0;
-    const auto one_more = [&](int old) { return calls++, old + 1; };
-    overtaken_puts = 5;
-    MUST(map.update(1, one_more).value == 11 && calls == 6 && overtaken_puts == 0);
-    overtaken_puts = 6;
-    MUST(map.update(1, one_more).status == Status::changed && calls == 12 && overtaken_puts == 0 && map.find(1) == 11);
-    overtaken_puts = 6;
-    MUST(map.insert(2, 20).status == Status::changed && overtaken_puts == 0 && map.find(1) == 11 && !map.find(2));
-    overtaken_puts = 5;
-    const auto inserted = map.insert(2, 20);
-    MUST(inserted.status == Status::ok && inserted.evicted && overtaken_puts == 0 && map.find(2) == 20 && !map.find(1) && map.size() == 1);
-}
-
-// The other key's entry is removed before the put over it. An insert that may not try again says `changed`, and another one finds the place free.
-static void overtaken_puts_over_another_key() {
-    cefrodil::map<int, int, Meeting> once, map;
-    MUST(once.open({100, 1, 8, 0}) == Status::ok && once.insert(1, 10).status == Status::ok);
-    removed_before_condition = 1;
-    MUST(once.insert(2, 20).status == Status::changed && removed_before_condition == 0 && !once.find(1) && !once.find(2));
-    MUST(once.insert(1, 10).status == Status::ok);
-    removed_before_condition = 1;
-    const auto first = once.update_or_insert(2, 20, [](int old) { return old; });
-    MUST(first.status == Status::changed && !first.value && !once.find(2));
-    MUST(map.open({100, 1, 8, 5}) == Status::ok && map.insert(1, 10).status == Status::ok);
-    removed_before_condition = 1;
-    const auto inserted = map.insert(2, 20);
-    MUST(inserted.status == Status::ok && !inserted.renewed && !inserted.evicted && map.find(2) == 20);
-}
-
-// `clear` goes on if another thread removes a key first.
-static void overtaken_clear() {
-    cefrodil::map<int, int> map;
-    MUST(map.open({100, 1}) == Status::ok);
-    for (int key = 0; key < 3; key++) {
-        MUST(map.insert(key, key).status == Status::ok);
-    }
-    disturb(0);
-    removed_before = 1;
-    MUST(map.clear() == Status::ok && made == 4 && removed_before == 0 && !map.contains(0) && !map.contains(1) && !map.contains(2));
 }
 
 // A thread may note that it removed a key before the one that put it has noted that. There are never fewer keys than none.
@@ -387,12 +197,6 @@ int main() {
     calls({100}, 10000, 193, 9800);
     calls({100, 16, 64, 50}, 50, 43, 0);
     lookups();
-    overtaken_erasures();
-    overtaken_by_removals();
-    overtaken_first_values();
-    overtaken_puts_on_a_condition();
-    overtaken_puts_over_another_key();
-    overtaken_clear();
     removed_before_it_counts();
     held_clear();
     clear_that_waits();

@@ -59,6 +59,17 @@ template <size_t Words> class Entries : public Turns<Words> {
         return Status::ok;
     }
 
+    // Takes by `take` what `find` finds, by the moment of its put, and finds again if others were first. Unless `find` is ok, its status is the answer.
+    template <class Find, class Take> Status take_found(const Find &find, const Take &take) {
+        for (uint32_t repeat = 0;; repeat++) {
+            const Seen seen = find();
+            const Status status = seen.status == Status::ok ? take(seen.since) : seen.status;
+            if (status != Status::changed || repeat >= this->tries()) {
+                return status;
+            }
+        }
+    }
+
   protected:
     // Looks a few keys up.
     void get_few(const Identity *keys, size_t count, std::array<uint64_t, Words> *found, cefrodil_answer *answers) noexcept {
@@ -83,19 +94,14 @@ template <size_t Words> class Entries : public Turns<Words> {
         }
         return status;
     }
-    // Under each number that is listed, removes by `take` what `find` finds, and finds again if others were first. Outdates what is being computed.
+    // Under each number that is listed, removes by `take` what `find` finds. Outdates what is being computed.
     template <class Find, class Take> Erased erase_each(Find find, Take take) {
         flights.outdate_all();
         Erased erased{Status::ok, 0};
         erased.status = each_listed([&](uint64_t index, const auto &) {
-            for (uint32_t repeat = 0;; repeat++) {
-                const Seen seen = find(index);
-                const Status status = seen.status == Status::ok ? take(index, seen.since) : seen.status;
-                erased.count += status == Status::ok ? 1 : 0;
-                if (status != Status::changed || repeat >= this->tries()) {
-                    return status == Status::changed ? Status::held : status;
-                }
-            }
+            const Status status = take_found([&] { return find(index); }, [&](uint64_t since) { return take(index, since); });
+            erased.count += status == Status::ok ? 1 : 0;
+            return status == Status::changed ? Status::held : status;
         });
         return erased;
     }

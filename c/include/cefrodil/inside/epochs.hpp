@@ -15,6 +15,7 @@
 #include <limits>
 #include <mutex>
 #include <numeric>
+#include <utility>
 #include <vector>
 
 namespace cefrodil::inside {
@@ -23,6 +24,45 @@ namespace cefrodil::inside {
 struct Retired {
     Retired *next = nullptr;
     uint64_t epoch = 0;
+};
+
+// What a call frees, on its stack. A destructor may call, too. What that call would free of the same map, it adds to the outer one's. So a chain of
+// destructors takes no more stack than one of them.
+class Freeing {
+  public:
+    Freeing(const void *map, Retired *first) noexcept : map_(map), first_(first), outer_(innermost()) { innermost() = this; }
+    Freeing(const Freeing &) = delete;
+    Freeing &operator=(const Freeing &) = delete;
+    ~Freeing() { innermost() = outer_; }
+
+    // What this thread frees of this map, or null.
+    static Freeing *of(const void *map) noexcept {
+        Freeing *freeing = innermost();
+        while (freeing != nullptr && freeing->map_ != map) {
+            freeing = freeing->outer_;
+        }
+        return freeing;
+    }
+    // Adds these, each with the next one.
+    void add(Retired *first) noexcept {
+        Retired **last = &first;
+        while (*last != nullptr) {
+            last = &(*last)->next;
+        }
+        *last = std::exchange(first_, first);
+    }
+    // One that is to be freed, or null.
+    Retired *next() noexcept { return first_ == nullptr ? nullptr : std::exchange(first_, first_->next); }
+
+  private:
+    static Freeing *&innermost() noexcept {
+        static thread_local Freeing *freeing = nullptr;
+        return freeing;
+    }
+
+    const void *const map_;
+    Retired *first_;
+    Freeing *const outer_;
 };
 
 // The calls that are pinned, and the objects that wait for them.

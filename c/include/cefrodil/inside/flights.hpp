@@ -1,11 +1,12 @@
 // Computations under way, for both maps: of several callers that miss a key, one computes its value, and the others wait for it. If the
-// key is changed meanwhile, the value may be older than the change, and is not put. Nor is what a computation computes for its own key.
+// key is changed meanwhile, the value may be older than the change, and is not put. Nor is what a caller computes that can't wait.
 #ifndef CEFRODIL_INSIDE_FLIGHTS_HPP
 #define CEFRODIL_INSIDE_FLIGHTS_HPP
 
 #include "handle.hpp"
 #include "hash.hpp"
 #include "threads.hpp"
+#include "waits.hpp"
 #include <algorithm>
 #include <array>
 #include <cstddef>
@@ -67,9 +68,8 @@ template <class Parts> class FlightOf {
     // Begins, or waits for the end of another thread's flight for this key.
     FlightOf(FlightsOf<Parts> &flights, const Identity &key) : flights_(flights), key_(key) {
         std::unique_lock<typename Parts::Mutex> guard(flights_.lock_);
-        if (const FlightOf *const other = flights_.flight_of(key_)) {
-            is_within_ = other->thread_ == thread_;
-            flights_.ended_.wait(guard, [&] { return is_within_ || flights_.flight_of(key_) == nullptr; });
+        if (FlightOf *const other = flights_.flight_of(key_)) {
+            is_alone_ = !waits_for(*other, guard);
             return;
         }
         next_ = flights_.first_;
@@ -84,8 +84,8 @@ template <class Parts> class FlightOf {
     ~FlightOf() { end(); }
 
     bool has_begun() const noexcept { return has_begun_; }
-    // Whether this thread's flight for this key calls this one. Then it computes for itself alone.
-    bool is_within() const noexcept { return is_within_; }
+    // Whether it can't wait: the flight for this key is of this thread, or of one that waits for this thread. Then it computes for itself alone.
+    bool is_alone() const noexcept { return is_alone_; }
 
     // From now on no call waits for it.
     void end() {
@@ -101,23 +101,38 @@ template <class Parts> class FlightOf {
         *link = next_;
         // Release: who reads the count sees what this flight has put.
         flights_.count_.fetch_sub(1, std::memory_order_release);
-        flights_.ended_.notify_all();
+        if (is_awaited_) {
+            WaitsOf<Parts>::end(this);
+            flights_.ended_.notify_all();
+        }
     }
 
     // Puts what was computed by this call, unless the key was changed since the flight began. A change that begins meanwhile waits.
     template <class Put> [[nodiscard]] Status land(Put put) {
         const std::lock_guard<typename Parts::Mutex> guard(flights_.lock_);
-        return is_outdated_ || is_within_ ? Status::stale : put();
+        return is_outdated_ || is_alone_ ? Status::stale : put();
     }
 
   private:
     friend FlightsOf<Parts>;
+    // Waits for the end of another flight, unless it would wait for this thread.
+    bool waits_for(FlightOf &other, std::unique_lock<typename Parts::Mutex> &guard) {
+        Wait wait{thread_, other.thread_, &other};
+        if (!WaitsOf<Parts>::begin(wait)) {
+            return false;
+        }
+        other.is_awaited_ = true;
+        flights_.ended_.wait(guard, [&wait] { return wait.is_over; });
+        return true;
+    }
+
     FlightsOf<Parts> &flights_;
     const Identity key_;
     const decltype(Parts::this_thread()) thread_ = Parts::this_thread();
     FlightOf *next_ = nullptr;
     bool has_begun_ = false;
-    bool is_within_ = false;
+    bool is_alone_ = false;
+    bool is_awaited_ = false; // nobody else waits, so its end takes no lock of the process
     bool is_outdated_ = false;
 };
 

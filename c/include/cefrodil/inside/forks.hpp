@@ -15,8 +15,9 @@
 namespace cefrodil::inside {
 
 class Owned;
+struct Wait;
 
-// What this process owns. A shared library that hides its symbols has one of its own.
+// What this process owns, and who waits in it (waits.hpp). A shared library that hides its symbols has one of its own.
 class Ownings {
   public:
     static Ownings &of_library() noexcept {
@@ -33,6 +34,7 @@ class Ownings {
     unsigned long forks() const noexcept { return forks_; }
     std::mutex lock{};
     Owned *first = nullptr;
+    Wait *first_wait = nullptr;
 
   private:
     // What the parent owned.
@@ -109,6 +111,7 @@ class Owned {
 inline void Ownings::in_child() {
     Ownings &ownings = of_library();
     ownings.forks_++;
+    ownings.first_wait = nullptr;
     for (Owned *each = std::exchange(ownings.first, nullptr); each != nullptr; each = each->next_) {
         void *const at = std::exchange(each->at_, nullptr);
         Kept *const kept = new (std::nothrow) Kept{at, ownings.kept_};
@@ -133,6 +136,7 @@ template <class T> class OwnedPointer : Owned {
 
     explicit operator bool() const noexcept { return get() != nullptr; }
     T *operator->() const noexcept { return static_cast<T *>(get()); }
+    T &operator*() const noexcept { return *static_cast<T *>(get()); }
     // Null before. False without memory.
     [[nodiscard]] bool own(std::unique_ptr<T> &&made) noexcept { return Owned::own(made.get()) && made.release() != nullptr; }
     // Destroys what is owned. Whether anything was.

@@ -59,21 +59,23 @@ template <class K, class V, class Hash, class Equal> class ObjectCalls : public 
             return Status::closed;
         }
         const Identity known = inner_->identities.of(key);
-        inner_->entries.flights.outdate(known);
-        for (uint32_t repeat = 0;; repeat++) {
-            const Seen seen = look_to_take(known, key);
-            if (seen.object == nullptr) {
-                return seen.status;
-            }
-            Change change(inner_->entries);
-            const Status status = inner_->entries.take(known.index, seen.since, change);
-            if (status == Status::ok && seen.status == Status::ok) {
+        Objects &objects = inner_->entries;
+        objects.flights.outdate(known);
+        Status seen = Status::absent;
+        const auto find = [&] {
+            const Seen found = look_to_take(known, key);
+            seen = found.status;
+            return inside::Seen{found.object != nullptr ? Status::ok : seen, found.since};
+        };
+        const Status status = objects.take_found(find, [&](uint64_t since) {
+            Change change(objects);
+            const Status taken = objects.take(known.index, since, change);
+            if (taken == Status::ok && seen == Status::ok) {
                 see(*change.old);
             }
-            if (status != Status::changed || repeat >= inner_->entries.tries()) {
-                return status == Status::ok ? seen.status : status;
-            }
-        }
+            return taken;
+        });
+        return status == Status::ok ? seen : status;
     }
     // The key's object, for its removal, which does not begin its time to idle anew. If it has ended it is absent, but is removed all the same: an update that found it before
     // must not renew it.
@@ -160,7 +162,7 @@ template <class K, class V, class Hash, class Equal> class ObjectCalls : public 
                 flight.end();
                 return {Status::ok, std::move(found), false};
             }
-            if (flight.has_begun() || flight.is_within()) {
+            if (flight.has_begun() || flight.is_alone()) {
                 return make(object, begun, [&] {
                     const Status status = object ? flight.land([&] { return put_new(known, key, object, change, true); }) : Status::no_memory;
                     flight.end();

@@ -155,7 +155,7 @@ template <class K, class V> class Objects : public Entries<1>, public ObjectMake
     void gave_way(Change &change) noexcept {
         change.why = Left::evicted, change.renewed = false, change.evicted = true;
         if (!has_ended(*change.old, generations.now())) {
-            count(own_slot(), evictions);
+            count_beside_calls(own_slot(), evictions);
         }
     }
     // Removes what was put at that moment.
@@ -354,11 +354,19 @@ template <class K, class V> class Objects : public Entries<1>, public ObjectMake
         }
         return Status::ok;
     }
+    // Returns how many objects it has freed. Those that it leaves to an outer call are not among them.
     size_t free(Retired *first) noexcept {
+        if (first == nullptr) {
+            return 0;
+        }
+        if (Freeing *const outer = Freeing::of(this)) {
+            outer->add(first);
+            return 0;
+        }
+        Freeing all(this, first);
         size_t count = 0;
-        for (Retired *next = nullptr; first != nullptr; first = next, count++) {
-            next = first->next;
-            const Own object(static_cast<Each *>(first));
+        for (Retired *next = all.next(); next != nullptr; next = all.next(), count++) {
+            const Own object(static_cast<Each *>(next));
             count_waiting(own_slot(), *object, -1);
         }
         return count;

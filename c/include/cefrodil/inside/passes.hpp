@@ -3,8 +3,8 @@
 #ifndef CEFRODIL_INSIDE_PASSES_HPP
 #define CEFRODIL_INSIDE_PASSES_HPP
 
-#include "../../cefrodil.hpp"
 #include "forks.hpp"
+#include "slot.hpp"
 #include "threads.hpp"
 #include <algorithm>
 #include <array>
@@ -139,21 +139,6 @@ class Claims {
     std::unordered_map<std::shared_ptr<FreePasses>, size_t> claims_{};
 };
 
-// A handle with what its thread alone writes, in pairs of cache lines of its own.
-template <size_t Words> struct alignas(128) Slot {
-    Handle<Words> handle{};
-    // How many keys its calls added, less those that they removed. It is only added up, so its steps need no order.
-    std::atomic<int64_t> keys{0};
-
-    void add(int64_t more) noexcept { keys.store(keys.load(std::memory_order_relaxed) + more, std::memory_order_relaxed); }
-    // Counts so many more. Other threads may count by the shared slot, so call this only if the slot is the thread's own, or is locked.
-    [[gnu::always_inline]] void count(Counted what, uint64_t number) noexcept { Counting::counter(handle).add(what, number); }
-    // Like Handle::get_or_turn, but a value that is found is written where it stays, and nothing is counted.
-    Status look(uint64_t key, std::array<uint64_t, Words> &value, cefrodil_reply &reply) noexcept {
-        return static_cast<Status>(cefrodil_get_or_turn_of_width(handle.raw(), key, value.data(), Words, &reply));
-    }
-};
-
 // The passes of an index. All but opening and ending may be called by any thread.
 template <size_t Words> class Passes {
   public:
@@ -202,9 +187,18 @@ template <size_t Words> class Passes {
     template <class Call> auto call(Call made) noexcept { return call_by(own_slot(), made); }
     // The same with this slot, which `own_slot` returned.
     template <class Call> auto call_by(Slot<Words> *slot, Call made) noexcept { return slot != nullptr ? made(*slot) : call_shared(made); }
-    // Counts by such a slot.
+    // Counts by such a slot. No call of the index counts this, too: with the lock, which this doesn't take.
     [[gnu::always_inline]] void count(Slot<Words> *slot, Counted what, uint64_t number = 1) noexcept {
         slot != nullptr ? slot->count(what, number) : Counting::counter(slots_[0].handle).add_shared(what, number);
+    }
+    // Counts what calls of the index count, too.
+    void count_beside_calls(Slot<Words> *slot, Counted what) noexcept {
+        if (slot != nullptr) {
+            slot->count(what, 1);
+            return;
+        }
+        const std::lock_guard<std::mutex> guard(sharing_);
+        slots_[0].count(what, 1);
     }
 
     // How many keys all calls added, less those that they removed. Calls that run meanwhile count or not.

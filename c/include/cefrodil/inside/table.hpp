@@ -22,15 +22,6 @@ template <class V> struct Found {
     std::optional<V> value;
 };
 
-// The answer of a put. `renewed`: it overwrote the key's value; or, by `insert_or_assign`, that of a key with the same hash, which is lost.
-// `evicted`: another key's entry is lost. An entry that has expired or was put before invalidate_all counts as another key's, but for
-// `insert_or_assign`.
-struct Stored {
-    Status status;
-    bool renewed;
-    bool evicted;
-};
-
 namespace inside {
 
 // How an entry lies in the words of the index: the check word of its key, the moments at which it ends, if it has any, and then its value.
@@ -41,9 +32,10 @@ template <class V, size_t Moments> struct Packing {
     using Ends = std::array<uint64_t, Moments>;
 
     static Words pack(const Identity &key, const Ends &ends, const V &value) noexcept {
-        Words packed{key.check};
-        const auto own = words_from(value);
-        std::copy(own.begin(), own.end(), packed.begin() + 1 + Moments);
+        Words packed;
+        packed[0] = key.check;
+        packed.back() = 0; // if the value has part of it
+        std::memcpy(packed.data() + 1 + Moments, static_cast<const void *>(std::addressof(value)), sizeof(V));
         set_ends(packed, ends);
         return packed;
     }
@@ -160,7 +152,9 @@ class Table : public Entries<Packing<V, Times::moments>::words>, private Packing
     // Puts whatever is there. The generation is read with the key's lock, so what gives way is of no newer one.
     Stored put(const Identity &key, const V &value, const Life &life = {}) noexcept {
         const Ends ends = Times::ends(life);
-        return stored(this->write(key.index, [&](Handle<words> &handle) { return handle.try_put(key.index, pack_in(generations.now(), key, ends, value)); }));
+        return this->locked(key.index, [this, key, ends, &value](Slot<words> &slot) {
+            return slot.put(key.index, pack_in(generations.now(), key, ends, value));
+        });
     }
     // Puts if the key is absent. An entry of an older generation gives way, and so does another key's entry under the same number.
     Stored put_if_absent(const Identity &key, const V &value, const Life &life = {}) noexcept {
@@ -199,26 +193,20 @@ class Table : public Entries<Packing<V, Times::moments>::words>, private Packing
 
     // Returns what it removed. An entry that has expired is absent, but is removed all the same: an update that found it before must not renew it.
     Found<V> extract(const Identity &key) noexcept {
-        for (uint32_t repeat = 0;; repeat++) {
-            const Entry entry = look(now(key));
-            if (entry.status != Status::ok && !entry.has_expired) {
-                return {entry.status, std::nullopt};
-            }
-            const Status status = take_if(key.index, entry.since);
-            if (status == Status::ok) {
-                return {entry.status, entry.value};
-            }
-            if (status != Status::changed || repeat >= this->tries()) {
-                return {status, std::nullopt};
-            }
-        }
+        Entry entry{};
+        const auto find = [&] {
+            entry = look(now(key));
+            return Seen{entry.has_expired ? Status::ok : entry.status, entry.since};
+        };
+        const Status status = this->take_found(find, [&](uint64_t since) { return take_if(key.index, since); });
+        return status == Status::ok ? Found<V>{entry.status, entry.value} : Found<V>{status, std::nullopt};
     }
 
     // Removes each key that is listed.
     Status clear() noexcept {
         this->flights.outdate_all();
         return each_listed([this](uint64_t index, const Words &) {
-            return this->removal(index, [&](Handle<words> &handle) { return handle.try_remove(index).status; });
+            return this->locked(index, [index](Slot<words> &slot) { return slot.remove(index); });
         });
     }
     // Calls with the number and the words of each entry that has not expired.
@@ -301,13 +289,13 @@ class Table : public Entries<Packing<V, Times::moments>::words>, private Packing
     }
     // Puts if the key is absent, as an entry of the generation that `begun()` says at each try. stale: that has ended.
     template <class Begun> Stored put_new(const Identity &key, const V &value, const Ends &ends, const Begun &begun) noexcept {
-        const auto make = [&](Handle<words> &handle) {
+        const auto make = [this, key, ends, begun, &value](Slot<words> &slot) {
             const uint64_t generation = begun();
             const bool goes_on = generation == generations.now();
-            return goes_on ? handle.try_put_if_absent(key.index, pack_in(generation, key, ends, value)) : refusal<Written>(Status::stale);
+            return goes_on ? slot.put_if_absent(key.index, pack_in(generation, key, ends, value)) : refusal<Stored>(Status::stale);
         };
         for (uint32_t repeat = 0;; repeat++) {
-            const Stored put = stored(this->write(key.index, make));
+            const Stored put = this->locked(key.index, make);
             if (put.status != Status::present) {
                 return put;
             }
@@ -329,12 +317,11 @@ class Table : public Entries<Packing<V, Times::moments>::words>, private Packing
             }
         }
     }
-    static Stored stored(const Written &written) noexcept { return {written.status, written.renewed, written.evicted.has_value()}; }
     Status put_over(const Identity &key, uint64_t since, const Words &packed) noexcept {
-        return this->write(key.index, [&](Handle<words> &handle) { return handle.try_put_if(key.index, since, packed); }).status;
+        return this->locked(key.index, [index = key.index, since, &packed](Slot<words> &slot) { return slot.put_if(index, since, packed); }).status;
     }
     Status take_if(uint64_t index, uint64_t since) noexcept {
-        return this->removal(index, [&](Handle<words> &handle) { return handle.try_take_if(index, since).status; });
+        return this->locked(index, [index, since](Slot<words> &slot) { return slot.take_if(index, since); });
     }
     // Puts what the function makes of an entry's value, if the entry is still the same.
     template <class Function> Found<V> renew(const Identity &known, const Entry &entry, const Function &function, const Life &life) {

@@ -3,6 +3,7 @@
 #ifndef CEFRODIL_INSIDE_THREADS_HPP
 #define CEFRODIL_INSIDE_THREADS_HPP
 
+#include "forks.hpp"
 #include <atomic>
 #include <condition_variable>
 #include <cstdint>
@@ -19,6 +20,8 @@ struct Threads {
         static thread_local char place = 0;
         return reinterpret_cast<uintptr_t>(&place);
     }
+    // A forked child finds its lock free, and none that waits.
+    static Ownings &of_process() noexcept { return Ownings::of_library(); }
 
 #ifdef __SANITIZE_THREAD__
 // ThreadSanitizer does not see the fence. Without it no access of the map is a race.

@@ -113,40 +113,17 @@ template <size_t Words> class Turns : public Passes<Words> {
         return status == Status::busy ? get_again(key, most, value) : Seen{status, reply.since};
     }
 
-    // Makes a call by this thread's slot, or by the shared one, until it is neither busy nor held.
-    template <class Call> auto repeated(Call made) noexcept {
-        auto answer = this->call(made);
-        for (uint32_t repeat = 0; is_disturbed(status_of(answer)); repeat++) {
-            if (repeat >= tries_) {
-                give_up(tries_);
-                break;
-            }
-            wait_before(repeat);
-            answer = this->call(made);
-        }
-        return answer;
+    // Makes a call by this thread's slot, or by the shared one, until it is neither busy nor held. The first try is compiled into the caller. Here and
+    // below, what a call captures by value stays in registers.
+    template <class Call> [[gnu::always_inline]] auto repeated(Call made) noexcept {
+        const auto answer = this->call(made);
+        return is_disturbed(status_of(answer)) ? again(made, answer) : answer;
     }
-    // The same with the key's lock. Here and below, what is captured by value stays in registers.
-    template <class Call> auto locked(uint64_t key, Call made) noexcept {
-        return repeated([this, key, made](Slot<Words> &slot) {
+    // The same with the key's lock.
+    template <class Call> [[gnu::always_inline]] auto locked(uint64_t key, Call made) noexcept {
+        return repeated([this, key, made](Slot<Words> &slot) __attribute__((always_inline)) {
             const std::unique_lock<KeyLock> guard(locks_[key % locks_.size()], std::try_to_lock);
             return guard ? made(slot) : refusal<decltype(made(slot))>(Status::held);
-        });
-    }
-    // Makes a put with the key's lock, and counts a new key.
-    template <class Write> Written write(uint64_t key, Write make) noexcept {
-        return locked(key, [make](Slot<Words> &slot) {
-            const Written tried = make(slot.handle);
-            slot.add(tried.status == Status::ok && !tried.renewed && !tried.evicted ? 1 : 0);
-            return tried;
-        });
-    }
-    // Makes a removal with the key's lock, and counts it.
-    template <class Removal> Status removal(uint64_t key, Removal make) noexcept {
-        return locked(key, [make](Slot<Words> &slot) {
-            const Status status = make(slot.handle);
-            slot.add(status == Status::ok ? -1 : 0);
-            return status;
         });
     }
 
@@ -157,6 +134,18 @@ template <size_t Words> class Turns : public Passes<Words> {
     uint64_t capacity() const noexcept { return capacity_; }
 
   private:
+    // The tries after the first one.
+    template <class Call, class Answer> [[gnu::cold]] [[gnu::noinline]] Answer again(Call made, Answer answer) noexcept {
+        for (uint32_t repeat = 0; is_disturbed(status_of(answer)); repeat++) {
+            if (repeat >= tries_) {
+                give_up(tries_);
+                break;
+            }
+            wait_before(repeat);
+            answer = this->call(made);
+        }
+        return answer;
+    }
     // Counts a call that ends without an answer, if it slept.
     [[gnu::cold]] [[gnu::noinline]] void give_up(uint32_t most) noexcept {
         if (lines() && most > sleeps_from) {
