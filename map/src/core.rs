@@ -43,8 +43,8 @@ impl<H: 'static, V: Copy> Core<H, V> {
         }
     }
 
-    /// The value that was found, or what `lead` returns: it leads a flight, or none if this thread leads one of the key already. When another flight has
-    /// ended, `find` looks the key up, with what that has handed on.
+    /// The value that was found, or what `lead` returns: it leads a flight, or none if it is called by the one of the key, perhaps by way of other threads.
+    /// When another flight has ended, `find` looks the key up, with what that has handed on.
     pub fn find_or_lead<T, E>(
         &self,
         print: Print,
@@ -59,7 +59,10 @@ impl<H: 'static, V: Copy> Core<H, V> {
             match self.flights.board(print) {
                 Boarding::First(leader) => return lead(Some(&leader)),
                 Boarding::Within => return lead(None),
-                Boarding::Other(flight) => found = find(flight.wait()),
+                Boarding::Other(flight) => match flight.wait() {
+                    Some(outcome) => found = find(outcome.value()),
+                    None => return lead(None),
+                },
             }
         }
     }
