@@ -5,12 +5,13 @@ use crate::flight::{Boarding, Flights, Leader};
 use crate::generation::Generation;
 use crate::key_locks::KeyLocks;
 use crate::print::Print;
+use crate::settings::Settings;
 use crate::slots::Slots;
 use crate::stats::Kind;
 use crate::wait::LOOKS;
 use cefrodil::{ListError, TurnError};
 use std::sync::Arc;
-use std::time::Duration;
+use std::time::{Duration, Instant};
 
 /// By handles `H` of the index. A flight hands on a `V`.
 pub(crate) struct Core<H, V> {
@@ -23,28 +24,30 @@ pub(crate) struct Core<H, V> {
     pub life: Option<Duration>,
     /// How long an entry lives that is not used.
     pub idle: Option<Duration>,
+    most_wait: Duration,
     pub capacity: usize,
     /// How often a call tries.
     pub tries: u32,
 }
 
 impl<H: 'static, V: Copy> Core<H, V> {
-    pub fn new(handles: Vec<H>, capacity: usize, life: Option<Duration>, idle: Option<Duration>, tries: u32) -> Core<H, V> {
+    pub fn new<S>(handles: Vec<H>, capacity: usize, settings: &Settings<S>, tries: u32) -> Core<H, V> {
         Core {
             slots: Arc::new(Slots::new(handles)),
             flights: Flights::new(),
             generation: Generation::new(),
             clock: Clock::new(),
             locks: KeyLocks::new(),
-            life,
-            idle,
+            life: settings.life,
+            idle: settings.idle,
+            most_wait: settings.most_wait,
             capacity,
             tries,
         }
     }
 
-    /// The value that was found, or what `lead` returns: it leads a flight, or none if it is called by the one of the key, perhaps by way of other threads.
-    /// When another flight has ended, `find` looks the key up, with what that has handed on.
+    /// The value that was found, or what `lead` returns: it leads a flight, or none if it is called by the one of the key, perhaps by way of other threads,
+    /// or has waited for so long as it may. When another flight has ended, `find` looks the key up, with what that has handed on.
     pub fn find_or_lead<T, E>(
         &self,
         print: Print,
@@ -52,6 +55,7 @@ impl<H: 'static, V: Copy> Core<H, V> {
         find: impl Fn(Option<V>) -> Option<T>,
         lead: impl FnOnce(Option<&Leader<V>>) -> Result<T, E>,
     ) -> Result<T, E> {
+        let mut since = None;
         loop {
             if let Some(value) = found {
                 return Ok(value);
@@ -59,10 +63,13 @@ impl<H: 'static, V: Copy> Core<H, V> {
             match self.flights.board(print) {
                 Boarding::First(leader) => return lead(Some(&leader)),
                 Boarding::Within => return lead(None),
-                Boarding::Other(flight) => match flight.wait() {
-                    Some(outcome) => found = find(outcome.value()),
-                    None => return lead(None),
-                },
+                Boarding::Other(flight) => {
+                    let waited = since.get_or_insert_with(Instant::now).elapsed();
+                    match flight.wait(self.most_wait.saturating_sub(waited)) {
+                        Some(outcome) => found = find(outcome.value()),
+                        None => return lead(None),
+                    }
+                }
             }
         }
     }

@@ -38,6 +38,11 @@ pub(crate) fn end_all(flight: usize) {
     threads().retain(|_, wait| wait.flight != flight);
 }
 
+/// This thread waits no more, for a flight that goes on. The caller has the lock of that, too.
+pub(crate) fn end(thread: usize) {
+    threads().remove(&thread);
+}
+
 // A forked child makes a list of its own: another thread of its parent may have had the lock.
 fn threads() -> MutexGuard<'static, BTreeMap<usize, Wait>> {
     static WAITS: AtomicPtr<Waits> = AtomicPtr::new(ptr::null_mut());

@@ -12,6 +12,7 @@ use std::ptr;
 use std::sync::atomic::{fence, AtomicUsize, Ordering::SeqCst};
 use std::sync::{Arc, Condvar, Mutex, MutexGuard, PoisonError};
 use std::task::{Context, Poll};
+use std::time::Duration;
 
 const STRIPES: usize = 64;
 
@@ -174,8 +175,9 @@ impl<V: Copy> Flights<V> {
 }
 
 impl<V: Copy> Flight<V> {
-    /// Waits until the flight has ended. `None`: it would never end, since its thread waits for this one. Then compute the value, for yourself alone.
-    pub fn wait(&self) -> Option<Outcome<V>> {
+    /// Waits until the flight has ended. `None`: it goes on after `most`, or would never end, since its thread waits for this one. Then compute the value,
+    /// for yourself alone.
+    pub fn wait(&self, most: Duration) -> Option<Outcome<V>> {
         let mut state = lock(&self.state);
         if state.outcome.is_running() {
             if !deadlocks::begin(this_thread(), self.place(), self.thread) {
@@ -183,8 +185,13 @@ impl<V: Copy> Flight<V> {
             }
             state.is_awaited = true;
         }
-        let state = self.ended.wait_while(state, |state| state.outcome.is_running());
-        Some(state.unwrap_or_else(PoisonError::into_inner).outcome)
+        let waited = self.ended.wait_timeout_while(state, most, |state| state.outcome.is_running());
+        let (state, _) = waited.unwrap_or_else(PoisonError::into_inner);
+        if state.outcome.is_running() {
+            deadlocks::end(this_thread());
+            return None;
+        }
+        Some(state.outcome)
     }
 
     // By which those that wait for it are listed. They keep it there.

@@ -5,7 +5,7 @@ use crate::{deadlocks, Map};
 use std::sync::mpsc::channel;
 use std::sync::{Arc, Barrier};
 use std::thread;
-use std::time::Instant;
+use std::time::{Duration, Instant};
 
 type Numbers = Map<u64, u64>;
 /// The value of a key of a map, or else what the function makes.
@@ -97,6 +97,57 @@ fn a_wait_that_is_over_closes_no_ring() {
     let mut values = [0; 2].map(|_| values.recv_timeout(LONG).expect("a thread waits for ever"));
     values.sort_unstable();
     assert_eq!((values, map.get(&1), map.get(&2)), ([21, 41], Some(21), Some(20)));
+}
+
+// While one thread makes the value of a key, another one asks for it.
+fn asks_within(ask: impl Fn(&dyn Fn() -> u64) -> u64 + Sync) -> u64 {
+    ask(&|| thread::scope(|threads| threads.spawn(|| ask(&|| 10)).join().unwrap()) + 1)
+}
+
+#[test]
+fn a_call_that_may_not_wait_computes_for_itself_alone() {
+    let map = Numbers::builder(100).most_wait(Duration::ZERO).open().unwrap();
+    assert_eq!((asks_within(|make| map.get_or_insert_with(&1, make)), map.get(&1), map.stats().added), (11, Some(11), 1));
+    #[cfg(feature = "objects")]
+    {
+        let map = crate::ObjectMap::<u64, u64>::builder(100).most_wait(Duration::ZERO).open().unwrap();
+        assert_eq!((asks_within(|make| map.get_or_insert_with(&1, make)), map.get(&1), map.stats().added), (11, Some(11), 1));
+    }
+}
+
+// A thread that has computed so asks no more for what it would have waited for.
+#[test]
+fn a_wait_that_was_too_long_closes_no_ring() {
+    let (hasty, map) = (Numbers::builder(100).most_wait(Duration::ZERO).open().unwrap(), Numbers::new(100).unwrap());
+    let (begun, has_begun) = channel();
+    let value = hasty.get_or_insert_with(&1, || {
+        let (hasty, other) = (hasty.clone(), map.clone());
+        let begun = begun.clone();
+        thread::spawn(move || {
+            other.get_or_insert_with(&2, || {
+                let value = hasty.get_or_insert_with(&1, || 10);
+                begun.send(()).unwrap();
+                until_one_waits(&other, 2);
+                value + 10
+            })
+        });
+        has_begun.recv().unwrap();
+        map.get_or_insert_with(&2, || panic!("another thread computes it")) + 1
+    });
+    assert_eq!((value, map.get(&2)), (21, Some(20)));
+}
+
+#[test]
+fn a_call_that_waits_for_less_than_it_may_gets_the_value() {
+    let map = Numbers::builder(100).most_wait(LONG).open().unwrap();
+    let mut other = None;
+    let value = map.get_or_insert_with(&1, || {
+        let clone = map.clone();
+        other = Some(thread::spawn(move || clone.get_or_insert_with(&1, || panic!("another thread computes it"))));
+        until_one_waits(&map, 1);
+        10
+    });
+    assert_eq!((value, other.unwrap().join().unwrap(), map.get(&1)), (10, 10, Some(10)));
 }
 
 // Another thread of the parent may have had the lock, and waited: neither is so in the child.
