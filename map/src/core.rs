@@ -9,7 +9,7 @@ use crate::settings::Settings;
 use crate::slots::Slots;
 use crate::stats::Kind;
 use crate::wait::LOOKS;
-use cefrodil::{ListError, TurnError};
+use cefrodil::{ListError, PutIfAbsentError, PutIfError, TurnError};
 use std::sync::Arc;
 use std::time::{Duration, Instant};
 
@@ -118,6 +118,48 @@ impl<H: 'static, V> Core<H, V> {
             let _locked = self.locks.lock(hash).ok_or(TurnError::Held)?;
             call(handle)
         })
+    }
+
+    /// Makes a call that puts where nothing is, under the lock of the key. If this generation has ended, that is as if the key were present: nothing
+    /// that has ended is taken out meanwhile, so the key has had nothing since the look at the generation, or it was evicted.
+    pub fn in_generation<T>(
+        &self,
+        hash: u64,
+        generation: u64,
+        put: impl FnOnce(&mut H) -> Result<T, TurnError<PutIfAbsentError>>,
+    ) -> Result<T, TurnError<PutIfAbsentError>> {
+        self.in_lock(hash, |handle| match self.generation.now() == generation {
+            true => put(handle),
+            false => Err(TurnError::Call(PutIfAbsentError::Present { since: 0 })),
+        })
+    }
+
+    /// Takes out what is to leave of the entries under these hashes, and counts it. `look` makes one try, and gives the moment of what it finds if that is
+    /// to leave. `take` takes out what was put at a moment.
+    pub fn take_those<T>(
+        &self,
+        hashes: impl IntoIterator<Item = u64>,
+        mut look: impl FnMut(u64) -> Option<Option<u64>>,
+        take: impl Fn(u64, u64) -> Result<T, TurnError<PutIfError>>,
+    ) -> Result<usize, ClearError> {
+        let mut taken = hashes.into_iter().map(|hash| self.take_that(|| look(hash), |since| take(hash, since)));
+        taken.try_fold(0, |sum, taken| Ok(sum + usize::from(taken?)))
+    }
+
+    // If another thread was first, `look` is called again. Returns whether the entry was taken out.
+    fn take_that<T>(
+        &self,
+        mut look: impl FnMut() -> Option<Option<u64>>,
+        take: impl Fn(u64) -> Result<T, TurnError<PutIfError>>,
+    ) -> Result<bool, ClearError> {
+        for _ in 0..self.tries {
+            let leaves = self.slots.within(self.tries, &mut look).ok_or(ClearError::Held)?;
+            let Some(since) = leaves else { return Ok(false) };
+            if ClearError::of_take(take(since))? {
+                return Ok(true);
+            }
+        }
+        Err(ClearError::Held)
     }
 
     /// Makes a list of the entries by this call of the index.

@@ -1,5 +1,5 @@
 //! Why a call failed.
-use cefrodil::{ListError, PutError, PutIfError, Spent, TurnError};
+use cefrodil::{ListError, PutError, PutIfAbsentError, PutIfError, Spent, TurnError};
 use std::error::Error;
 use std::fmt::{self, Display, Formatter};
 
@@ -107,6 +107,16 @@ impl InsertError {
             TurnError::Call(PutError::NoPath) => InsertError::NoPlace,
             TurnError::Call(PutError::AllRecent) => InsertError::AllRecent,
             TurnError::Call(_) => InsertError::Spent,
+        }
+    }
+
+    /// Why nothing was put where nothing was to be. `None`: the key is present.
+    pub(crate) fn of_absent(why: TurnError<PutIfAbsentError>) -> Option<InsertError> {
+        match why {
+            TurnError::Held => Some(InsertError::Held),
+            TurnError::Call(PutIfAbsentError::Present { .. }) => None,
+            TurnError::Call(PutIfAbsentError::Put(why)) => Some(InsertError::of(TurnError::Call(why))),
+            TurnError::Call(_) => Some(InsertError::Spent),
         }
     }
 }
