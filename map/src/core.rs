@@ -155,8 +155,11 @@ impl<H: 'static, V> Core<H, V> {
         for _ in 0..self.tries {
             let leaves = self.slots.within(self.tries, &mut look).ok_or(ClearError::Held)?;
             let Some(since) = leaves else { return Ok(false) };
-            if ClearError::of_take(take(since))? {
-                return Ok(true);
+            match take(since) {
+                Ok(_) => return Ok(true),
+                Err(TurnError::Call(PutIfError::Spent)) => return Err(ClearError::Spent),
+                Err(TurnError::Call(_)) => {}
+                Err(TurnError::Held) => return Err(ClearError::Held),
             }
         }
         Err(ClearError::Held)

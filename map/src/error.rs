@@ -1,5 +1,5 @@
 //! Why a call failed.
-use cefrodil::{ListError, PutError, PutIfAbsentError, PutIfError, Spent, TurnError};
+use cefrodil::{ListError, PutError, PutIfAbsentError, Spent, TurnError};
 use std::error::Error;
 use std::fmt::{self, Display, Formatter};
 
@@ -121,16 +121,6 @@ impl InsertError {
     }
 }
 
-#[cfg(feature = "objects")]
-impl InsertError {
-    pub(crate) fn of_eviction(why: RemoveError) -> InsertError {
-        match why {
-            RemoveError::Spent => InsertError::Spent,
-            RemoveError::Busy | RemoveError::Held | RemoveError::Contended => InsertError::Held,
-        }
-    }
-}
-
 impl From<InsertError> for UpdateError {
     fn from(why: InsertError) -> UpdateError {
         UpdateError::Insert(why)
@@ -149,16 +139,6 @@ impl ClearError {
         match why {
             TurnError::Held => ClearError::Held,
             TurnError::Call(Spent) => ClearError::Spent,
-        }
-    }
-
-    /// Whether an entry was removed on the condition of its moment.
-    pub(crate) fn of_take<T>(taken: Result<T, TurnError<PutIfError>>) -> Result<bool, ClearError> {
-        match taken {
-            Ok(_) => Ok(true),
-            Err(TurnError::Call(PutIfError::Spent)) => Err(ClearError::Spent),
-            Err(TurnError::Call(_)) => Ok(false),
-            Err(TurnError::Held) => Err(ClearError::Held),
         }
     }
 }

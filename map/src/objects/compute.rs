@@ -90,10 +90,7 @@ impl<K: Eq, V: Clone, S> ObjectInner<Object<K, V>, S> {
     where
         K: Borrow<Q>,
     {
-        let pinned = self.pin();
-        let state = pinned.look(hash, key, tries);
-        self.count(&state);
-        Ok(state.ok_or(GetError::Busy)?.value().found().cloned())
+        Ok(self.look(hash, key, tries, |object| object.value.clone())?.found())
     }
 
     /// A lookup that isn't.

@@ -172,13 +172,9 @@ impl<O: Held, S> ObjectInner<O, S> {
     {
         for _ in 0..self.core.tries {
             let over = match self.pin().place(hash, key(&object), self.core.tries) {
-                None => Err(AbsentError::Busy),
-                Some((Some(seen), _)) => Err(AbsentError::Present { since: seen.since }),
-                Some((None, over)) => Ok(over),
-            };
-            let over = match over {
-                Ok(over) => over,
-                Err(why) => return Err((object, why)),
+                None => return Err((object, AbsentError::Busy)),
+                Some((Some(Seen { since, .. }), _)) => return Err((object, AbsentError::Present { since })),
+                Some((None, over)) => over,
             };
             self.detach(hash);
             match self.put_over(hash, object, over, self.core.tries) {
@@ -238,7 +234,7 @@ impl<O: Held, S> ObjectInner<O, S> {
             return Err(InsertError::TooDeep);
         }
         let claim = Claim::of(self.weights.as_ref(), hash, object.weight()).ok_or(InsertError::TooHeavy)?;
-        let has_evicted = self.is_too_heavy() && self.make_room(hash, tries).map_err(InsertError::of_eviction)?;
+        let has_evicted = self.is_too_heavy() && self.make_room(hash, tries)?;
         Ok((claim, has_evicted))
     }
 

@@ -93,7 +93,8 @@ impl<K, V, S> ObjectMap<K, V, S> {
     pub fn for_each(&self, mut look: impl FnMut(&K, &V)) -> Result<(), ClearError> {
         let pinned = self.inner.pin();
         let entries = self.inner.list()?;
-        entries.iter().filter_map(|(_, [word])| pinned.live_object(*word)).for_each(|object| look(&object.key, &object.value));
+        let objects = entries.iter().map(|(_, [word])| pinned.object(*word));
+        objects.filter(|object| self.inner.is_live(object)).for_each(|object| look(&object.key, &object.value));
         Ok(())
     }
 
