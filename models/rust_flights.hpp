@@ -111,7 +111,7 @@ struct RustFlights : rl::test_suite<RustFlights, 3> {
             }
             if (Flight *const other = board(own)) {
                 found = wait(*other);
-                continue;                                 //| Boarding::Other(flight) => found = find(flight.wait()),
+                continue;                                 //| Some(outcome) => found = find(outcome.value()),
             }
             const int computed = compute(own);
             drop(own);

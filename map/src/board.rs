@@ -89,7 +89,8 @@ impl<K: Key + ?Sized, V: Copy + Send + Sync + 'static, S: BuildHasher> Map<K, V,
     /// - If a [`Lead`] is dropped, because the load failed, panicked or was cancelled, all that wait begin anew, and one of them leads.
     /// - It works together with [`get_or_insert_with`](Map::get_or_insert_with): threads and tasks wait for each other's values. So don't call
     ///   that in a task: the thread waits for a value that another task of the same thread may be loading.
-    /// - If a task that leads awaits its own key, it waits for ever. So do those that wait for a [`Lead`] that is leaked by `mem::forget`.
+    /// - If a task that leads awaits its own key, it waits for ever. So do tasks that lead and await each other's keys, unless the program drops one, and those
+    ///   that wait for a [`Lead`] that is leaked by `mem::forget`.
     /// - This may spin and yield, but it never sleeps. A lookup that writes disturb all the time counts as a miss.
     pub fn try_board<Q: Key + ?Sized>(&self, key: &Q) -> Board<V, Lead<'_, K, V, S>, Wait<V>>
     where
@@ -164,9 +165,6 @@ impl<V: Copy> Future for Wait<V> {
         self.0.poll(context)
     }
 }
-
-// It holds nothing that is pinned.
-impl<V: Copy> Unpin for Wait<V> {}
 
 impl<K: Key + ?Sized, V: Copy, S> Debug for Lead<'_, K, V, S> {
     fn fmt(&self, text: &mut Formatter) -> fmt::Result {

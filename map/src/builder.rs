@@ -110,6 +110,13 @@ impl<K: ?Sized, V, S> Builder<K, V, S> {
         self.settings.idle = Some(idle);
         self
     }
+    /// How long a call waits at most for the values that others compute: `get_or_insert_with` and its other forms but those for tasks. Then it calls its
+    /// own function, for itself alone: that value isn't put. `Duration::ZERO` waits for nobody. The default is to wait for as long as it takes. A task
+    /// waits in the program's runtime, which may have limits of its own.
+    pub fn most_wait(mut self, most: Duration) -> Self {
+        self.settings.most_wait = most;
+        self
+    }
 }
 
 impl<K: ?Sized, V: Copy + Send + Sync + 'static, S: BuildHasher> Builder<K, V, S> {
@@ -129,12 +136,9 @@ impl<K: ?Sized, V: Copy + Send + Sync + 'static, S: BuildHasher> Builder<K, V, S
         let layout = Layout::of(self.settings.life, self.settings.idle);
         let mut handles = AnyHandle::open(layout.width::<V>(), shape, shards, self.settings.handles()).map_err(OpenError::of)?;
         let capacity = handles[0].capacity();
-        let Settings { hasher, once, life, idle, .. } = self.settings;
-        Ok(Map::of(Inner {
-            core: Core::new(handles, capacity, life, idle, tries),
-            printer: if once { Printer::once(hasher) } else { Printer::twice(hasher) },
-            layout,
-        }))
+        let core = Core::new(handles, capacity, &self.settings, tries);
+        let Settings { hasher, once, .. } = self.settings;
+        Ok(Map::of(Inner { core, printer: if once { Printer::once(hasher) } else { Printer::twice(hasher) }, layout }))
     }
 }
 

@@ -21,7 +21,8 @@ impl<K: Key + ?Sized, V: Copy + Send + Sync + 'static, S: BuildHasher> Map<K, V,
     ///   after the write don't wait for this one.
     /// - If the value finds no place, the call returns it all the same. `refused` of [`stats`](Map::stats) counts this.
     /// - If `make` calls this for the same key, the inner call only returns its value.
-    /// - Two threads wait forever if the `make` of each wants the value that the other one computes.
+    /// - If threads would wait for each other for ever, since the `make` of each wants the value that the next one computes, one of them calls its own
+    ///   `make` instead, for itself alone: that value isn't put.
     pub fn get_or_insert_with<Q: Key + ?Sized>(&self, key: &Q, make: impl FnOnce() -> V) -> V
     where
         K: Borrow<Q>,

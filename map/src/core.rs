@@ -5,12 +5,13 @@ use crate::flight::{Boarding, Flights, Leader};
 use crate::generation::Generation;
 use crate::key_locks::KeyLocks;
 use crate::print::Print;
+use crate::settings::Settings;
 use crate::slots::Slots;
 use crate::stats::Kind;
 use crate::wait::LOOKS;
-use cefrodil::{ListError, TurnError};
+use cefrodil::{ListError, PutIfAbsentError, PutIfError, TurnError};
 use std::sync::Arc;
-use std::time::Duration;
+use std::time::{Duration, Instant};
 
 /// By handles `H` of the index. A flight hands on a `V`.
 pub(crate) struct Core<H, V> {
@@ -23,28 +24,30 @@ pub(crate) struct Core<H, V> {
     pub life: Option<Duration>,
     /// How long an entry lives that is not used.
     pub idle: Option<Duration>,
+    most_wait: Duration,
     pub capacity: usize,
     /// How often a call tries.
     pub tries: u32,
 }
 
 impl<H: 'static, V: Copy> Core<H, V> {
-    pub fn new(handles: Vec<H>, capacity: usize, life: Option<Duration>, idle: Option<Duration>, tries: u32) -> Core<H, V> {
+    pub fn new<S>(handles: Vec<H>, capacity: usize, settings: &Settings<S>, tries: u32) -> Core<H, V> {
         Core {
             slots: Arc::new(Slots::new(handles)),
             flights: Flights::new(),
             generation: Generation::new(),
             clock: Clock::new(),
             locks: KeyLocks::new(),
-            life,
-            idle,
+            life: settings.life,
+            idle: settings.idle,
+            most_wait: settings.most_wait,
             capacity,
             tries,
         }
     }
 
-    /// The value that was found, or what `lead` returns: it leads a flight, or none if this thread leads one of the key already. When another flight has
-    /// ended, `find` looks the key up, with what that has handed on.
+    /// The value that was found, or what `lead` returns: it leads a flight, or none if it is called by the one of the key, perhaps by way of other threads,
+    /// or has waited for so long as it may. When another flight has ended, `find` looks the key up, with what that has handed on.
     pub fn find_or_lead<T, E>(
         &self,
         print: Print,
@@ -52,6 +55,7 @@ impl<H: 'static, V: Copy> Core<H, V> {
         find: impl Fn(Option<V>) -> Option<T>,
         lead: impl FnOnce(Option<&Leader<V>>) -> Result<T, E>,
     ) -> Result<T, E> {
+        let mut since = None;
         loop {
             if let Some(value) = found {
                 return Ok(value);
@@ -59,7 +63,13 @@ impl<H: 'static, V: Copy> Core<H, V> {
             match self.flights.board(print) {
                 Boarding::First(leader) => return lead(Some(&leader)),
                 Boarding::Within => return lead(None),
-                Boarding::Other(flight) => found = find(flight.wait()),
+                Boarding::Other(flight) => {
+                    let waited = since.get_or_insert_with(Instant::now).elapsed();
+                    match flight.wait(self.most_wait.saturating_sub(waited)) {
+                        Some(outcome) => found = find(outcome.value()),
+                        None => return lead(None),
+                    }
+                }
             }
         }
     }
@@ -108,6 +118,51 @@ impl<H: 'static, V> Core<H, V> {
             let _locked = self.locks.lock(hash).ok_or(TurnError::Held)?;
             call(handle)
         })
+    }
+
+    /// Makes a call that puts where nothing is, under the lock of the key. If this generation has ended, that is as if the key were present: nothing
+    /// that has ended is taken out meanwhile, so the key has had nothing since the look at the generation, or it was evicted.
+    pub fn in_generation<T>(
+        &self,
+        hash: u64,
+        generation: u64,
+        put: impl FnOnce(&mut H) -> Result<T, TurnError<PutIfAbsentError>>,
+    ) -> Result<T, TurnError<PutIfAbsentError>> {
+        self.in_lock(hash, |handle| match self.generation.now() == generation {
+            true => put(handle),
+            false => Err(TurnError::Call(PutIfAbsentError::Present { since: 0 })),
+        })
+    }
+
+    /// Takes out what is to leave of the entries under these hashes, and counts it. `look` makes one try, and gives the moment of what it finds if that is
+    /// to leave. `take` takes out what was put at a moment.
+    pub fn take_those<T>(
+        &self,
+        hashes: impl IntoIterator<Item = u64>,
+        mut look: impl FnMut(u64) -> Option<Option<u64>>,
+        take: impl Fn(u64, u64) -> Result<T, TurnError<PutIfError>>,
+    ) -> Result<usize, ClearError> {
+        let mut taken = hashes.into_iter().map(|hash| self.take_that(|| look(hash), |since| take(hash, since)));
+        taken.try_fold(0, |sum, taken| Ok(sum + usize::from(taken?)))
+    }
+
+    // If another thread was first, `look` is called again. Returns whether the entry was taken out.
+    fn take_that<T>(
+        &self,
+        mut look: impl FnMut() -> Option<Option<u64>>,
+        take: impl Fn(u64) -> Result<T, TurnError<PutIfError>>,
+    ) -> Result<bool, ClearError> {
+        for _ in 0..self.tries {
+            let leaves = self.slots.within(self.tries, &mut look).ok_or(ClearError::Held)?;
+            let Some(since) = leaves else { return Ok(false) };
+            match take(since) {
+                Ok(_) => return Ok(true),
+                Err(TurnError::Call(PutIfError::Spent)) => return Err(ClearError::Spent),
+                Err(TurnError::Call(_)) => {}
+                Err(TurnError::Held) => return Err(ClearError::Held),
+            }
+        }
+        Err(ClearError::Held)
     }
 
     /// Makes a list of the entries by this call of the index.

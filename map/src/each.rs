@@ -5,7 +5,6 @@ use crate::handle::AnyHandle;
 use crate::inner::{Found, Inner};
 use crate::key::{Key, Number};
 use crate::map::Map;
-use crate::stats::Kind;
 use crate::words::{check, Entry, Seen};
 use std::hash::BuildHasher;
 
@@ -63,8 +62,10 @@ impl<K: Key + ?Sized, V: Copy + Send + Sync + 'static, S: BuildHasher> Map<K, V,
     {
         let inner = &self.inner;
         inner.core.flights.detach_all();
-        let find = |hash, words: &mut [u64]| inner.entry(inner.core.generation.now(), hash, words);
-        inner.remove_those(find, |(key, value)| !keeps(key, value))
+        inner.remove_those(|hash, words| {
+            let entry = inner.entry(inner.core.generation.now(), hash, words);
+            entry.is_some_and(|(key, value)| !keeps(&key, &value))
+        })
     }
 
     /// Removes the entries that have expired, and returns how many. Those that [`invalidate_all`](Map::invalidate_all) has invalidated stay until they expire. It takes
@@ -84,7 +85,7 @@ impl<K: Key + ?Sized, V: Copy + Send + Sync + 'static, S: BuildHasher> Map<K, V,
     ///
     /// [`ClearError`]: expired entries may be left.
     pub fn remove_expired(&self) -> Result<usize, ClearError> {
-        self.inner.remove_those(|_, words| self.inner.has_expired(&Entry::of(words, self.inner.layout)).then_some(()), |()| true)
+        self.inner.remove_those(|_, words| self.inner.has_expired(&Entry::of(words, self.inner.layout)))
     }
 }
 
@@ -104,44 +105,15 @@ impl<K: Number, V: Copy, S: BuildHasher> Inner<K, V, S> {
 }
 
 impl<K: Key + ?Sized, V: Copy, S: BuildHasher> Inner<K, V, S> {
-    // Removes the entries of which `find` gives something for which they are to leave, and returns how many.
-    fn remove_those<T>(
-        &self,
-        mut find: impl FnMut(u64, &mut [u64]) -> Option<T>,
-        mut leave: impl FnMut(&T) -> bool,
-    ) -> Result<usize, ClearError> {
-        let removed = self.core.list(self.core.tries, AnyHandle::keys).and_then(|listed| {
-            listed
-                .into_iter()
-                .try_fold(0, |removed, hash| Ok(removed + usize::from(self.remove_that(hash, &mut find, &mut leave)?)))
-        });
-        removed.map_err(|why| self.core.refused(why))
-    }
-
-    // The same for the entry under one key of the index. If it was put or used meanwhile, it is found and asked of again.
-    fn remove_that<T>(
-        &self,
-        hash: u64,
-        find: &mut impl FnMut(u64, &mut [u64]) -> Option<T>,
-        leave: &mut impl FnMut(&T) -> bool,
-    ) -> Result<bool, ClearError> {
-        for _ in 0..self.core.tries {
-            let seen = self.core.slots.within(self.core.tries, || {
-                match Seen::of(&mut self.core.slots.call(|handle| handle.peek(hash))) {
-                    Seen::Entry(words, since) => Some(find(hash, words).map(|found| (found, since))),
-                    Seen::Absent => Some(None),
-                    Seen::Busy => None,
-                }
-            });
-            let Some((found, since)) = seen.ok_or(ClearError::Held)? else { return Ok(false) };
-            if !leave(&found) {
-                return Ok(false);
-            }
-            if ClearError::of_take(self.take_if(hash, since, self.core.tries))? {
-                self.core.slots.count(Kind::Removed);
-                return Ok(true);
-            }
-        }
-        Err(ClearError::Held)
+    // Removes the entries for whose hash and words `leaves` returns true, and returns how many.
+    fn remove_those(&self, mut leaves: impl FnMut(u64, &mut [u64]) -> bool) -> Result<usize, ClearError> {
+        let look = |hash| match Seen::of(&mut self.core.slots.call(|handle| handle.peek(hash))) {
+            Seen::Entry(words, since) => Some(leaves(hash, words).then_some(since)),
+            Seen::Absent => Some(None),
+            Seen::Busy => None,
+        };
+        let take = |hash, since| self.take_if(hash, since, self.core.tries);
+        let listed = self.core.list(self.core.tries, AnyHandle::keys);
+        listed.and_then(|hashes| self.core.take_those(hashes, look, take)).map_err(|why| self.core.refused(why))
     }
 }

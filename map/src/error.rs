@@ -1,5 +1,5 @@
 //! Why a call failed.
-use cefrodil::{ListError, PutError, PutIfError, Spent, TurnError};
+use cefrodil::{ListError, PutError, PutIfAbsentError, Spent, TurnError};
 use std::error::Error;
 use std::fmt::{self, Display, Formatter};
 
@@ -109,14 +109,14 @@ impl InsertError {
             TurnError::Call(_) => InsertError::Spent,
         }
     }
-}
 
-#[cfg(feature = "objects")]
-impl InsertError {
-    pub(crate) fn of_eviction(why: RemoveError) -> InsertError {
+    /// Why nothing was put where nothing was to be. `None`: the key is present.
+    pub(crate) fn of_absent(why: TurnError<PutIfAbsentError>) -> Option<InsertError> {
         match why {
-            RemoveError::Spent => InsertError::Spent,
-            RemoveError::Busy | RemoveError::Held | RemoveError::Contended => InsertError::Held,
+            TurnError::Held => Some(InsertError::Held),
+            TurnError::Call(PutIfAbsentError::Present { .. }) => None,
+            TurnError::Call(PutIfAbsentError::Put(why)) => Some(InsertError::of(TurnError::Call(why))),
+            TurnError::Call(_) => Some(InsertError::Spent),
         }
     }
 }
@@ -139,16 +139,6 @@ impl ClearError {
         match why {
             TurnError::Held => ClearError::Held,
             TurnError::Call(Spent) => ClearError::Spent,
-        }
-    }
-
-    /// Whether an entry was removed on the condition of its moment.
-    pub(crate) fn of_take<T>(taken: Result<T, TurnError<PutIfError>>) -> Result<bool, ClearError> {
-        match taken {
-            Ok(_) => Ok(true),
-            Err(TurnError::Call(PutIfError::Spent)) => Err(ClearError::Spent),
-            Err(TurnError::Call(_)) => Ok(false),
-            Err(TurnError::Held) => Err(ClearError::Held),
         }
     }
 }

@@ -2,6 +2,7 @@
 //!
 //! A computed value may be older than a write that came meanwhile. So each write first detaches the flight of its key, and a value whose
 //! flight was detached is not put. The value is put under the lock by which flights are detached. SAFETY.md says why that suffices.
+use crate::deadlocks;
 use crate::print::Print;
 use crate::published::Published;
 use crate::slots::lock;
@@ -11,6 +12,7 @@ use std::ptr;
 use std::sync::atomic::{fence, AtomicUsize, Ordering::SeqCst};
 use std::sync::{Arc, Condvar, Mutex, MutexGuard, PoisonError};
 use std::task::{Context, Poll};
+use std::time::Duration;
 
 const STRIPES: usize = 64;
 
@@ -49,10 +51,13 @@ struct State<V> {
     outcome: Outcome<V>,
     // Of the tasks that wait.
     wakers: Wakers,
+    // Whether threads have waited.
+    is_awaited: bool,
 }
 
+/// What came of a flight.
 #[derive(Clone, Copy)]
-enum Outcome<V> {
+pub(crate) enum Outcome<V> {
     Running,
     Value(V),
     // The computation failed or panicked, or the key has another value. Those that wait look it up again.
@@ -121,7 +126,7 @@ impl<V: Copy> Flights<V> {
 
     // The flight is in no stripe yet.
     fn begin(&self, thread: usize, print: Print) -> Leader<'_, V> {
-        let state = State { outcome: Outcome::Running, wakers: Wakers::default() };
+        let state = State { outcome: Outcome::Running, wakers: Wakers::default(), is_awaited: false };
         let flight = Arc::new(Flight { print, thread, state: Mutex::new(state), ended: Condvar::new() });
         self.running.fetch_add(1, SeqCst);
         Leader { flights: self, flight }
@@ -156,6 +161,12 @@ impl<V: Copy> Flights<V> {
         stripe.iter().find(|flight| flight.print == print).map_or(0, |flight| Arc::strong_count(flight) - 2)
     }
 
+    /// Whether a thread waits for the flight of this key, or has waited.
+    #[cfg(test)]
+    pub fn is_awaited(&self, print: Print) -> bool {
+        lock(self.stripe(print)).iter().any(|flight| flight.print == print && lock(&flight.state).is_awaited)
+    }
+
     /// Whether a thread has the lock by which the flight of this key is detached.
     #[cfg(test)]
     pub fn is_locked(&self, print: Print) -> bool {
@@ -164,10 +175,28 @@ impl<V: Copy> Flights<V> {
 }
 
 impl<V: Copy> Flight<V> {
-    /// Waits until the flight has ended. Returns its value, if it has one.
-    pub fn wait(&self) -> Option<V> {
-        let state = self.ended.wait_while(lock(&self.state), |state| state.outcome.is_running());
-        state.unwrap_or_else(PoisonError::into_inner).outcome.value()
+    /// Waits until the flight has ended. `None`: it goes on after `most`, or would never end, since its thread waits for this one. Then compute the value,
+    /// for yourself alone.
+    pub fn wait(&self, most: Duration) -> Option<Outcome<V>> {
+        let mut state = lock(&self.state);
+        if state.outcome.is_running() {
+            if !deadlocks::begin(this_thread(), self.place(), self.thread) {
+                return None;
+            }
+            state.is_awaited = true;
+        }
+        let waited = self.ended.wait_timeout_while(state, most, |state| state.outcome.is_running());
+        let (state, _) = waited.unwrap_or_else(PoisonError::into_inner);
+        if state.outcome.is_running() {
+            deadlocks::end(this_thread());
+            return None;
+        }
+        Some(state.outcome)
+    }
+
+    // By which those that wait for it are listed. They keep it there.
+    fn place(&self) -> usize {
+        ptr::from_ref(self) as usize
     }
 
     /// Whether `wait` would return at once.
@@ -182,7 +211,8 @@ impl<V: Copy> Outcome<V> {
         matches!(self, Outcome::Running)
     }
 
-    fn value(&self) -> Option<V> {
+    /// The value, if it has one.
+    pub fn value(&self) -> Option<V> {
         match self {
             Outcome::Value(value) => Some(*value),
             Outcome::Running | Outcome::None => None,
@@ -263,6 +293,9 @@ impl<V: Copy> Drop for Leader<'_, V> {
         let mut state = lock(&self.flight.state);
         if state.outcome.is_running() {
             state.outcome = Outcome::None;
+        }
+        if state.is_awaited {
+            deadlocks::end_all(self.flight.place());
         }
         let wakers = mem::take(&mut state.wakers);
         drop(state);

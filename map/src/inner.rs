@@ -261,10 +261,7 @@ impl<K: Key + ?Sized, V: Copy, S: BuildHasher> Inner<K, V, S> {
                 None => return Err(self.core.refused(RemoveError::Busy)),
             };
             match self.take_if(print.key, since, tries) {
-                Ok(()) => {
-                    self.core.slots.count(Kind::Removed);
-                    return Ok(value);
-                }
+                Ok(()) => return Ok(value),
                 Err(TurnError::Call(PutIfError::NotThere { .. })) => return Ok(None),
                 Err(TurnError::Call(PutIfError::Changed { .. })) => {}
                 Err(TurnError::Call(_)) => return Err(self.core.refused(RemoveError::Spent)),
@@ -276,6 +273,8 @@ impl<K: Key + ?Sized, V: Copy, S: BuildHasher> Inner<K, V, S> {
 
     /// Removes the entry under this key of the index if it was put at the moment `since`.
     pub fn take_if(&self, hash: u64, since: u64, tries: u32) -> Result<(), TurnError<PutIfError>> {
-        self.core.slots.in_turn(tries, || self.core.in_lock(hash, |handle| handle.take_if(hash, since)))
+        self.core.slots.in_turn(tries, || self.core.in_lock(hash, |handle| handle.take_if(hash, since)))?;
+        self.core.slots.count(Kind::Removed);
+        Ok(())
     }
 }

@@ -7,6 +7,7 @@ mod clear;
 mod clock;
 mod compute;
 mod core;
+mod deadlocks;
 mod each;
 mod error;
 mod extend;

@@ -26,18 +26,21 @@ pub(crate) struct Settings<S> {
     pub once: bool,
     pub life: Option<Duration>,
     pub idle: Option<Duration>,
+    /// How long a call waits for what another thread or task computes.
+    pub most_wait: Duration,
 }
 
 impl Settings<RandomState> {
     pub fn new(capacity: usize) -> Settings<RandomState> {
-        Settings { capacity, shards: None, threads: THREADS, hasher: RandomState::new(), once: true, life: None, idle: None }
+        let (hasher, most_wait) = (RandomState::new(), Duration::MAX);
+        Settings { capacity, shards: None, threads: THREADS, hasher, once: true, life: None, idle: None, most_wait }
     }
 }
 
 impl<S> Settings<S> {
     pub fn hasher<T>(self, hasher: T) -> Settings<T> {
-        let Settings { capacity, shards, threads, life, idle, .. } = self;
-        Settings { capacity, shards, threads, hasher, once: false, life, idle }
+        let Settings { capacity, shards, threads, life, idle, most_wait, .. } = self;
+        Settings { capacity, shards, threads, hasher, once: false, life, idle, most_wait }
     }
 
     /// The shape of each shard, and how many shards to open.

@@ -123,27 +123,20 @@ impl<H: 'static> Slots<H> {
     /// Calls `attempt` until it returns something, at most so many times.
     pub fn within<T>(&self, tries: u32, attempt: impl FnMut() -> Option<T>) -> Option<T> {
         let done = wait::within(tries, attempt);
-        if done.is_none() {
-            self.give_up(tries);
+        // A call that has not slept says little of the others.
+        if done.is_none() && tries > SLEEPS_FROM {
+            self.stalls.give_up();
         }
         done
     }
 
     /// Calls `attempt` until it gets the turn, at most so many times.
-    pub fn in_turn<T, E>(&self, tries: u32, attempt: impl FnMut() -> Result<T, TurnError<E>>) -> Result<T, TurnError<E>> {
-        let done = wait::in_turn(tries, attempt);
-        if let Err(TurnError::Held) = done {
-            self.give_up(tries);
-        }
-        done
-    }
-
-    // A call that has not slept says little of the others.
-    #[cold]
-    fn give_up(&self, tries: u32) {
-        if tries > SLEEPS_FROM {
-            self.stalls.give_up();
-        }
+    pub fn in_turn<T, E>(&self, tries: u32, mut attempt: impl FnMut() -> Result<T, TurnError<E>>) -> Result<T, TurnError<E>> {
+        let done = self.within(tries, || match attempt() {
+            Err(TurnError::Held) => None,
+            done => Some(done),
+        });
+        done.unwrap_or(Err(TurnError::Held))
     }
 
     /// The slot that this thread has claimed, or claims now.

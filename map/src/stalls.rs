@@ -19,6 +19,7 @@ impl Stalls {
     }
 
     /// A call gave up now.
+    #[cold]
     pub fn give_up(&self) {
         self.give_up_at(self.now());
     }

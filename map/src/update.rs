@@ -1,12 +1,13 @@
 //! Puts that depend on the value that is there.
 use crate::error::{InsertError, UpdateError};
+use crate::handle::AnyHandle;
 use crate::inner::{Found, Inner};
 use crate::key::Key;
 use crate::map::{Inserted, Map};
 use crate::print::Print;
 use crate::stats::Kind;
 use crate::words::Words;
-use cefrodil::{PutIfAbsentError, PutIfError, TurnError};
+use cefrodil::{PutIfError, TurnError};
 use std::borrow::Borrow;
 use std::hash::BuildHasher;
 use std::time::Duration;
@@ -187,26 +188,15 @@ impl<K: Key + ?Sized, V: Copy, S: BuildHasher> Inner<K, V, S> {
         }
     }
 
-    // Puts the words if the key is absent, and this generation has not ended before that was so.
+    // Puts the words if the key is absent, and this generation has not ended before that was so. `false`: it is not so.
     fn put_absent(&self, print: Print, generation: u64, words: &Words, tries: u32) -> Result<bool, InsertError> {
-        let put = self.core.slots.in_turn(tries, || {
-            self.core.in_lock(print.key, |handle| {
-                if self.core.generation.now() == generation {
-                    handle.put_if_absent(print.key, words)
-                } else {
-                    Err(TurnError::Call(PutIfAbsentError::Present { since: 0 }))
-                }
-            })
-        });
-        match put {
+        let put = |handle: &mut AnyHandle| handle.put_if_absent(print.key, words);
+        match self.core.slots.in_turn(tries, || self.core.in_generation(print.key, generation, put)) {
             Ok(put) => {
                 self.core.slots.count_put(Inserted::of(put));
                 Ok(true)
             }
-            Err(TurnError::Call(PutIfAbsentError::Present { .. })) => Ok(false),
-            Err(TurnError::Call(PutIfAbsentError::Put(why))) => Err(InsertError::of(TurnError::Call(why))),
-            Err(TurnError::Call(_)) => Err(InsertError::Spent),
-            Err(TurnError::Held) => Err(InsertError::Held),
+            Err(why) => InsertError::of_absent(why).map_or(Ok(false), Err),
         }
     }
 }

@@ -1,5 +1,4 @@
 //! Waiting that ends: a number of tries, with pauses between them.
-use cefrodil::TurnError;
 use std::hint::spin_loop;
 use std::thread::{sleep, yield_now};
 use std::time::Duration;
@@ -37,15 +36,6 @@ pub(crate) fn within<T>(tries: u32, mut attempt: impl FnMut() -> Option<T>) -> O
         }
     }
     None
-}
-
-/// Calls `attempt` until it gets the turn, at most so many times.
-pub(crate) fn in_turn<T, E>(tries: u32, mut attempt: impl FnMut() -> Result<T, TurnError<E>>) -> Result<T, TurnError<E>> {
-    let done = within(tries, || match attempt() {
-        Err(TurnError::Held) => None,
-        done => Some(done),
-    });
-    done.unwrap_or(Err(TurnError::Held))
 }
 
 fn pause(number: u32) {

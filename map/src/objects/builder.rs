@@ -116,6 +116,12 @@ impl<K, V, S> ObjectBuilder<K, V, S> {
         self
     }
 
+    /// As [`Builder::most_wait`](crate::Builder::most_wait).
+    pub fn most_wait(mut self, most: Duration) -> Self {
+        self.settings.most_wait = most;
+        self
+    }
+
     /// Who hears of each object that leaves the map, once. The thread whose call made it leave calls `listener` before that call returns. It
     /// hears nothing when the map is dropped.
     ///
@@ -193,14 +199,15 @@ impl<O: Held, S> ObjectInner<O, S> {
         hears: Hears<O>,
     ) -> Result<ObjectInner<O, S>, OpenError> {
         let count = settings.handles();
-        let Settings { hasher, once, life, idle, threads, .. } = settings;
         // `ObjectInner::hash` mixes what the hasher does not spread, so that a hash says which shard its key has.
         let shape = Shape { mix: Mix::None, ..*shape };
         let mut handles = Cache::open(&shape, shards, count).map_err(OpenError::of)?;
         let Hears { listener, freed, weigher } = hears;
         let capacity = handles[0].capacity();
+        let core = Core::new(handles, capacity, &settings, tries);
+        let Settings { hasher, once, threads, .. } = settings;
         Ok(ObjectInner {
-            core: Core::new(handles, capacity, life, idle, tries),
+            core,
             epochs: Epochs::new(threads),
             hasher,
             mixes: !once,

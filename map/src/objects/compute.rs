@@ -28,7 +28,8 @@ where
     ///   for this one.
     /// - If the value finds no place, the call returns it all the same. `refused` of [`stats`](Self::stats) counts this.
     /// - If `make` calls this for the same key, or one with the same hash, the inner call only returns its value.
-    /// - Two threads wait forever if the `make` of each wants the value that the other one computes.
+    /// - If threads would wait for each other for ever, since the `make` of each wants the value that the next one computes, one of them calls its own
+    ///   `make` instead, for itself alone: that value isn't put.
     pub fn get_or_insert_with<Q>(&self, key: &Q, make: impl FnOnce() -> V) -> V
     where
         K: Borrow<Q>,
@@ -89,10 +90,7 @@ impl<K: Eq, V: Clone, S> ObjectInner<Object<K, V>, S> {
     where
         K: Borrow<Q>,
     {
-        let pinned = self.pin();
-        let state = pinned.look(hash, key, tries);
-        self.count(&state);
-        Ok(state.ok_or(GetError::Busy)?.value().found().cloned())
+        Ok(self.look(hash, key, tries, |object| object.value.clone())?.found())
     }
 
     /// A lookup that isn't.

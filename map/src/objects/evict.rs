@@ -3,7 +3,7 @@ use super::builder::Reason;
 use super::inner::ObjectInner;
 use super::object::Held;
 use super::weights::Weights;
-use crate::error::RemoveError;
+use crate::error::{InsertError, RemoveError};
 use crate::stats::Kind;
 use cefrodil::{Evict, EvictError, Reply, TurnError};
 
@@ -50,10 +50,13 @@ impl<O: Held, S> ObjectInner<O, S> {
     /// Makes room for an object whose weight was counted, and which is about to be put under this hash. If it replaces another one, that is about to
     /// leave, and `evict_to_bound` comes after the put. Returns whether objects were evicted.
     #[inline(never)]
-    pub fn make_room(&self, hash: u64, tries: u32) -> Result<bool, RemoveError> {
+    pub fn make_room(&self, hash: u64, tries: u32) -> Result<bool, InsertError> {
         match self.core.slots.call(|handle| handle.get_or_turn(hash)) {
             Reply::Found { .. } => Ok(false),
-            Reply::Absent { .. } | Reply::Busy => self.evict_to_bound(tries),
+            Reply::Absent { .. } | Reply::Busy => self.evict_to_bound(tries).map_err(|why| match why {
+                RemoveError::Spent => InsertError::Spent,
+                _ => InsertError::Held,
+            }),
         }
     }
 

@@ -89,7 +89,7 @@ where
         K: Borrow<Q>,
         V: Clone,
     {
-        Ok(self.inner.look(key, 1, |object| object.value.clone())?.found())
+        self.inner.get(self.inner.hash(key), key, 1)
     }
 
     /// Calls `look` with the key's value, and returns what it returns. `None`: as [`get`](Self::get).
@@ -152,7 +152,7 @@ where
     where
         K: Borrow<Q>,
     {
-        self.inner.look(key, self.inner.core.looks(), |object| look(&object.value))
+        self.inner.look(self.inner.hash(key), key, self.inner.core.looks(), |object| look(&object.value))
     }
 
     /// Clones of the values of these keys, in their order: each as by [`get`](Self::get), with fewer calls of the index.
@@ -182,11 +182,10 @@ where
     }
 
     /// Like [`look`](Self::look) of each key in order. `look` gets the index of each key and what was found.
-    pub fn look_many<Q: Hash + Eq + ?Sized>(&self, keys: &[&Q], look: impl FnMut(usize, Result<Look<&V>, GetError>))
+    pub fn look_many<Q: Hash + Eq + ?Sized>(&self, keys: &[&Q], mut look: impl FnMut(usize, Result<Look<&V>, GetError>))
     where
         K: Borrow<Q>,
     {
-        let mut look = look;
         self.inner.look_many(keys, |index, found| look(index, found.map(|look| look.map(|object| &object.value))));
     }
 
@@ -215,17 +214,6 @@ impl<O: Held, S: BuildHasher> ObjectInner<O, S> {
             Some(State::Live(seen)) => Some(look(seen.object)),
             _ => None,
         }
-    }
-
-    fn look<Q: Hash + ?Sized, R>(&self, key: &Q, tries: u32, look: impl FnOnce(&O) -> R) -> Result<Look<R>, GetError>
-    where
-        O: Keyed<Q>,
-    {
-        let hash = self.hash(key);
-        let pinned = self.pin();
-        let state = pinned.look(hash, key, tries);
-        self.count(&state);
-        Ok(state.ok_or(GetError::Busy)?.object().map(look))
     }
 
     pub fn look_many<Q: Hash + ?Sized>(&self, keys: &[&Q], mut look: impl FnMut(usize, Result<Look<&O>, GetError>))
@@ -276,6 +264,17 @@ impl<O: Held, S: BuildHasher> ObjectInner<O, S> {
 }
 
 impl<O: Held, S> ObjectInner<O, S> {
+    /// A lookup that is counted.
+    pub fn look<Q: ?Sized, R>(&self, hash: u64, key: &Q, tries: u32, look: impl FnOnce(&O) -> R) -> Result<Look<R>, GetError>
+    where
+        O: Keyed<Q>,
+    {
+        let pinned = self.pin();
+        let state = pinned.look(hash, key, tries);
+        self.count(&state);
+        Ok(state.ok_or(GetError::Busy)?.object().map(look))
+    }
+
     /// Counts a lookup.
     #[inline]
     pub fn count(&self, state: &Option<State<O>>) {

@@ -157,12 +157,6 @@ impl<O: Held, S> Pinned<'_, O, S> {
         })
     }
 
-    /// The object of this word if it has not expired.
-    pub fn live_object(&self, word: u64) -> Option<&O> {
-        let object = self.object(word);
-        self.inner.is_live(object).then_some(object)
-    }
-
     /// The word is one that the index returned to this call after it was pinned, or one that this call puts.
     #[inline]
     pub fn object(&self, word: u64) -> &O {

@@ -9,7 +9,7 @@ use super::weights::Claim;
 use crate::error::InsertError;
 use crate::generation::NONE;
 use crate::map::Inserted;
-use cefrodil::{Handle, PutIfAbsentError, PutIfError, Replaced, Swapped, TurnError};
+use cefrodil::{Handle, PutIfError, Replaced, Swapped, TurnError};
 use std::hash::{BuildHasher, Hash};
 use std::sync::Arc;
 use std::time::Duration;
@@ -172,13 +172,9 @@ impl<O: Held, S> ObjectInner<O, S> {
     {
         for _ in 0..self.core.tries {
             let over = match self.pin().place(hash, key(&object), self.core.tries) {
-                None => Err(AbsentError::Busy),
-                Some((Some(seen), _)) => Err(AbsentError::Present { since: seen.since }),
-                Some((None, over)) => Ok(over),
-            };
-            let over = match over {
-                Ok(over) => over,
-                Err(why) => return Err((object, why)),
+                None => return Err((object, AbsentError::Busy)),
+                Some((Some(Seen { since, .. }), _)) => return Err((object, AbsentError::Present { since })),
+                Some((None, over)) => over,
             };
             self.detach(hash);
             match self.put_over(hash, object, over, self.core.tries) {
@@ -238,7 +234,7 @@ impl<O: Held, S> ObjectInner<O, S> {
             return Err(InsertError::TooDeep);
         }
         let claim = Claim::of(self.weights.as_ref(), hash, object.weight()).ok_or(InsertError::TooHeavy)?;
-        let has_evicted = self.is_too_heavy() && self.make_room(hash, tries).map_err(InsertError::of_eviction)?;
+        let has_evicted = self.is_too_heavy() && self.make_room(hash, tries)?;
         Ok((claim, has_evicted))
     }
 
@@ -291,25 +287,14 @@ impl<O: Held, S> ObjectInner<O, S> {
         }
     }
 
-    // With the lock, nothing that has ended is taken out meanwhile. So the key has had no object since the look at the generation, or it was evicted.
     fn put_absent(&self, hash: u64, word: u64, tries: u32, made_in: Option<u64>) -> Result<Done, Fail> {
         let swap = |handle: &mut Handle<1>| handle.try_swap_if_absent(hash, &[word]);
         let swapped = self.try_to_put(word, tries, |_| match made_in {
             None => self.core.slots.call(swap),
-            Some(generation) => self.core.in_lock(hash, |handle| {
-                if self.core.generation.now() == generation {
-                    swap(handle)
-                } else {
-                    Err(TurnError::Call(PutIfAbsentError::Present { since: 0 }))
-                }
-            }),
+            Some(generation) => self.core.in_generation(hash, generation, swap),
         });
-        swapped.map(|swapped| self.swapped(swapped)).map_err(|why| match why {
-            TurnError::Held => Fail::Insert(InsertError::Held),
-            TurnError::Call(PutIfAbsentError::Present { .. }) => Fail::Present,
-            TurnError::Call(PutIfAbsentError::Put(why)) => Fail::Insert(InsertError::of(TurnError::Call(why))),
-            TurnError::Call(_) => Fail::Insert(InsertError::Spent),
-        })
+        let swapped = swapped.map_err(|why| InsertError::of_absent(why).map_or(Fail::Present, Fail::Insert));
+        Ok(self.swapped(swapped?))
     }
 
     fn replaced(&self, Replaced { at, old }: Replaced<1>) -> Done {

@@ -3,7 +3,6 @@ use super::builder::Reason;
 use super::inner::ObjectInner;
 use super::map::ObjectMap;
 use super::object::Held;
-use super::pinned::Pinned;
 use crate::error::ClearError;
 use crate::stats::Kind;
 use cefrodil::{Handle, Reply, Take};
@@ -94,7 +93,8 @@ impl<K, V, S> ObjectMap<K, V, S> {
     pub fn for_each(&self, mut look: impl FnMut(&K, &V)) -> Result<(), ClearError> {
         let pinned = self.inner.pin();
         let entries = self.inner.list()?;
-        entries.iter().filter_map(|(_, [word])| pinned.live_object(*word)).for_each(|object| look(&object.key, &object.value));
+        let objects = entries.iter().map(|(_, [word])| pinned.object(*word));
+        objects.filter(|object| self.inner.is_live(object)).for_each(|object| look(&object.key, &object.value));
         Ok(())
     }
 
@@ -128,31 +128,13 @@ impl<O: Held, S> ObjectInner<O, S> {
 
     fn take_listed(&self, reason: Reason, mut leaves: impl FnMut(&O) -> bool) -> Result<usize, ClearError> {
         let pinned = self.pin();
-        let listed = self.list()?.into_iter();
-        listed
-            .map(|(hash, _)| self.take_that(&pinned, hash, reason, &mut leaves))
-            .try_fold(0, |sum, taken| Ok(sum + usize::from(taken?)))
-    }
-
-    // Takes out the object under this hash if `leaves` returns true, and says whether it did. If another was put meanwhile, `leaves` is asked of that one.
-    fn take_that(
-        &self,
-        pinned: &Pinned<'_, O, S>,
-        hash: u64,
-        reason: Reason,
-        leaves: &mut impl FnMut(&O) -> bool,
-    ) -> Result<bool, ClearError> {
-        let slots = &self.core.slots;
-        for _ in 0..self.core.tries {
-            let reply = slots.within(self.core.tries, || slots.call(|handle| handle.try_peek(hash)).ok());
-            let Reply::Found { value: [word], since, .. } = reply.ok_or(ClearError::Held)? else { return Ok(false) };
-            if !leaves(pinned.object(word)) {
-                return Ok(false);
-            }
-            if ClearError::of_take(self.take_if(hash, since, reason, self.core.tries))? {
-                return Ok(true);
-            }
-        }
-        Err(ClearError::Held)
+        let look = |hash| {
+            Some(match self.core.slots.call(|handle| handle.try_peek(hash)).ok()? {
+                Reply::Found { value: [word], since, .. } => leaves(pinned.object(word)).then_some(since),
+                Reply::Absent { .. } | Reply::Busy => None,
+            })
+        };
+        let hashes = self.list()?.into_iter().map(|(hash, _)| hash);
+        self.core.take_those(hashes, look, |hash, since| self.take_if(hash, since, reason, self.core.tries))
     }
 }

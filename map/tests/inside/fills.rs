@@ -6,7 +6,7 @@ use crate::Map;
 use crate::Published;
 use std::sync::mpsc::{channel, Receiver};
 use std::thread;
-use std::time::Instant;
+use std::time::{Duration, Instant};
 
 type Numbers = Map<u64, u64>;
 
@@ -103,7 +103,7 @@ fn nobody_gets_the_value_before_it_is_put() {
         Published::Put(1)
     });
     assert!(flight.has_outcome());
-    assert_eq!(flight.wait(), Some(1));
+    assert_eq!(flight.wait(Duration::MAX).unwrap().value(), Some(1));
 }
 
 // In this test and the next two a removal has detached the flight of the key before this flight began. It takes out a value that the leader of

@@ -15,7 +15,7 @@ const CLONE_NEWPID: c_int = 0x2000_0000;
 const NOT_ALLOWED: c_int = 77;
 
 // What this ends with in a child. One that hangs is ended by a signal.
-fn in_child(child: impl FnOnce() -> c_int) -> c_int {
+pub fn in_child(child: impl FnOnce() -> c_int) -> c_int {
     // SAFETY: the child makes calls of the C library after a fork of a process with threads. glibc allows it those of malloc.
     let number = unsafe { fork() };
     if number == 0 {

@@ -1,6 +1,7 @@
 //! Tests that need what the map doesn't show: its clock, shapes and tries, its handles and calls of the index, who waits for a value, and where its
 //! errors come from.
 mod boards;
+mod deadlocks;
 mod detaching;
 mod disturbed;
 #[cfg(feature = "objects")]

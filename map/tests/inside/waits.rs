@@ -1,6 +1,6 @@
 //! How often a call tries, and how it waits in between.
 use super::one_shard;
-use crate::wait::{in_turn, within, Pause};
+use crate::wait::{within, Pause};
 use crate::Map;
 use cefrodil::TurnError;
 use std::time::Duration;
@@ -31,10 +31,11 @@ fn it_tries_until_it_is_done_and_no_more_often_than_it_may() {
 
 #[test]
 fn a_call_that_gets_no_turn_says_so() {
+    let map = Map::<u64, u64>::new(10).unwrap();
     let mut tried = 0;
     let mut held = |tries, turn| {
         tried = 0;
-        let told = in_turn(tries, || {
+        let told = map.inner.core.slots.in_turn(tries, || {
             tried += 1;
             if tried == turn {
                 Err(TurnError::Call("answer"))

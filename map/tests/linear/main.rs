@@ -3,6 +3,7 @@
 //!
 //! This takes a few seconds: a few kinds of maps, and a few whose options are drawn. By hand, `LINEAR_SECONDS` says for how many seconds the options are
 //! drawn anew each second. They are printed with their seed. `LINEAR_KIND`: `values` or `objects` alone. `LINEAR_SEED`: the first seed.
+mod both;
 mod drawn;
 mod history;
 mod objects;

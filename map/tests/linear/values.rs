@@ -1,6 +1,7 @@
 //! The calls of a `Map`.
+use crate::both::{both, told};
 use crate::drawn::{wait_for, Drawn};
-use crate::history::Did::{self, Changed, Failed, Joined, Made, Saw, Set, Tried};
+use crate::history::Did::{Changed, Failed, Joined, Made, Saw, Set, Tried};
 use crate::rounds::{take_a_while, Caller, Calls, Told, KEYS};
 use cefrodil_map::{Board, Inserted, Map, Published, Stats};
 use std::cell::Cell;
@@ -15,60 +16,11 @@ pub struct Values<S> {
     filler: AtomicU64,
 }
 
-fn told<E>(did: Result<Did, E>) -> Told {
-    Told::Key(did.unwrap_or(Failed))
-}
+both!(Values: old: u64 => old);
 
 impl<S: BuildHasher> Values<S> {
     pub fn new(drawn: Drawn, map: Map<u64, u64, S>) -> Values<S> {
         Values { drawn, map, filler: AtomicU64::new(1_000) }
-    }
-
-    fn compute(&self, caller: &mut Caller, key: u64, value: u64) -> Told {
-        let (mut from, clock) = (None, caller.clock);
-        let mut made = || {
-            from = Some(clock.next());
-            take_a_while(value);
-            value
-        };
-        let found = match caller.draw(2) {
-            0 => self.map.get_or_insert_with(&key, made),
-            _ => wait_for(self.map.get_or_insert_async(&key, async { made() })),
-        };
-        Told::Key(match from {
-            Some(from) if found == value => Made { value, from, is_put: None },
-            Some(_) => Saw(Some(found)),
-            None => Joined(found),
-        })
-    }
-
-    fn load(&self, caller: &Caller, key: u64, value: u64) -> Told {
-        let lead = match self.map.try_board(&key) {
-            Board::Found(found) => return Told::Key(Saw(Some(found))),
-            Board::Wait(_) => return Told::Key(Saw(None)),
-            Board::Lead(lead) => lead,
-        };
-        let from = caller.clock.next();
-        take_a_while(value);
-        match lead.try_publish(value) {
-            Published::Put(_) => Told::Key(Made { value, from, is_put: Some(true) }),
-            Published::Other(found) => Told::Key(Saw(Some(found))),
-            _ => Told::Key(Made { value, from, is_put: Some(false) }),
-        }
-    }
-
-    fn modify(&self, life: Option<Duration>, key: u64, value: u64) -> Told {
-        let seen = Cell::new(None);
-        let change = |old| {
-            seen.set(Some(old));
-            take_a_while(value);
-            value
-        };
-        let changed = match life {
-            Some(life) => self.map.modify_for(&key, life, change),
-            None => self.map.modify(&key, change),
-        };
-        told(changed.map(|new| new.map_or(Tried, |_| Changed(seen.get(), Some(value)))))
     }
 
     fn call_with_life(&self, caller: &mut Caller, key: u64, value: u64) -> Told {
@@ -77,25 +29,6 @@ impl<S: BuildHasher> Values<S> {
             1 => told(self.map.insert_for(&key, value, Duration::MAX).map(|_| Set(Some(value)))),
             _ => self.modify(Some(Duration::MAX), key, value),
         }
-    }
-
-    // Each key is looked up at a moment of its own, or only this one is removed.
-    fn call_for_each(&self, caller: &mut Caller, key: u64) -> Told {
-        if caller.draw(2) == 0 {
-            let mut seen = [None; KEYS.len()];
-            let see = |key: &u64, value: &u64| KEYS.iter().position(|own| own == key).map_or((), |own| seen[own] = Some(*value));
-            return self.map.for_each(see).map_or(Told::Nothing, |_| Told::Each(seen.map(Saw)));
-        }
-        let mut seen = None;
-        let removed = self.map.retain(|own, value| {
-            *own != key || {
-                seen = Some(*value);
-                false
-            }
-        });
-        // What is being made for another key may be lost.
-        let did = |count| KEYS.map(|own| if own == key { Changed(seen.filter(|_| count == 1), None) } else { Failed });
-        removed.map_or(Told::Unknown, |count| Told::Each(did(count)))
     }
 }
 
