@@ -7,6 +7,7 @@
 #include "cxx_object_generations.hpp"
 #include "cxx_passes.hpp"
 #include "cxx_waits.hpp"
+#include "cxx_weights.hpp"
 #include "rust_epochs.hpp"
 #include "rust_generations.hpp"
 #include "rust_flights.hpp"
@@ -54,6 +55,7 @@ int main(int argc, char **argv) {
     explore<CxxObjectGenerations>("C++ generations of objects", schedules);
     explore<CxxPasses>("C++ passes", schedules);
     explore<CxxWaits>("C++ waits", schedules);
+    explore<CxxWeights>("C++ weights", schedules);
     explore<RustFlights>("Rust flights", schedules);
     explore<RustSlots>("Rust slots", schedules);
     explore<RustEpochs>("Rust epochs", schedules);

@@ -139,6 +139,21 @@ static void insert_over_what_has_ended_since() {
     MUST(map.insert_for(1, 11, std::chrono::hours(1)).status == Status::ok && !act && map.find(1) == 11u);
 }
 
+// An entry that has ended is put anew when erase_expired has listed it, and before it is removed.
+static void put_since_it_was_listed() {
+    cefrodil::Lives lives;
+    lives.clock = [] {
+        meet(act);
+        return clock_now();
+    };
+    Timed map;
+    now = 0;
+    MUST(map.open({100}, lives) == Status::ok && map.insert_for(1, 10, nanoseconds(100)).status == Status::ok);
+    now = 200;
+    act = [&] { MUST(map.insert_or_assign(1, 11).renewed); };
+    MUST(map.erase_expired() == Status::ok && !act && map.find(1) == 11u && map.size() == 1);
+}
+
 // Each key is its own number, by which the map's flights are told apart.
 struct Same {
     cefrodil::HashPair operator()(const uint64_t &key, const cefrodil::HashSecret &) const noexcept { return {key, key}; }
@@ -232,6 +247,7 @@ int main() {
     updates_of_what_has_ended();
     computed_over_what_is_taken_out();
     insert_over_what_has_ended_since();
+    put_since_it_was_listed();
     what_has_ended_is_taken_out_before_a_put();
     return outcome("crossed");
 }

@@ -94,6 +94,10 @@ template <class Any> static void outdated() {
     MUST(map.insert(1, 1).status == Status::ok);
     static_cast<void>(map.update(1, [&](uint64_t old) { return static_cast<void>(map.invalidate_all()), old; }));
     MUST(!map.contains(1));
+    // Nor if the function might decline: then it runs before the value is made.
+    MUST(map.insert(3, 1).status == Status::ok);
+    static_cast<void>(map.update(3, [&](uint64_t old) { return static_cast<void>(map.invalidate_all()), std::optional<uint64_t>(old); }));
+    MUST(!map.contains(3));
     // A value that was put meanwhile is updated.
     MUST(map.insert(2, 1).status == Status::ok);
     static_cast<void>(map.update(2, [&](uint64_t old) {

@@ -101,6 +101,10 @@ static void held_evictions() {
     const cefrodil::Stored stored = map.insert(11, uint64_t(30));
     MUST(stored.status == Status::ok && !stored.evicted && held == 0 && map.contains(11) && map.weight() == 130);
     MUST(map.insert_or_assign(11, uint64_t(30)).status == Status::ok && map.weight() == 100 && map.contains(11));
+    // A bound that shrinks says that too much is left.
+    held = 6;
+    MUST(map.set_most_weight(50) == Status::held && held == 0 && map.weight() == 100);
+    MUST(map.set_most_weight(50) == Status::ok && map.weight() <= 50);
 }
 
 // A thread that opens and closes maps keeps nothing of them.

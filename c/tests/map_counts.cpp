@@ -103,6 +103,26 @@ static void what_has_expired() {
     MUST(counted(sessions, 0, 0, [&] { MUST(sessions.erase_expired() == Status::ok && sessions.size() == 0); }));
 }
 
+// Who waits for another thread's value has made one lookup, which found nothing.
+template <class Map> static void waiting_counts_once() {
+    Map map;
+    MUST(map.open({100}) == Status::ok);
+    std::thread other;
+    const auto compute = [&] {
+        other = std::thread([&] { MUST(map.find_or_compute(1, first).value == 10u); });
+        while (map.meter().counts().misses != 2) {
+            std::this_thread::yield();
+        }
+        // It begins to wait meanwhile.
+        std::this_thread::sleep_for(std::chrono::milliseconds(100));
+        return uint64_t(10);
+    };
+    MUST(counted(map, 0, 2, [&] {
+        MUST(map.find_or_compute(1, compute).computed);
+        other.join();
+    }));
+}
+
 // All keys have the same number in the index.
 struct Meeting {
     cefrodil::HashPair operator()(const uint64_t &key, const cefrodil::HashSecret &) const noexcept { return {7, key}; }
@@ -185,6 +205,8 @@ int main(int argc, char **argv) {
     each_map();
     many_keys();
     what_has_expired();
+    waiting_counts_once<Numbers>();
+    waiting_counts_once<Objects>();
     another_key<cefrodil::map<uint64_t, uint64_t, Meeting>>();
     another_key<cefrodil::object_map<uint64_t, uint64_t, Meeting>>();
     for (const uint32_t passes : {1, 3, 64}) {

@@ -107,6 +107,18 @@ static void calls_within() {
 #endif
 }
 
+// What was listed stays until all of it has been shown, though it is removed at the first call of the function.
+static void all_is_shown() {
+    cefrodil::object_map<uint64_t, uint64_t> map;
+    MUST(map.open({100}) == Status::ok);
+    for (uint64_t key = 0; key < 10; key++) {
+        MUST(map.insert(key, uint64_t(key)).status == Status::ok);
+    }
+    int shown = 0;
+    const auto see = [&](const uint64_t &, const uint64_t &) { MUST((shown++ != 0 || map.clear() == Status::ok) && map.free_unused() == 0); };
+    MUST(map.for_each(see) == Status::ok && shown == 10 && map.free_unused() == 10);
+}
+
 // If another write is first at each try, erase_if says so.
 template <class Map> static void others_are_first(Map &&map) {
     MUST(map.open({100, 1, 3, 5}) == Status::ok && map.insert(1, uint64_t(1)).status == Status::ok);
@@ -162,6 +174,7 @@ int main(int argc, char **argv) {
     });
     keys_of_a_map();
     calls_within();
+    all_is_shown();
     others_are_first(cefrodil::map<uint64_t, uint64_t>());
     others_are_first(cefrodil::object_map<uint64_t, uint64_t>());
     beside_writers(cefrodil::map<uint64_t, uint64_t>(), less);

@@ -7,10 +7,11 @@ use ends::ends;
 use executor::{cancelled_after, give_way, poll, run, Job, Wakes};
 use std::future::Future;
 use std::panic::{catch_unwind, AssertUnwindSafe};
+use std::pin::pin;
 use std::sync::atomic::{AtomicU64, AtomicUsize, Ordering::SeqCst};
 use std::sync::mpsc::channel;
 use std::sync::{Arc, Barrier};
-use std::task::Poll;
+use std::task::{Context, Poll, Wake, Waker};
 use std::thread;
 
 type Numbers = Map<u64, u64>;
@@ -143,6 +144,32 @@ fn a_future_that_is_dropped_leaves_nothing() {
     lead.publish(70);
     assert_eq!((wakes.count(), others.count(), last.count()), (0, 0, 1));
     assert_eq!(poll(&last, &mut second), Poll::Ready(Some(70)));
+}
+
+/// A waker whose end lets another future go, as that of a task does which owns one.
+struct Owns(#[allow(dead_code)] Wait<u64>);
+
+impl Wake for Owns {
+    fn wake(self: Arc<Self>) {}
+}
+
+// A waker ends when another one takes its place, and when its future is dropped.
+#[test]
+fn the_end_of_a_waker_may_drop_a_future_of_the_same_flight() {
+    ends(|| {
+        for is_replaced in [true, false] {
+            let (map, wakes) = (Numbers::new(100).unwrap(), Arc::new(Wakes::default()));
+            let lead = lead(&map);
+            let (mut first, mut second) = (wait(&map), wait(&map));
+            assert!(poll(&wakes, &mut second).is_pending());
+            let waker = Waker::from(Arc::new(Owns(second)));
+            assert!(pin!(&mut first).poll(&mut Context::from_waker(&waker)).is_pending());
+            drop(waker);
+            assert!(!is_replaced || poll(&wakes, &mut first).is_pending());
+            drop(first);
+            assert_eq!((lead.publish(70), wakes.wakers()), (70, 0));
+        }
+    });
 }
 
 #[test]

@@ -1,5 +1,5 @@
 //! What can't be opened says why, and each error has a text.
-use cefrodil_map::{Builder, ClearError, GetError, InsertError, Map, OpenError, RemoveError, UpdateError};
+use cefrodil_map::{prometheus, Builder, ClearError, GetError, InsertError, Map, OpenError, RemoveError, Stats, UpdateError};
 use std::collections::hash_map::RandomState;
 use std::error::Error;
 use std::time::Duration;
@@ -93,4 +93,25 @@ fn a_builder_shows_what_it_was_told() {
     assert_eq!(format!("{builder:?}"), expected);
     // A hasher that is chosen last changes nothing else.
     assert_eq!(format!("{:?}", builder.hasher(RandomState::new())), expected);
+}
+
+#[test]
+fn each_number_is_printed_under_its_name() {
+    let names = "hits_total misses_total expired_total collided_total busy_total added_total renewed_total evictions_total removed_total \
+                 refusals_total given_up_total stalled_seconds waiting_objects waiting_weight entries capacity weight";
+    let mut stats = Stats::default();
+    (stats.hits, stats.misses, stats.expired, stats.collided, stats.busy) = (1, 2, 3, 4, 5);
+    (stats.added, stats.renewed, stats.evicted, stats.removed, stats.refused, stats.given_up) = (6, 7, 8, 9, 10, 11);
+    (stats.stalled, stats.waiting, stats.waiting_weight) = (Duration::from_secs(12), 13, 14);
+    (stats.entries, stats.capacity, stats.weight) = (15, 16, 17);
+    let text = prometheus(&[("names", stats), ("a\"b\\c\nd", Stats::default())]);
+    let lines: Vec<&str> = text.lines().collect();
+    for ((name, number), lines) in names.split(' ').zip(1..).zip(lines.chunks(4)) {
+        let kind = if name.ends_with("_total") { "counter" } else { "gauge" };
+        assert!(lines[0].starts_with(&format!("# HELP cefrodil_map_{name} ")));
+        assert_eq!(lines[1], format!("# TYPE cefrodil_map_{name} {kind}"));
+        assert_eq!(lines[2], format!("cefrodil_map_{name}{{cache=\"names\"}} {number}"));
+        assert_eq!(lines[3], format!(r#"cefrodil_map_{name}{{cache="a\"b\\c\nd"}} 0"#));
+    }
+    assert_eq!(lines.len(), 17 * 4);
 }

@@ -28,6 +28,9 @@ fn an_old_value_stays_while_its_neighbours_give_way() {
     let store = map_store(0, "-t1");
     // So the items keep two megabytes.
     exceed(&store, 16 * MEGABYTE);
+    // Beside its items lies one of another store, whose key this one has, too.
+    let other = map_store(MEGABYTE as u64, "-t1");
+    send(&other, How::Set, b"large", SMALL);
     let keys: Vec<[u8; 4]> = (0..500_u32).map(u32::to_le_bytes).collect();
     keys.iter().for_each(|key| send(&store, How::Set, key, SMALL));
     send(&store, How::Set, b"large", LARGE - SMALL);
@@ -36,6 +39,7 @@ fn an_old_value_stays_while_its_neighbours_give_way() {
     send(&store, How::Append, &keys[0], LARGE - 100_000);
     let evicted = store.books.counts.get(Count::Evicted) as usize;
     assert!(evicted > 60 && has(&store, &keys[0]), "what was changed stays");
+    assert!(has(&store, b"large") && has(&other, b"large"), "it has a key of a neighbour, and is none");
     // Items that were stored one after the other lie in one chunk, and go together.
     let gone: Vec<bool> = keys.iter().map(|key| !has(&store, key)).collect();
     let ends = gone.windows(2).filter(|pair| pair[0] != pair[1]).count();

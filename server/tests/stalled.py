@@ -93,6 +93,15 @@ def silent_clients(program):
         assert stats(other)['idle_kicks'] == 4 and stats(other)['curr_connections'] == 1, stats(other)
 
 
+def a_silent_client_has_its_time(program):
+    with running(program, '-o', 'idle_timeout=1') as (_, port), connect(port) as client:
+        # A second of the server's may end soon after the command.
+        time.sleep(0.5)
+        begin = time.monotonic()
+        assert ask(client, b'mn\r\n') == b'MN\r\n'
+        assert rest(client) == b'' and time.monotonic() - begin > 1
+
+
 def tools(program):
     """What memcached's own tool asks for has an end."""
     with running(program, '-t', '2') as (_, port), connect(port) as client:
@@ -151,7 +160,7 @@ def memory_is_refused(program):
 
 
 def main():
-    tests = [clients_that_stall, late_readers, silent_clients, tools, shown_commands, root, memory_is_refused]
+    tests = [clients_that_stall, late_readers, silent_clients, a_silent_client_has_its_time, tools, shown_commands, root, memory_is_refused]
     for test in tests:
         if len(sys.argv) < 3 or test.__name__ in sys.argv[2:]:
             test(sys.argv[1])

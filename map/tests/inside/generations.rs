@@ -130,6 +130,18 @@ fn an_update_of_an_object_that_began_before_loses_no_later_one() {
     assert_eq!(map.get(&1), Some(11));
 }
 
+// It is invalidated between the lookup of the token and the put.
+#[cfg(feature = "objects")]
+#[test]
+fn a_replacement_that_began_before_is_not_found() {
+    let map = ObjectMap::<u64, u64>::new(100).unwrap();
+    let since = map.put(1, 1, None).unwrap().at;
+    let other = map.clone();
+    before_calls(1, 1, move || other.invalidate_all());
+    done(calls(|| map.replace_if(1, since, 10, None)));
+    assert_eq!(map.get(&1), None);
+}
+
 // Another thread, which had detached no flight, puts the key between the lookup and the put of a load. Its object is invalidated and taken out, if that
 // can be. The flight is not detached so far.
 #[cfg(feature = "objects")]

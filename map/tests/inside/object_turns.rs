@@ -249,3 +249,24 @@ fn what_was_put_since_is_not_removed_as_expired() {
     assert_eq!(calls(|| map.remove_expired()).1, Ok(0));
     assert_eq!((map.get(&1), map.stats().removed, map.stats().refused), (Some(20), 0, 0));
 }
+
+// What expires while a call has its key's lock is not taken out before the call has ended.
+#[test]
+fn what_has_expired_waits_for_the_lock_of_its_key() {
+    let (map, _) = open();
+    map.put(1, 11, Some(Duration::ZERO)).unwrap();
+    let locked = map.inner.core.hold_lock(map.hash_of(&1));
+    assert_eq!((map.remove_expired(), map.len()), (Err(ClearError::Held), 1));
+    drop(locked);
+    assert_eq!((map.remove_expired(), map.len()), (Ok(1), 0));
+}
+
+// So an object that has just been listed can't be freed before it is shown.
+#[test]
+fn a_call_for_each_object_keeps_them_before_it_lists_them() {
+    let (map, _) = open();
+    let other = map.clone();
+    before_calls(0, 1, move || assert_eq!((other.remove(&1), other.free_unused()), (Ok(Some(10)), 1)));
+    assert_eq!(calls(|| map.for_each(|_, _| ())).1, Ok(()));
+    assert_eq!(map.free_unused(), 0);
+}

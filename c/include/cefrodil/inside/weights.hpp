@@ -3,6 +3,7 @@
 #ifndef CEFRODIL_INSIDE_WEIGHTS_HPP
 #define CEFRODIL_INSIDE_WEIGHTS_HPP
 
+#include "threads.hpp"
 #include <atomic>
 #include <cstdint>
 #include <vector>
@@ -13,9 +14,9 @@ namespace cefrodil::inside {
 //
 // Relaxed steps suffice, but where the bound changes. Of all objects that are there take the one whose weight was added last. Its call compares the sum after that, and sees them
 // all. It goes on until the sum is within the bound. The numbers only say where to evict.
-class Weights {
+template <class Parts> class WeightsOf {
   public:
-    explicit Weights(uint64_t bound) noexcept : bound_(bound) {}
+    explicit WeightsOf(uint64_t bound) noexcept : bound_(bound) {}
     // Takes memory for so many shards, a power of two.
     void divide(uint32_t shards) { numbers_ = std::vector<Number>(shards); }
 
@@ -44,22 +45,25 @@ class Weights {
     }
 
   private:
+    using Atomic = typename Parts::template Atomic<uint64_t>;
     struct alignas(64) Number {
-        std::atomic<uint64_t> objects{0};
+        Atomic objects{0};
     };
     // So many shards are compared at an eviction. That keeps all nearly alike, and takes no longer where there are many.
     static constexpr uint64_t compared = 8;
     // The index takes a key's shard from the bits behind these: the map has it mix none.
     static constexpr int bits_before = 48;
-    std::atomic<uint64_t> &of(uint64_t key) noexcept { return numbers_[key >> bits_before & (numbers_.size() - 1)].objects; }
+    Atomic &of(uint64_t key) noexcept { return numbers_[key >> bits_before & (numbers_.size() - 1)].objects; }
     void change(uint64_t key, uint64_t weight, uint64_t objects) noexcept {
         sum_.fetch_add(weight, std::memory_order_acquire);
         of(key).fetch_add(objects, std::memory_order_relaxed);
     }
 
-    std::atomic<uint64_t> bound_, sum_{0}, next_{0};
+    Atomic bound_, sum_{0}, next_{0};
     std::vector<Number> numbers_{};
 };
+
+using Weights = WeightsOf<Threads>;
 
 } // namespace cefrodil::inside
 
