@@ -140,6 +140,9 @@ struct Flying {
     using Mutex = explored::Mutex;
     using Condition = explored::Condition;
     static unsigned this_thread() { return explored::this_thread(); }
+    template <class IsSo> static void wait(Condition &condition, std::unique_lock<Mutex> &guard, cefrodil::inside::Until, IsSo is_so) {
+        condition.wait(guard, is_so);
+    }
     static void fence() { explored::fence(); }
     static Process &of_process() { return *Process::of_run; }
 };

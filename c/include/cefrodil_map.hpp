@@ -71,6 +71,7 @@ struct MapOptions {
     uint32_t passes = 1 + 64; // 1 to 1,024, with the shared one
     uint32_t tries = 10000;   // how often a call is repeated that other threads keep from its turn. This takes over a second. A lookup is repeated
                               // 1,000 times at most, which takes over a tenth of a second.
+    std::chrono::nanoseconds most_wait = forever; // for so long a call waits at most for functions that others have called: see `find_or_compute`
 };
 
 // The answers of lookups and updates are `Found`, in cefrodil/inside/table.hpp. Those of puts are `Stored`, in cefrodil/inside/slot.hpp.
@@ -146,6 +147,7 @@ template <class Inner> class AnyMap {
         if (!opened->identities.draw()) {
             return Status::no_random;
         }
+        opened->entries.flights.limit(options.most_wait);
         const Status status = opened->entries.open(options.entries, options.shards, options.passes, options.tries);
         return status == Status::ok && !inner_.own(std::move(opened)) ? Status::no_memory : status;
     }
@@ -267,17 +269,18 @@ class map : public inside::AnyMap<inside::Opened<K, Hash, inside::Table<V, Times
     // The key's value, or what the function computes, `V function()`, which is then put. Of several callers that miss the key one computes, and
     // the others wait for it; if its value is refused or its function throws, the next one computes. The function may call the map.
     // It may return a `std::optional<V>`. If that is empty, nothing is put: declined. stale: the key was changed while the function ran, or the caller
-    // could not wait: the key's value is being computed by this thread, or by one that waits for what this thread computes, in any map. Then it computed
-    // for itself alone. present: another value was put meanwhile.
+    // could not wait: the key's value is being computed by this thread, or by one that waits for what this thread computes, in any map; or it has waited
+    // for `most_wait`. Then it computed for itself alone. present: another value was put meanwhile.
     template <class Function> [[nodiscard]] Computed<inside::Made<V, Function>> find_or_compute(Key key, Function function) {
         if (!inner_) {
             return {Status::closed, function(), true};
         }
         const inside::Identity known = inner_->identities.of(key);
         Words found;
+        inside::Until until{};
         // The lookup that counts.
         for (Status status = inner_->entries.find(known, found); status != Status::ok; status = inner_->entries.seek(known, found)) {
-            inside::Flight flight(inner_->entries.flights.of(known), known);
+            inside::Flight flight = inner_->entries.flights.begin(known, until);
             if (!flight.has_begun() && !flight.is_alone()) {
                 continue;
             }

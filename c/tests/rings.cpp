@@ -165,6 +165,38 @@ static void a_throw(const Ask &ask) {
     clear();
 }
 
+// A call of a map that was opened so waits for nobody, or until the other call has its value. If there is none, it computes.
+static void most_wait(std::chrono::nanoseconds most, bool waits_on, bool throws) {
+    cefrodil::MapOptions options{100};
+    options.most_wait = most;
+    cefrodil::map<uint64_t, uint64_t> values;
+    cefrodil::object_map<uint64_t, uint64_t> all;
+    MUST(values.open(options) == Status::ok && all.open(options) == Status::ok);
+    const auto asks = [&](auto &map) {
+        std::atomic<bool> is_first{false}, has_asked{false};
+        run({[&] {
+                 try {
+                     MUST(map.find_or_compute(1, [&]() -> uint64_t {
+                                 is_first = true;
+                                 until([&] { return waits_on ? waits() == 1 : bool(has_asked); });
+                                 return throws ? throw 1 : 10;
+                             }).value == 10);
+                 } catch (int) {
+                 }
+             },
+             [&] {
+                 until([&] { return bool(is_first); });
+                 const auto answer = map.find_or_compute(1, [] { return uint64_t(20); });
+                 has_asked = true;
+                 MUST(answer.computed == (!waits_on || throws) && answer.value == (answer.computed ? 20U : 10U));
+                 MUST(answer.status == (waits_on ? Status::ok : Status::stale));
+             }});
+        MUST(map.find(1) == (throws ? std::optional<uint64_t>(waits_on ? std::optional<uint64_t>(20) : std::nullopt) : 10));
+    };
+    asks(values);
+    asks(all);
+}
+
 int main() {
     // Threads that wait for each other wait for ever.
     alarm(240);
@@ -184,5 +216,10 @@ int main() {
     asked_after_its_end(of_pins, of_numbers);
     a_throw(of_numbers);
     a_throw(of_objects);
+    for (const bool throws : {false, true}) {
+        most_wait(std::chrono::nanoseconds(0), false, throws);
+        most_wait(std::chrono::hours(1), true, throws);
+        most_wait(cefrodil::forever, true, throws);
+    }
     return outcome("rings");
 }

@@ -5,10 +5,12 @@
 
 #include "handle.hpp"
 #include "hash.hpp"
+#include "lives.hpp"
 #include "threads.hpp"
 #include "waits.hpp"
 #include <algorithm>
 #include <array>
+#include <chrono>
 #include <cstddef>
 #include <mutex>
 
@@ -65,11 +67,11 @@ template <class Parts> class alignas(64) FlightsOf {
 // The computation of one key's value by one caller. It lies on that caller's stack, so it also ends by an exception.
 template <class Parts> class FlightOf {
   public:
-    // Begins, or waits for the end of another thread's flight for this key.
-    FlightOf(FlightsOf<Parts> &flights, const Identity &key) : flights_(flights), key_(key) {
+    // Begins, or waits for the end of another thread's flight for this key, until this time at most.
+    FlightOf(FlightsOf<Parts> &flights, const Identity &key, Until until = Until::max()) : flights_(flights), key_(key) {
         std::unique_lock<typename Parts::Mutex> guard(flights_.lock_);
         if (FlightOf *const other = flights_.flight_of(key_)) {
-            is_alone_ = !waits_for(*other, guard);
+            is_alone_ = !waits_for(*other, guard, until);
             return;
         }
         next_ = flights_.first_;
@@ -84,7 +86,8 @@ template <class Parts> class FlightOf {
     ~FlightOf() { end(); }
 
     bool has_begun() const noexcept { return has_begun_; }
-    // Whether it can't wait: the flight for this key is of this thread, or of one that waits for this thread. Then it computes for itself alone.
+    // Whether it can't wait, or has waited for long enough: the flight for this key is of this thread, or of one that waits for this thread, or it goes on.
+    // Then it computes for itself alone.
     bool is_alone() const noexcept { return is_alone_; }
 
     // From now on no call waits for it.
@@ -115,15 +118,18 @@ template <class Parts> class FlightOf {
 
   private:
     friend FlightsOf<Parts>;
-    // Waits for the end of another flight, unless it would wait for this thread.
-    bool waits_for(FlightOf &other, std::unique_lock<typename Parts::Mutex> &guard) {
+    // Waits for the end of another flight, unless it would wait for this thread. Whether that has ended.
+    bool waits_for(FlightOf &other, std::unique_lock<typename Parts::Mutex> &guard, Until until) {
         Wait wait{thread_, other.thread_, &other};
         if (!WaitsOf<Parts>::begin(wait)) {
             return false;
         }
         other.is_awaited_ = true;
-        flights_.ended_.wait(guard, [&wait] { return wait.is_over; });
-        return true;
+        Parts::wait(flights_.ended_, guard, until, [&wait] { return wait.is_over; });
+        if (!wait.is_over) {
+            WaitsOf<Parts>::leave(wait);
+        }
+        return wait.is_over;
     }
 
     FlightsOf<Parts> &flights_;
@@ -142,15 +148,28 @@ using Flight = FlightOf<Threads>;
 // Those of all keys of a map.
 class AllFlights {
   public:
+    // Each call waits for others' functions for so long at most. Call it before all others.
+    void limit(std::chrono::nanoseconds most_wait) noexcept { most_wait_ = most_wait; }
     Flights &of(const Identity &key) noexcept { return stripes_[key.index % stripes_.size()]; }
+    // The flight of a call, which waits no longer than to this time. The call's first flight sets it, if it is not set.
+    Flight begin(const Identity &key, Until &until) {
+        if (until == Until()) {
+            until = most_wait_ < ages ? std::chrono::steady_clock::now() + most_wait_ : Until::max();
+        }
+        return Flight(of(key), key, until);
+    }
     void outdate(const Identity &key) noexcept { of(key).outdate(key); }
     void outdate_all() noexcept {
         std::for_each(stripes_.begin(), stripes_.end(), [](Flights &some) { some.outdate_all(); });
     }
 
   private:
+    // A clock of nanoseconds can't add much more.
+    static constexpr std::chrono::hours ages{24 * 365 * 100};
+
     // map/SETTINGS has this number, and that of Rust's maps.
     std::array<Flights, 64> stripes_{};
+    std::chrono::nanoseconds most_wait_ = forever;
 };
 
 } // namespace cefrodil::inside

@@ -151,11 +151,12 @@ template <class K, class V, class Hash, class Equal> class ObjectCalls : public 
     // calls the function that it gets, which puts that and ends the flight.
     template <class Found, class Again, class Make> Computed<Found> computed(Key key, Again again, Make make) {
         const Identity known = inner_->identities.of(key);
+        Until until{};
         for (;;) {
             // No listener and no destructor runs while others wait for the flight, unless something throws.
             Change change(inner_->entries);
             Own object;
-            Flight flight(inner_->entries.flights.of(known), known);
+            Flight flight = inner_->entries.flights.begin(known, until);
             const uint64_t begun = generation();
             // Another flight may have ended before this one has begun.
             if (Found found = again()) {

@@ -5,11 +5,15 @@
 
 #include "forks.hpp"
 #include <atomic>
+#include <chrono>
 #include <condition_variable>
 #include <cstdint>
 #include <mutex>
 
 namespace cefrodil::inside {
+
+// When a call waits no longer. max: it waits for as long as it takes.
+using Until = std::chrono::steady_clock::time_point;
 
 struct Threads {
     template <class T> using Atomic = std::atomic<T>;
@@ -19,6 +23,14 @@ struct Threads {
     static uintptr_t this_thread() noexcept {
         static thread_local char place = 0;
         return reinterpret_cast<uintptr_t>(&place);
+    }
+    // Waits until this is so, or until this time.
+    template <class IsSo> static void wait(Condition &condition, std::unique_lock<Mutex> &guard, Until until, IsSo is_so) {
+        if (until == Until::max()) {
+            condition.wait(guard, is_so);
+        } else {
+            condition.wait_until(guard, until, is_so);
+        }
     }
     // A forked child finds its lock free, and none that waits.
     static Ownings &of_process() noexcept { return Ownings::of_library(); }

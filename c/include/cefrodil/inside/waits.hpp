@@ -40,6 +40,16 @@ template <class Parts> class WaitsOf {
         process.first_wait = &wait;
         return true;
     }
+    // Takes out a wait for a flight that goes on, with the lock of the flight's list.
+    static void leave(const Wait &wait) noexcept {
+        auto &process = Parts::of_process();
+        const std::lock_guard guard(process.lock);
+        Wait **link = &process.first_wait;
+        while (*link != &wait) {
+            link = &(*link)->next;
+        }
+        *link = wait.next;
+    }
     // Ends all waits for a flight.
     static void end(const void *flight) noexcept {
         auto &process = Parts::of_process();
