@@ -13,6 +13,7 @@ use std::collections::hash_map::RandomState;
 use std::fmt::{self, Debug, Formatter};
 use std::hash::BuildHasher;
 use std::marker::PhantomData;
+use std::sync::Arc;
 use std::time::Duration;
 
 /// Chooses how a map is opened.
@@ -138,7 +139,8 @@ impl<K: ?Sized, V: Copy + Send + Sync + 'static, S: BuildHasher> Builder<K, V, S
         let capacity = handles[0].capacity();
         let core = Core::new(handles, capacity, &self.settings, tries);
         let Settings { hasher, once, .. } = self.settings;
-        Ok(Map::of(Inner { core, printer: if once { Printer::once(hasher) } else { Printer::twice(hasher) }, layout }))
+        let printer = if once { Printer::once(hasher) } else { Printer::twice(hasher) };
+        Ok(Map { inner: Arc::new(Inner { core, printer, layout }) })
     }
 }
 

@@ -151,75 +151,61 @@ pub(crate) const TOO_DEEP: &str = "a listener's put within too many calls of lis
 const NO_MEMORY: &str = "no memory";
 pub(crate) const SPENT: &str = "the shard has made all its changes";
 
-impl Display for OpenError {
-    fn fmt(&self, text: &mut Formatter) -> fmt::Result {
-        text.write_str(match self {
-            OpenError::Capacity => "the capacity must be at least 1, and at most 3774873 for each shard",
-            OpenError::Shards => "shards must be a power of two from 1 to 256",
-            OpenError::Threads => "at most 1023 threads can have a handle of their own",
-            OpenError::NoMemory => NO_MEMORY,
-            OpenError::Index(why) => return why.fmt(text),
-        })
-    }
-}
-
-impl Display for GetError {
-    fn fmt(&self, text: &mut Formatter) -> fmt::Result {
-        text.write_str(match self {
-            GetError::Busy => BUSY,
-            GetError::Computing => "another thread computes the value",
-        })
-    }
-}
-
-impl Display for InsertError {
-    fn fmt(&self, text: &mut Formatter) -> fmt::Result {
-        text.write_str(match self {
-            InsertError::Held => HELD,
-            InsertError::NoPlace => "there is no place for the key",
-            InsertError::AllRecent => "the shard is full, and each entry was used again",
-            InsertError::NoTimeToLive => "the map was opened without a time to live",
-            InsertError::TooHeavy => TOO_HEAVY,
-            InsertError::TooDeep => TOO_DEEP,
-            InsertError::Spent => SPENT,
-        })
-    }
-}
-
-impl Display for RemoveError {
-    fn fmt(&self, text: &mut Formatter) -> fmt::Result {
-        text.write_str(match self {
-            RemoveError::Busy => BUSY,
-            RemoveError::Held => HELD,
-            RemoveError::Contended => CONTENDED,
-            RemoveError::Spent => SPENT,
-        })
-    }
-}
-
-impl Display for UpdateError {
-    fn fmt(&self, text: &mut Formatter) -> fmt::Result {
-        match self {
-            UpdateError::Busy => text.write_str(BUSY),
-            UpdateError::Contended => text.write_str(CONTENDED),
-            UpdateError::Insert(why) => why.fmt(text),
+// The texts of an error.
+macro_rules! texts {
+    ($error:ident: $($case:pat => $text:expr,)*) => {
+        impl Display for $error {
+            fn fmt(&self, text: &mut Formatter) -> fmt::Result {
+                match self {
+                    $($case => write!(text, "{}", $text),)*
+                }
+            }
         }
-    }
+
+        impl Error for $error {}
+    };
+}
+#[cfg(feature = "objects")]
+pub(crate) use texts;
+
+texts! { OpenError:
+    OpenError::Capacity => "the capacity must be at least 1, and at most 3774873 for each shard",
+    OpenError::Shards => "shards must be a power of two from 1 to 256",
+    OpenError::Threads => "at most 1023 threads can have a handle of their own",
+    OpenError::NoMemory => NO_MEMORY,
+    OpenError::Index(why) => why,
 }
 
-impl Display for ClearError {
-    fn fmt(&self, text: &mut Formatter) -> fmt::Result {
-        text.write_str(match self {
-            ClearError::Held => HELD,
-            ClearError::NoMemory => NO_MEMORY,
-            ClearError::Spent => SPENT,
-        })
-    }
+texts! { GetError:
+    GetError::Busy => BUSY,
+    GetError::Computing => "another thread computes the value",
 }
 
-impl Error for OpenError {}
-impl Error for GetError {}
-impl Error for InsertError {}
-impl Error for RemoveError {}
-impl Error for UpdateError {}
-impl Error for ClearError {}
+texts! { InsertError:
+    InsertError::Held => HELD,
+    InsertError::NoPlace => "there is no place for the key",
+    InsertError::AllRecent => "the shard is full, and each entry was used again",
+    InsertError::NoTimeToLive => "the map was opened without a time to live",
+    InsertError::TooHeavy => TOO_HEAVY,
+    InsertError::TooDeep => TOO_DEEP,
+    InsertError::Spent => SPENT,
+}
+
+texts! { RemoveError:
+    RemoveError::Busy => BUSY,
+    RemoveError::Held => HELD,
+    RemoveError::Contended => CONTENDED,
+    RemoveError::Spent => SPENT,
+}
+
+texts! { UpdateError:
+    UpdateError::Busy => BUSY,
+    UpdateError::Contended => CONTENDED,
+    UpdateError::Insert(why) => why,
+}
+
+texts! { ClearError:
+    ClearError::Held => HELD,
+    ClearError::NoMemory => NO_MEMORY,
+    ClearError::Spent => SPENT,
+}

@@ -243,10 +243,6 @@ impl<K: Key + ?Sized, V: Copy + Send + Sync + 'static, S: BuildHasher> Map<K, V,
 }
 
 impl<K: ?Sized, V, S> Map<K, V, S> {
-    pub(crate) fn of(inner: Inner<K, V, S>) -> Map<K, V, S> {
-        Map { inner: Arc::new(inner) }
-    }
-
     /// The most entries that the map holds: what was asked for, or more. Shards fill unevenly, so it may evict before it has so many.
     #[must_use]
     pub fn capacity(&self) -> usize {

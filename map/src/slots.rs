@@ -60,7 +60,8 @@ impl<H: 'static> Slots<H> {
         static NEXT: AtomicU64 = AtomicU64::new(1);
         let shared = handles.pop().expect("opening makes one handle at least");
         count_forks();
-        let slots: Box<[Slot<H>]> = handles.into_iter().map(Slot::new).collect();
+        let slot = |handle| Slot { handle: RefCell::new(handle), counts: Counts::default() };
+        let slots: Box<[Slot<H>]> = handles.into_iter().map(slot).collect();
         Slots {
             // Relaxed: it is enough that no two numbers are the same.
             id: NEXT.fetch_add(1, Relaxed),
@@ -212,12 +213,6 @@ impl<H> Home for Slots<H> {
         let mut free = lock(&self.free);
         free.push(index);
         self.free_count.store(free.len(), Relaxed);
-    }
-}
-
-impl<H> Slot<H> {
-    fn new(handle: H) -> Slot<H> {
-        Slot { handle: RefCell::new(handle), counts: Counts::default() }
     }
 }
 

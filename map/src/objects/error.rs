@@ -1,5 +1,5 @@
 //! Why a call on objects failed.
-use crate::error::{InsertError, BUSY, CONTENDED, HELD, SPENT, TOO_DEEP, TOO_HEAVY};
+use crate::error::{texts, InsertError, BUSY, CONTENDED, HELD, SPENT, TOO_DEEP, TOO_HEAVY};
 use std::error::Error;
 use std::fmt::{self, Debug, Display, Formatter};
 
@@ -74,31 +74,21 @@ impl<K, V, E: Display> Display for Refused<K, V, E> {
     }
 }
 
-impl Display for AbsentError {
-    fn fmt(&self, text: &mut Formatter) -> fmt::Result {
-        match self {
-            AbsentError::Present { .. } => text.write_str("the key has a value"),
-            AbsentError::Busy => text.write_str(BUSY),
-            AbsentError::Contended => text.write_str(CONTENDED),
-            AbsentError::Insert(why) => Display::fmt(why, text),
-        }
-    }
-}
-
-impl Display for IfError {
-    fn fmt(&self, text: &mut Formatter) -> fmt::Result {
-        text.write_str(match self {
-            IfError::NotThere { .. } => "the key is absent",
-            IfError::Changed { .. } => "the key was put since",
-            IfError::Busy => BUSY,
-            IfError::Held => HELD,
-            IfError::TooHeavy => TOO_HEAVY,
-            IfError::TooDeep => TOO_DEEP,
-            IfError::Spent => SPENT,
-        })
-    }
-}
-
 impl<K, V, E: Error> Error for Refused<K, V, E> {}
-impl Error for AbsentError {}
-impl Error for IfError {}
+
+texts! { AbsentError:
+    AbsentError::Present { .. } => "the key has a value",
+    AbsentError::Busy => BUSY,
+    AbsentError::Contended => CONTENDED,
+    AbsentError::Insert(why) => why,
+}
+
+texts! { IfError:
+    IfError::NotThere { .. } => "the key is absent",
+    IfError::Changed { .. } => "the key was put since",
+    IfError::Busy => BUSY,
+    IfError::Held => HELD,
+    IfError::TooHeavy => TOO_HEAVY,
+    IfError::TooDeep => TOO_DEEP,
+    IfError::Spent => SPENT,
+}

@@ -126,8 +126,7 @@ impl<K, V, S> ObjectInner<Object<K, V>, S> {
         let idle = self.core.idle.map_or(NEVER, |idle| self.core.clock.deadline(idle));
         let mut object = Object::new(key, value, generation, self.deadline(life), idle);
         if let Some(weights) = &self.weights {
-            let weight = weights.weigh(&object);
-            object.set_weight(weight);
+            object.weight = (weights.weigher)(&object);
         }
         Arc::new(object)
     }

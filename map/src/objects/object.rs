@@ -74,7 +74,8 @@ pub(crate) struct Object<K, V> {
     deadline: AtomicU64,
     // When it expires if it is not used. Relaxed: as above.
     idle: AtomicU64,
-    weight: u64,
+    /// It stays the same from its put on.
+    pub weight: u64,
     generation: AtomicU64,
     pub value: V,
 }
@@ -104,11 +105,6 @@ impl<K, V> Object<K, V> {
             Arc::increment_strong_count(at);
             Arc::from_raw(at)
         }
-    }
-
-    /// Before it is put.
-    pub fn set_weight(&mut self, weight: u64) {
-        self.weight = weight;
     }
 }
 

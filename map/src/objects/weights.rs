@@ -7,7 +7,7 @@ pub(crate) type Weigher<O> = Box<dyn Fn(&O) -> u64 + Send + Sync>;
 /// What objects may weigh together, and what they do.
 pub(crate) struct Weights<O> {
     most: AtomicU64,
-    weigher: Weigher<O>,
+    pub weigher: Weigher<O>,
     // Of the objects in the map, and of those that are about to be put.
     sum: AtomicU64,
     // How many of them each shard has. Relaxed: they only say where to evict.
@@ -33,11 +33,6 @@ impl<O> Weights<O> {
     pub fn new(most: u64, weigher: Weigher<O>, shards: u32) -> Weights<O> {
         let numbers = (0..shards).map(|_| AtomicU64::new(0)).collect();
         Weights { most: AtomicU64::new(most.min(HIGHEST)), weigher, sum: AtomicU64::new(0), numbers, next: AtomicUsize::new(0) }
-    }
-
-    /// What the weigher says of an object that is to be put.
-    pub fn weigh(&self, object: &O) -> u64 {
-        (self.weigher)(object)
     }
 
     /// Changes what they may weigh together.
