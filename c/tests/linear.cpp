@@ -146,8 +146,8 @@ int main(int argc, char **argv) {
     Stopped running(threads);
     if (argc == 1) {
         for (uint64_t seed = 1; seed <= 4 && line_of_failure == 0; seed++) {
-            make_fixed(800, seed, running);
-            make_all_drawn("", seed, 300, std::chrono::hours(1), running);
+            make_fixed(300, seed, running);
+            make_all_drawn("", seed, 100, std::chrono::hours(1), running);
         }
     }
     uint64_t seed = argc > 3 ? number(3) : static_cast<uint64_t>(end.time_since_epoch().count());
