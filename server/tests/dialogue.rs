@@ -174,7 +174,7 @@ fn meta_commands_ask_for_a_token() {
         assert_eq!(client.ask(command), "EX\n", "{command}");
         assert_eq!(client.ask("mg n v c\n"), "VA 1 c1\n5\n", "{command}");
     }
-    assert_eq!(client.ask("ma n C1 v c\nms n 1 C2 MA c\n0\nmd n C3\nmg n\n"), "VA 1 c2\n6\nHD c3\nHD\nEN\n");
+    assert_eq!(client.ask("ma n C1 v c\nms n 1 C2 MA c\n0\nmd n c C3\nmg n\n"), "VA 1 c2\n6\nHD c3\nHD\nEN\n");
 }
 
 #[test]

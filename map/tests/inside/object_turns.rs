@@ -250,20 +250,6 @@ fn what_was_put_since_is_not_removed_as_expired() {
     assert_eq!((map.get(&1), map.stats().removed, map.stats().refused), (Some(20), 0, 0));
 }
 
-// The entry is put anew once the call has looked at it.
-#[test]
-fn a_sweep_looks_again_at_what_was_put_since() {
-    let ((map, _), mut seen) = (open(), Vec::new());
-    let other = map.clone();
-    before_calls(2, 1, move || assert!(other.insert(1, 20).is_ok()));
-    let keeps = |_: &u64, value: &u64| {
-        seen.push(*value);
-        false
-    };
-    assert_eq!((calls(|| map.retain(keeps)).1, map.len()), (Ok(1), 0));
-    assert_eq!(seen, [10, 20]);
-}
-
 // What expires while a call has its key's lock is not taken out before the call has ended.
 #[test]
 fn what_has_expired_waits_for_the_lock_of_its_key() {

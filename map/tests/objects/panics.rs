@@ -132,17 +132,6 @@ fn a_panic_in_clone_or_drop_ends_there() {
     assert_eq!(COUNT.load(SeqCst), VALUES + 1 + 190);
 }
 
-#[test]
-fn a_panic_of_who_hears_that_an_object_is_freed_ends_there() {
-    let ledger = Ledger::new(100);
-    let map = ObjectMap::<u64, Owned>::builder(100).freed(|_, _| panic!("as the test wants")).open().unwrap();
-    (1..=3).for_each(|key| done(map.insert(key, ledger.make(key)).unwrap()));
-    assert!(map.retain(|key, _| *key == 3).is_ok_and(|removed| removed == 2));
-    assert_eq!((map.free_unused(), ledger.dropped()), (0, 2));
-    drop(map);
-    ledger.each_once();
-}
-
 /// What a destructor panics with. Its own destructor panics, too.
 struct Payload;
 
