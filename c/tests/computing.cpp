@@ -69,6 +69,18 @@ static void keys_of_one_hash() {
     MUST(map.meter().counts().hits == 1 && map.meter().counts().misses == 2);
 }
 
+// What is computed while all is removed may be older, so it is not put.
+template <class Any> static void cleared_meanwhile() {
+    Any map;
+    MUST(map.open({100}) == Status::ok);
+    const auto compute = [&] {
+        MUST(map.clear() == Status::ok);
+        return uint64_t(10);
+    };
+    const auto computed = map.find_or_compute(1, compute);
+    MUST(computed.status == Status::stale && computed.value == 10 && !map.find(1));
+}
+
 static void many_objects() {
     cefrodil::object_map<std::string, std::string> map;
     std::array<std::string, 100> keys;
@@ -101,6 +113,8 @@ int main() {
     an_update_for_declines<cefrodil::timed_map<uint64_t, uint64_t>>();
     an_update_for_declines<cefrodil::object_map<uint64_t, uint64_t>>();
     keys_of_one_hash();
+    cleared_meanwhile<cefrodil::map<uint64_t, uint64_t>>();
+    cleared_meanwhile<cefrodil::timed_map<uint64_t, uint64_t>>();
     many_objects();
     return outcome("computing");
 }

@@ -105,6 +105,14 @@ static void updates_of_what_has_ended() {
 
 // What happens when a call of this thread next asks for the time.
 static thread_local std::function<void()> act;
+static void open_acting(Timed &map) {
+    cefrodil::Lives lives;
+    lives.clock = [] {
+        meet(act);
+        return clock_now();
+    };
+    MUST(map.open({100}, lives) == Status::ok);
+}
 static void open_acting(Objects &map) {
     Objects::Rules rules;
     rules.lives.clock = [] {
@@ -140,18 +148,40 @@ static void insert_over_what_has_ended_since() {
 }
 
 // An entry that has ended is put anew when erase_expired has listed it, and before it is removed.
-static void put_since_it_was_listed() {
-    cefrodil::Lives lives;
-    lives.clock = [] {
-        meet(act);
-        return clock_now();
-    };
-    Timed map;
+template <class Any> static void put_since_it_was_listed(Any &map) {
     now = 0;
-    MUST(map.open({100}, lives) == Status::ok && map.insert_for(1, 10, nanoseconds(100)).status == Status::ok);
+    MUST(map.insert_for(1, 10, nanoseconds(100)).status == Status::ok);
     now = 200;
     act = [&] { MUST(map.insert_or_assign(1, 11).renewed); };
     MUST(map.erase_expired() == Status::ok && !act && map.find(1) == 11u && map.size() == 1);
+}
+
+static void puts_since_it_was_listed() {
+    Timed timed;
+    Objects objects;
+    open_acting(timed);
+    open_acting(objects);
+    put_since_it_was_listed(timed);
+    put_since_it_was_listed(objects);
+}
+
+// A value lands that is being computed when its key is erased, once that call has looked. It may be older than what the caller did before.
+static void computed_before_an_erase() {
+    Map map;
+    std::atomic<int> step{0};
+    const auto wait_for = [&](int next) {
+        while (step != next) {
+            std::this_thread::yield();
+        }
+    };
+    MUST(map.open({100}) == Status::ok);
+    std::thread computing([&] {
+        const auto compute = [&] { return step = 1, wait_for(2), uint64_t(10); };
+        MUST(map.find_or_compute(1, compute).status == Status::stale);
+    });
+    wait_for(1);
+    looked = [&] { step = 2, computing.join(); };
+    MUST(map.erase(1) == Status::absent && !looked && !map.find(1));
 }
 
 // Each key is its own number, by which the map's flights are told apart.
@@ -247,7 +277,8 @@ int main() {
     updates_of_what_has_ended();
     computed_over_what_is_taken_out();
     insert_over_what_has_ended_since();
-    put_since_it_was_listed();
+    puts_since_it_was_listed();
+    computed_before_an_erase();
     what_has_ended_is_taken_out_before_a_put();
     return outcome("crossed");
 }

@@ -123,7 +123,17 @@ static void a_child_takes_no_lock_for_its_pass() {
     MUST(locks == 2 && passes.count() == 2);
 }
 
+// Maps are closed in any order. None is left in the list that a fork goes through.
+static void closed_maps_are_not_listed() {
+    const auto &listed = cefrodil::inside::Ownings::of_library().first;
+    const auto *const before = listed;
+    Map one, other;
+    MUST(one.open({100}) == Status::ok && other.open({100}) == Status::ok && listed != before);
+    MUST(other.close() == Status::ok && one.close() == Status::ok && listed == before);
+}
+
 int main() {
+    closed_maps_are_not_listed();
     a_child_takes_no_lock_for_its_pass();
     const auto shape = cefrodil::shape_for_items(2000);
     MUST(shape && map.open({100000}) == Status::ok && full.open({KEYS, 1}) == Status::ok);

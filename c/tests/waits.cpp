@@ -2,6 +2,8 @@
 // thread is needed: functions stand in for some calls of the index (stand_ins.hpp) and of the system.
 #include "must.h"
 #include "stand_ins.hpp"
+// Behind it, so that its functions stand in for those that objects call, too.
+#include "cefrodil_object_map.hpp"
 #include <sched.h>
 #include <sys/syscall.h>
 #include <time.h>
@@ -150,6 +152,16 @@ static void many_keys() {
     MUST(counts.busy == 1 && counts.hits == 8 * 34 + 33 && counts.misses == 9 * 16);
 }
 
+// So are many objects.
+static void many_objects() {
+    cefrodil::object_map<int, int> map;
+    const int keys[] = {1, 2, 3};
+    std::optional<int> values[3];
+    MUST(map.open({100}) == Status::ok && map.insert(1, 10).status == Status::ok && map.insert(2, 20).status == Status::ok);
+    disturb(3);
+    MUST(map.find_many(keys, 3, values) == 2 && values[0] == 10 && values[1] == 20 && !values[2] && made == 3 + 3);
+}
+
 static bool counts(const cefrodil::map<int, int> &map, uint64_t given_up, uint64_t stalled) {
     const cefrodil::Counts all = map.meter().counts();
     return all.given_up == given_up && all.stalled == stalled;
@@ -201,5 +213,6 @@ int main() {
     held_clear();
     clear_that_waits();
     many_keys();
+    many_objects();
     return outcome("waits");
 }

@@ -153,6 +153,17 @@ static void shares() {
     MUST(stay(1) == 30 && numbers.weight() > 950 && numbers.weight() <= 1000);
 }
 
+// As many objects leave as must, however many shards without one are looked at between two of them.
+static void few_of_many_shards() {
+    object_map<uint64_t, uint64_t, Plain> numbers;
+    MUST(numbers.open({1000, 256}, bounded(100)) == Status::ok);
+    for (uint64_t key = 0; numbers.size() < 4; key++) {
+        const bool is_in = (cefrodil::inside::mixed(key) >> 48 & 255) == 200;
+        MUST(!is_in || numbers.insert(key, 25).status == Status::ok);
+    }
+    MUST(numbers.weight() == 100 && numbers.insert(UINT64_MAX, 100).evicted && numbers.weight() == 100 && numbers.size() == 1);
+}
+
 // Without a weigher a map has room for as many entries as were asked for. With one shard it holds just these.
 static void entries_alone() {
     for (const uint32_t shards : {1, 4, 0}) {
@@ -314,6 +325,7 @@ int main(int argc, char **argv) {
     used_keys_stay();
     a_new_object_stays();
     shares();
+    few_of_many_shards();
     entries_alone();
     waiting();
     the_bound_changes();

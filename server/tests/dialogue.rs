@@ -74,6 +74,15 @@ fn what_has_come_of_a_block_that_is_refused_is_not_kept() {
 }
 
 #[test]
+fn a_value_that_has_come_whole_is_not_refused_for_what_its_client_holds() {
+    let (store, mut dialogue, mut answers) = (Client::new(MEGABYTE).store, Dialogue::default(), Output::default());
+    dialogue.refuse_block();
+    let whole = b"set a 0 0 1\r\n1\r\n";
+    assert_eq!(dialogue.turn(&store, whole, &mut answers), (whole.len(), Turn::Needs(1)));
+    assert_eq!(&answers[..], b"STORED\r\n");
+}
+
+#[test]
 fn what_has_come_of_a_line_that_is_refused_is_not_kept() {
     let (store, mut dialogue) = (Client::new(MEGABYTE).store, Dialogue::default());
     let (line, mut answers) = (format!("get a {}", "x".repeat(3_000)), Output::default());
@@ -174,7 +183,7 @@ fn meta_commands_ask_for_a_token() {
         assert_eq!(client.ask(command), "EX\n", "{command}");
         assert_eq!(client.ask("mg n v c\n"), "VA 1 c1\n5\n", "{command}");
     }
-    assert_eq!(client.ask("ma n C1 v c\nms n 1 C2 MA c\n0\nmd n C3\nmg n\n"), "VA 1 c2\n6\nHD c3\nHD\nEN\n");
+    assert_eq!(client.ask("ma n C1 v c\nms n 1 C2 MA c\n0\nmd n c C3\nmg n\n"), "VA 1 c2\n6\nHD c3\nHD\nEN\n");
 }
 
 #[test]

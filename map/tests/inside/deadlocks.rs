@@ -1,7 +1,11 @@
 //! Threads whose functions want the values that the others compute.
 use super::forks::in_child;
+use super::turns::before_calls;
 use super::waiting::LONG;
+use crate::slots::BEFORE_CALL;
 use crate::{deadlocks, Map};
+#[cfg(feature = "objects")]
+use std::hash::RandomState;
 use std::sync::mpsc::channel;
 use std::sync::{Arc, Barrier};
 use std::thread;
@@ -110,9 +114,31 @@ fn a_call_that_may_not_wait_computes_for_itself_alone() {
     assert_eq!((asks_within(|make| map.get_or_insert_with(&1, make)), map.get(&1), map.stats().added), (11, Some(11), 1));
     #[cfg(feature = "objects")]
     {
-        let map = crate::ObjectMap::<u64, u64>::builder(100).most_wait(Duration::ZERO).open().unwrap();
+        let builder = crate::ObjectMap::<u64, u64>::builder(100).most_wait(Duration::ZERO);
+        let map = builder.hasher(RandomState::new()).open().unwrap();
         assert_eq!((asks_within(|make| map.get_or_insert_with(&1, make)), map.get(&1), map.stats().added), (11, Some(11), 1));
     }
+}
+
+// Each computation fails once the call waits for it, and the next one has begun before the call looks again. So no wait is long, but all together are.
+#[test]
+fn a_call_waits_for_many_computations_no_longer_than_for_one() {
+    let map = Numbers::builder(100).most_wait(Duration::from_millis(100)).open().unwrap();
+    let other = map.clone();
+    before_calls(0, 100_000, move || {
+        let (map, (begun, has_begun)) = (other.clone(), channel());
+        thread::spawn(move || {
+            let fail = || {
+                begun.send(()).unwrap();
+                until_one_waits(&map, 1);
+                Err::<u64, ()>(())
+            };
+            map.get_or_try_insert_with(&1, fail)
+        });
+        has_begun.recv().unwrap();
+    });
+    assert_eq!(map.get_or_insert_with(&1, || 10), 10);
+    assert_eq!((BEFORE_CALL.take().is_some(), map.get(&1)), (true, None), "it has waited until none computes any more");
 }
 
 // A thread that has computed so asks no more for what it would have waited for.

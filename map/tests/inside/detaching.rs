@@ -1,10 +1,11 @@
 //! When writes of a map detach the flight of their key: before they call the index, and after the caller's closure has run.
 use super::done;
-use super::waiting::while_it_waits;
+use super::waiting::{while_it_waits, LONG};
 use crate::flight::{Boarding, Leader};
 use crate::Map;
 use std::sync::OnceLock;
-use std::time::Duration;
+use std::thread;
+use std::time::{Duration, Instant};
 
 type Numbers = Map<u64, u64>;
 
@@ -108,4 +109,22 @@ fn nothing_detaches_a_flight_while_its_value_is_put() {
     };
     while_it_waits(&inner.core.slots, compute, || assert!(inner.core.flights.is_locked(print), "a write can detach the flight"));
     assert_eq!((map.get(&KEY), inner.core.flights.is_locked(print)), (Some(2), false));
+}
+
+// So a flight that begins once the call has returned is of the next generation, and none that is older is left to wait for.
+#[test]
+fn an_invalidation_ends_the_generation_before_it_detaches() {
+    let (map, begin) = (open(), Instant::now());
+    let (leader, other, generation) = (board(&map, KEY), map.clone(), &map.inner.core.generation);
+    let before = generation.now();
+    let beside_a_lock = || {
+        let invalidation = thread::spawn(move || other.invalidate_all());
+        while generation.now() == before {
+            assert!(begin.elapsed() < LONG, "it detaches flights first");
+            thread::yield_now();
+        }
+        invalidation
+    };
+    leader.put(beside_a_lock).unwrap().join().unwrap();
+    assert!(is_detached(&leader));
 }

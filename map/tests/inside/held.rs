@@ -93,7 +93,12 @@ fn a_clear_tries_to_list_a_hundred_times() {
 #[test]
 fn a_clear_whose_removal_is_held_says_so() {
     type Clear = fn(&Map<u64, u64>) -> Result<(), ClearError>;
-    let clears: [(Clear, u32); 2] = [(|map| map.clear(), TRIES), (|map| map.try_clear(), 1)];
+    let clears: [(Clear, u32); 4] = [
+        (|map| map.clear(), TRIES),
+        (|map| map.try_clear(), 1),
+        (|map| map.retain(|_, _| false).map(drop), TRIES),
+        (|map| map.remove_expired().map(drop), TRIES),
+    ];
     for (clear, tries) in clears {
         let (map, turn) = (open(), Rc::new(RefCell::new(None)));
         let (held, taken) = (map.clone(), Rc::clone(&turn));
