@@ -68,7 +68,7 @@ template <class Parts> class alignas(64) FlightsOf {
 template <class Parts> class FlightOf {
   public:
     // Begins, or waits for the end of another thread's flight for this key, until this time at most.
-    FlightOf(FlightsOf<Parts> &flights, const Identity &key, Until until = Until::max()) : flights_(flights), key_(key) {
+    FlightOf(FlightsOf<Parts> &flights, const Identity &known, Until until = Until::max()) : flights_(flights), key_(known) {
         std::unique_lock<typename Parts::Mutex> guard(flights_.lock_);
         if (FlightOf *const other = flights_.flight_of(key_)) {
             is_alone_ = !waits_for(*other, guard, until);
