@@ -21,9 +21,9 @@ struct Waits {
 
 /// Notes that this thread begins to wait for the flight. Or returns `false`: the leader waits for this thread, perhaps by way of others.
 ///
-/// The caller has the lock of the flight, which goes on. Who ends the flight calls `end_all` with that lock before it goes on itself. So whoever
-/// waits for a flight that goes on is listed with it, and of the threads of a ring the last one to come here sees the others. A wait that is over may
-/// be listed until the leader has called `end_all`. That leader waits for nobody and calls nothing, so whoever follows the wait gets no further.
+/// Call it with the lock of the flight, which still runs. The thread that ends the flight calls `end_all` with that lock, before it does anything
+/// else. So each thread that waits for a running flight is listed, and the last thread of a ring to come here sees the others. A wait that is over may
+/// be listed until the leader has called `end_all`. But that leader waits for nobody, so a chain that follows this wait ends there.
 pub(crate) fn begin(thread: usize, flight: usize, leader: usize) -> bool {
     let mut threads = threads();
     let closes_a_ring = successors(Some(leader), |other| Some(threads.get(other)?.leader)).any(|other| other == thread);
