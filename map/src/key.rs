@@ -189,7 +189,7 @@ impl<T: Hash> Key for Hashed<T> {
     label = "a `Map` keeps no keys, but integers of up to 64 bits",
     note = "take an `ObjectMap`, of the feature `objects`: it keeps its keys"
 )]
-pub trait Number: Key + Sized {
+pub trait Number: Key + Copy {
     /// The key that writes this number, which a key of this type has written.
     #[doc(hidden)]
     fn of_bits(bits: u64) -> Option<Self>;

@@ -16,6 +16,7 @@ mod forks;
 mod generation;
 mod handle;
 mod inner;
+mod iter;
 mod key;
 mod key_locks;
 mod load;
