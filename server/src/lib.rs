@@ -4,6 +4,7 @@
 pub mod accept;
 pub mod allocator;
 pub mod audit;
+mod base64;
 pub mod books;
 pub mod budget;
 pub mod clock;

@@ -71,7 +71,7 @@ fn nothing_gives_way_to_an_item_that_a_command_could_not_change() {
 
 #[test]
 fn what_an_item_counts() {
-    assert_eq!((cost(0, 0), cost(3, 5)), (44, 52));
+    assert_eq!((cost(0, 0), cost(3, 5)), (48, 56));
 }
 
 /// A command that changes what `a` has, and its answer.
