@@ -41,6 +41,9 @@ mod signal;
 pub mod slabs;
 mod stats;
 pub mod store;
+pub mod stream;
+#[cfg(feature = "tls")]
+pub mod tls;
 pub mod user;
 pub mod users;
 mod walk;
