@@ -57,6 +57,14 @@ fn lookups_and_new_times_to_live() {
     ]);
 }
 
+/// Each of these answers is sent before the next key is looked at.
+#[test]
+fn lookups_of_large_values() {
+    let mut client = Client::new(MEGABYTE);
+    client.ask(&format!("set large 0 0 20000\n{}\n", "x".repeat(20_000)));
+    assert_eq!(counted(&mut client, "get large large large\n"), "3*cmd_get 3*get_hits");
+}
+
 #[test]
 fn values() {
     assert_counts(&[

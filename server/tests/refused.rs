@@ -4,11 +4,12 @@ mod plain;
 use cefrodild::connection::{warm_up, Next};
 use cefrodild::item::new_item;
 use cefrodild::memory::Spare;
+use cefrodild::request::How;
 use cefrodild::slabs;
 use cefrodild::store::Store;
 use cefrodild::worker::Worker;
 use plain::both::Both;
-use plain::client::map_store;
+use plain::client::{map_store, order};
 use std::alloc::{GlobalAlloc, Layout, System};
 use std::cell::Cell;
 use std::io::{ErrorKind, Read, Write};
@@ -266,5 +267,32 @@ fn each_allocation_of_a_worker_is_refused() {
         assert!(stored >= 39 - 30 * usize::from(refused), "{stored}");
         assert_eq!(store.seats.taken(), 0);
         was_refused = refused;
+    }
+}
+
+/// If items that give way don't help, no more of them go in that second.
+#[test]
+fn items_do_not_go_in_vain() {
+    let _turn = set_up();
+    let (store, value) = (store(), vec![b'x'; 100_000]);
+    (0..200).for_each(|key: u8| assert!(store.store(&order(How::Set, &[key], 1_000), &value[..1_000]).is_ok()));
+    let mut gone = Vec::new();
+    for _ in 0..20 {
+        let before = store.index.len();
+        let (answer, _) = refusing(0, usize::MAX, || store.store(&order(How::Set, b"large", value.len()), &value));
+        assert!(answer.is_err());
+        gone.push(before - store.index.len());
+    }
+    // A second may end meanwhile.
+    assert!(gone[0] > 0 && gone.iter().filter(|gone| **gone > 0).count() <= 3, "{gone:?}");
+}
+
+/// The reserve has a megabyte.
+#[test]
+fn the_reserve_begins_anew_when_none_of_it_is_taken() {
+    let _turn = set_up();
+    for _ in 0..50 {
+        let (block, is_refused) = refusing(0, 1, || Vec::<u8>::with_capacity(100_000));
+        assert!(is_refused && block.capacity() == 100_000);
     }
 }

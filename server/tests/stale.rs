@@ -24,6 +24,7 @@ fn the_client_that_misses_is_to_fetch_the_value() {
         ("md k q\nmg k q v\nmn\n", "MN\n"),
         ("mg k N0 s\n", "HD s0 W\n"),
         ("mg k t\n", "HD t-1 Z\n"),
+        ("md k q\nmg k N0 T60 t\nmg k t\n", "HD t60 W\nHD t60 Z\n"),
     ]);
 }
 

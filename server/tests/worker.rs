@@ -1,11 +1,13 @@
 //! A worker and its clients.
 mod plain;
+use cefrodild::files::make_room;
 use cefrodild::store::Store;
 use cefrodild::worker::{Inbox, Worker};
 use plain::both::connection;
 use plain::client::{Client, MEGABYTE};
 use std::io::{self, Read, Write};
 use std::net::{TcpListener, TcpStream};
+use std::sync::mpsc::channel;
 use std::sync::Arc;
 use std::thread::{spawn, yield_now, JoinHandle};
 use std::time::{Duration, Instant};
@@ -32,9 +34,14 @@ impl Working {
 
     /// One whose worker does not run yet.
     fn waiting() -> (Working, Worker) {
-        let store = Client::new(MEGABYTE).store;
-        let (worker, inbox) = Worker::new(Arc::clone(&store)).expect("there are descriptors");
-        (Working { store, listener: TcpListener::bind("127.0.0.1:0").expect("a port is free"), inbox }, worker)
+        Working::of(&Client::new(MEGABYTE).store)
+    }
+
+    /// The same, over this store.
+    fn of(store: &Arc<Store>) -> (Working, Worker) {
+        let (worker, inbox) = Worker::new(Arc::clone(store)).expect("there are descriptors");
+        let (store, listener) = (Arc::clone(store), TcpListener::bind("127.0.0.1:0").expect("a port is free"));
+        (Working { store, listener, inbox }, worker)
     }
 
     /// A client that the worker has.
@@ -152,4 +159,30 @@ fn a_client_that_quits_leaves_its_seat() {
     assert_eq!(answer, b"STORED\r\n");
     working.wait(1);
     assert!(is_answered(&second));
+}
+
+/// There are more than the worker hears of at once, so some have no event in its last round.
+#[test]
+fn all_that_clients_have_sent_is_answered_at_the_end() {
+    const CLIENTS: usize = 3_000;
+    make_room(2 * CLIENTS, 1).expect("the system allows as many files");
+    let first = Client::with(MEGABYTE, &format!("-t1 -c {}", CLIENTS + 1));
+    let (working, worker) = Working::of(&first.store);
+    let ended = spawn(|| worker.run(0));
+    let mut clients: Vec<_> = (0..CLIENTS).map(|_| working.connect()).collect();
+    assert!(clients.iter().all(is_answered));
+    // The worker waits within a command. When it goes on, it hears of the inbox first.
+    let (go_on, waits) = channel();
+    *first.control.before_look.lock().unwrap() = Some(Box::new(move || waits.recv().expect("it is told to")));
+    clients[0].write_all(b"get k\r\n").expect("it is connected");
+    while first.control.before_look.lock().unwrap().is_some() {
+        yield_now();
+    }
+    let _last = working.connect();
+    clients[1..].iter_mut().for_each(|client| client.write_all(b"mn\r\n").expect("it is connected"));
+    drop(working);
+    go_on.send(()).expect("it waits");
+    let is_told = |mut client: &TcpStream| client.read(&mut [0]).is_ok_and(|length| length == 1);
+    assert_eq!(clients.iter().filter(|client| is_told(client)).count(), CLIENTS);
+    assert!(join(ended).is_ok());
 }
