@@ -24,7 +24,8 @@ impl Acceptor {
     pub fn new(tls: &Tls) -> io::Result<Acceptor> {
         let mut builder = SslAcceptor::mozilla_intermediate_v5(SslMethod::tls())?;
         of(&tls.chain, builder.set_certificate_chain_file(&tls.chain))?;
-        of(&tls.key, builder.set_private_key_file(&tls.key, SslFiletype::PEM).and_then(|()| builder.check_private_key()))?;
+        // It fails if the key is not that of the certificate.
+        of(&tls.key, builder.set_private_key_file(&tls.key, SslFiletype::PEM))?;
         if let Some(file) = &tls.authority {
             of(file, builder.set_ca_file(file))?;
             let certificates = fs::read(file).map_err(|why| named(&file.display(), &why))?;

@@ -1,6 +1,7 @@
 //! Memory that the system refuses: each allocation in turn, and all for a while. Clients get an error or are cut off, and the server goes on. The index is the
 //! real one.
 mod plain;
+use cefrodild::books::Books;
 use cefrodild::connection::{warm_up, Next};
 use cefrodild::item::new_item;
 use cefrodild::memory::Spare;
@@ -9,11 +10,13 @@ use cefrodild::slabs;
 use cefrodild::store::Store;
 use cefrodild::worker::Worker;
 use plain::both::Both;
-use plain::client::{map_store, order};
+use plain::client::{map_store, options_of, order};
+use plain::{Control, Plain};
 use std::alloc::{GlobalAlloc, Layout, System};
 use std::cell::Cell;
 use std::io::{ErrorKind, Read, Write};
 use std::ptr;
+use std::sync::atomic::Ordering::SeqCst;
 use std::sync::{Arc, Mutex, MutexGuard, Once, PoisonError};
 
 /// Refuses some allocations of one thread.
@@ -295,4 +298,27 @@ fn the_reserve_begins_anew_when_none_of_it_is_taken() {
         let (block, is_refused) = refusing(0, 1, || Vec::<u8>::with_capacity(100_000));
         assert!(is_refused && block.capacity() == 100_000);
     }
+}
+
+/// The list of items that lie in no chunk does not grow.
+#[test]
+fn the_place_of_an_item_that_has_left_is_used_again() {
+    let _turn = set_up();
+    let item = || new_item(1, 0, 0, b"key", &[&[0; 2_000]]);
+    assert!(item().is_some());
+    for _ in 0..20_000 {
+        // It needs a block of its own, and nothing else.
+        assert!(refusing(1, usize::MAX, item).0.is_some());
+    }
+}
+
+#[test]
+fn what_gave_way_is_freed_before_the_system_is_asked_again() {
+    let _turn = set_up();
+    let (options, control) = (options_of("-t1"), Arc::new(Control::default()));
+    let books = Arc::new(Books::new(1 << 20, &options));
+    let store = Store::new(Box::new(Plain::new(&books, &control)), books, options);
+    let put = || store.store(&order(How::Set, b"key", 20_000), &[b'x'; 20_000]);
+    assert!(put().is_ok() && control.sweeps.load(SeqCst) == 0);
+    assert!(refusing(0, 1, put).0.is_ok() && control.sweeps.load(SeqCst) == 1);
 }

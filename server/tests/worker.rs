@@ -9,7 +9,7 @@ use std::io::{self, Read, Write};
 use std::net::{TcpListener, TcpStream};
 use std::sync::mpsc::channel;
 use std::sync::Arc;
-use std::thread::{spawn, yield_now, JoinHandle};
+use std::thread::{sleep, spawn, yield_now, JoinHandle};
 use std::time::{Duration, Instant};
 
 /// How long a client may wait.
@@ -185,4 +185,37 @@ fn all_that_clients_have_sent_is_answered_at_the_end() {
     let is_told = |mut client: &TcpStream| client.read(&mut [0]).is_ok_and(|length| length == 1);
     assert_eq!(clients.iter().filter(|client| is_told(client)).count(), CLIENTS);
     assert!(join(ended).is_ok());
+}
+
+/// The worker is woken once, though two are to be cut off.
+#[test]
+fn all_that_are_cut_off_together_hear_so() {
+    let mut first = Client::with(8 * MEGABYTE, "-t1 -m 16");
+    let (working, worker) = Working::of(&first.store);
+    spawn(|| worker.run(0));
+    let wait_for = |bytes: u64| {
+        let end = Instant::now() + LIMIT;
+        while first.store.books.budget.buffers() < bytes {
+            assert!(Instant::now() < end, "clients hold {} bytes", first.store.books.budget.buffers());
+            yield_now();
+        }
+    };
+    let part = [&b"set a 0 0 200000\r\n"[..], &[b'x'; 199_000]].concat();
+    let clients: Vec<_> = (0..40).map(|_| working.connect()).collect();
+    clients.iter().for_each(|mut client| client.write_all(&part).expect("it is connected"));
+    wait_for(40 * 199_000);
+    // So they have held for longer than the next one.
+    sleep(Duration::from_secs(1));
+    // With an item that leaves while it is read they hold more than half of the memory limit, by more than one of them holds.
+    first.ask(&format!("set k 0 0 1000000\n{}\n", "x".repeat(1_000_000)));
+    let (mut late, mut other) = (working.connect(), working.connect());
+    // The system has no room for so many answers.
+    late.write_all(&b"get k\r\n".repeat(50)).and_then(|()| late.peek(&mut [0])).expect("it is answered");
+    other.write_all(&[&b"set k 0 0 40000\r\n"[..], &[b'x'; 40_000], b"\r\n"].concat()).expect("it is connected");
+    let end = Instant::now() + LIMIT;
+    let is_told = |client: &&TcpStream| client.set_nonblocking(true).and_then(|()| client.peek(&mut [0])).is_ok();
+    while clients.iter().filter(is_told).count() < 2 {
+        assert!(Instant::now() < end, "{} have heard so", clients.iter().filter(is_told).count());
+        yield_now();
+    }
 }
