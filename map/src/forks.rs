@@ -1,7 +1,6 @@
 //! Whether this process is the one that opened a map. A forked child may have the same number, in a namespace of its own.
 use std::ffi::c_int;
-use std::sync::atomic::{AtomicU64, Ordering::Relaxed};
-use std::sync::Once;
+use std::sync::atomic::{AtomicBool, AtomicU64, Ordering::Acquire, Ordering::Relaxed, Ordering::Release};
 
 // How many forks made this process out of the one in which counting began. The child counts it before `fork` returns.
 static FORKS: AtomicU64 = AtomicU64::new(0);
@@ -18,11 +17,14 @@ extern "C" fn count() {
 
 /// From now on forks are counted, unless there is no memory for that.
 pub(crate) fn count_forks() {
-    static ONCE: Once = Once::new();
-    ONCE.call_once(|| {
+    // If two threads begin together, a fork counts twice, which differs as well. A `Once` that a thread of the parent had begun would never end in a
+    // child.
+    static COUNTS: AtomicBool = AtomicBool::new(false);
+    if !COUNTS.load(Acquire) {
         // SAFETY: the handler makes one atomic step, which a child may make.
-        let _ = unsafe { pthread_atfork(None, None, Some(count)) };
-    });
+        let status = unsafe { pthread_atfork(None, None, Some(count)) };
+        COUNTS.store(status == 0, Release);
+    }
 }
 
 /// Differs in a process and its forked children.

@@ -8,8 +8,8 @@ use std::mem;
 use std::sync::atomic::{AtomicU64, Ordering::Relaxed};
 use std::sync::{Mutex, OnceLock};
 
-/// What an item takes beside its key and its value: 26 bytes before them, and about 18 that an allocator adds.
-const OVERHEAD: u64 = 44;
+/// What an item takes beside its key and its value: 30 bytes before them, and about 18 that an allocator adds.
+const OVERHEAD: u64 = 48;
 
 /// Items that have left the index and are not freed yet may take this part of the limit, beside what it leaves.
 const PART_OF_RESERVE: u64 = 32;

@@ -12,6 +12,11 @@ const RELATIVE: u64 = 60 * 60 * 24 * 30;
 /// What clients send for -1 that have 32 bits for a time.
 const MINUS_ONE: u64 = u32::MAX as u64;
 
+/// The second since the start in which this time is.
+pub fn second(time: u64) -> u32 {
+    (time / SECOND) as u32
+}
+
 /// A monotonic clock. Time 0 has passed before the server started.
 pub struct Clock {
     started: Instant,

@@ -76,6 +76,7 @@ pub fn run(store: &Store, request: &Request, data: &[u8], is_quiet: bool, out: &
         Request::Version => concat!("VERSION ", version!()),
         Request::Verbosity => "OK",
         Request::NoOperation => "MN",
+        Request::Details(key) => return meta_command::details(store, key, out),
         Request::Meta(meta) => return meta_command::run(store, meta, data, out),
         Request::Keys(..) | Request::Dump(..) | Request::Crawl(..) | Request::Quit => return,
     };

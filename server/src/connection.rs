@@ -3,11 +3,11 @@ use crate::counts::Count;
 use crate::dialogue::{Dialogue, Turn};
 use crate::holders::{Cut, Home};
 use crate::input::Input;
-use crate::listen::Stream;
 use crate::log::Seldom;
 use crate::output::Output;
 use crate::seat::{Seat, State};
 use crate::store::Store;
+use crate::stream::Stream;
 use mio::event::Event;
 use std::fmt::Arguments;
 use std::io::{self, ErrorKind, Read};
@@ -50,14 +50,13 @@ pub struct Connection {
 
 impl Connection {
     pub fn new(stream: Stream, seat: Seat) -> Connection {
-        let file = stream.0.as_raw_fd();
-        let (dialogue, input, output) = (Dialogue::of(file), Input::default(), Output::default());
+        let (dialogue, input, output) = (Dialogue::of(stream.as_raw_fd()), Input::default(), Output::default());
         let (is_ending, is_dry, is_half_closed) = (false, false, false);
         Connection { seat, stream, dialogue, input, needs: 1, output, is_ending, is_dry, is_half_closed }
     }
 
     pub fn file(&self) -> RawFd {
-        self.stream.0.as_raw_fd()
+        self.stream.as_raw_fd()
     }
 
     /// Who serves it from now on.
@@ -221,10 +220,10 @@ impl Connection {
             return Ok(true);
         }
         let room = self.input.room();
-        match retry(|| self.stream.0.read(room))? {
+        match retry(|| self.stream.read(room))? {
             Some(0) => self.is_ending = true,
             Some(count) => {
-                self.is_dry = count < room.len();
+                self.is_dry = count < room.len() && self.stream.is_drained_by_short_reads();
                 self.input.add(count);
                 store.books.counts.add_many(Count::BytesRead, count as u64);
             }
@@ -238,7 +237,7 @@ impl Connection {
 
     fn send(&mut self, store: &Store) -> io::Result<()> {
         while !self.output.is_empty() {
-            match retry(|| self.output.send(&mut self.stream.0))? {
+            match retry(|| self.output.send(&mut self.stream))? {
                 Some(0) => return Err(ErrorKind::WriteZero.into()),
                 Some(count) => store.books.counts.add_many(Count::BytesWritten, count as u64),
                 None => break,

@@ -1,13 +1,12 @@
 //! What a client sends and is answered, byte by byte, without its connection.
 use crate::command::{line, run, value};
 use crate::counts::Count;
-use crate::item::Item;
 use crate::listing::Listing;
 use crate::meta::Verb;
 use crate::number;
 use crate::output::Output;
 use crate::request::{parse, refusal, words, Keys, Order, Refusal, Request, ERROR, FORMAT, LONGEST_KEY};
-use crate::store::{Fault, Store};
+use crate::store::{Fault, Hit, Store};
 use memchr::memchr;
 use std::io::{self, Write};
 use std::mem;
@@ -132,7 +131,8 @@ impl Dialogue {
         if store.options.verbosity > 1 {
             show(self.file, text);
         }
-        let (request, is_quiet) = parse(text);
+        let mut decoded = Vec::new();
+        let (request, is_quiet) = parse(text, &mut decoded);
         match request {
             Ok(Request::Quit) => return Step(end, Some(Turn::Ends)),
             Ok(Request::Keys(keys, start)) if have_right_length(&text[start..]) => {
@@ -195,7 +195,7 @@ impl Dialogue {
         }
         // The last word may be a part of one.
         let whole = input.iter().rposition(|byte| *byte == b' ').unwrap_or(0);
-        if let (Ok(Request::Keys(keys, start)), _) = parse(&input[..whole]) {
+        if let (Ok(Request::Keys(keys, start)), _) = parse(&input[..whole], &mut Vec::new()) {
             self.state = State::Keys(keys);
             return Step(start, None);
         }
@@ -261,8 +261,9 @@ impl Dialogue {
     fn keys(&mut self, keys: Keys, store: &Store, input: &[u8], out: &mut Output) -> Step {
         let batch = Batch::of(input);
         let found = &batch.keys[..batch.count];
-        let each = |position: usize, item: &Item, token| {
+        let each = |position: usize, Hit { item, token, now }: Hit| {
             value(out, found[position], item, keys.with_token.then_some(token));
+            item.note_fetched(now);
             !out.is_full()
         };
         let looked = match keys.expiry {

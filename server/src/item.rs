@@ -1,11 +1,12 @@
 //! What is stored under a key.
+use crate::clock::second;
 use crate::flushes::Flushes;
 use crate::memory::may_fail;
 use crate::slabs;
 use cefrodil_map::{Block, Bytes, Head};
 use std::alloc::Layout;
 use std::mem::offset_of;
-use std::sync::atomic::{AtomicU64, AtomicU8, Ordering::Relaxed};
+use std::sync::atomic::{AtomicU32, AtomicU64, AtomicU8, Ordering::Relaxed};
 
 /// A key, its value, and what belongs to them.
 pub type Item = Bytes<About>;
@@ -21,15 +22,19 @@ pub struct About {
     deadline: AtomicU64,
     pub flags: u32,
     value: u32,
+    /// The second since the start in which it was used last, or made.
+    used: AtomicU32,
     marks: AtomicU8,
     key: u8,
 }
 
-/// Marks of an item: a client has fetched it; its value is out of date; a client was told to fetch the value anew from where it comes.
+/// Marks of an item: a client has fetched it; its value is out of date; a client was told to fetch the value anew from where it comes; its key came as
+/// base64.
 // Each is one step, and says nothing of other memory.
 const FETCHED: u8 = 1;
 pub const STALE: u8 = 2;
 pub const WON: u8 = 4;
+pub const BINARY: u8 = 8;
 
 // SAFETY: `key` is the last field, and has one byte. Nobody changes the lengths. The memory is that of an allocator.
 unsafe impl Head for About {
@@ -59,10 +64,18 @@ pub fn new_item(born: u64, flags: u32, deadline: u64, key: &[u8], value: &[&[u8]
         flags,
         value: length.try_into().expect("the longest value has 128 MB"),
         key: key.len().try_into().expect("the longest key has 250 bytes"),
+        used: AtomicU32::new(second(born)),
         marks: AtomicU8::new(0),
     };
     let item = may_fail(|| NewItem::try_new(about, key, value))?;
     slabs::note(&item).then_some(item)
+}
+
+/// The same, with the key and the flags of this one.
+pub fn remade(item: &Item, born: u64, deadline: u64, value: &[&[u8]]) -> Option<NewItem> {
+    let next = new_item(born, item.flags, deadline, item.key(), value)?;
+    next.mark_as(item, BINARY);
+    Some(next)
 }
 
 impl About {
@@ -89,10 +102,20 @@ impl About {
         now >= self.deadline()
     }
 
-    pub fn note_fetched(&self) {
+    /// A client fetches it at this time.
+    pub fn note_fetched(&self, now: u64) {
         if !self.was_fetched() {
             self.mark(FETCHED);
         }
+        // Most uses don't change it: other threads share the cache line.
+        if self.idle(now) > 0 {
+            self.used.store(second(now), Relaxed);
+        }
+    }
+
+    /// The seconds until this time since it was used last, or made.
+    pub fn idle(&self, now: u64) -> u32 {
+        second(now).saturating_sub(self.used.load(Relaxed))
     }
 
     pub fn was_fetched(&self) -> bool {
@@ -102,6 +125,17 @@ impl About {
     /// Sets this mark. Returns whether it was clear: of two clients that set it, one is told so.
     pub fn mark(&self, mark: u8) -> bool {
         self.marks.fetch_or(mark, Relaxed) & mark == 0
+    }
+
+    /// Takes these marks of another item.
+    fn mark_as(&self, other: &About, marks: u8) {
+        self.mark(other.marks.load(Relaxed) & marks);
+    }
+
+    /// Counts as used when this one was.
+    pub fn use_as(&self, other: &About) {
+        self.mark_as(other, FETCHED);
+        self.used.store(other.used.load(Relaxed), Relaxed);
     }
 
     /// Makes an item that is not in the index stale, with this deadline.

@@ -4,6 +4,7 @@
 pub mod accept;
 pub mod allocator;
 pub mod audit;
+mod base64;
 pub mod books;
 pub mod budget;
 pub mod clock;
@@ -40,6 +41,9 @@ mod signal;
 pub mod slabs;
 mod stats;
 pub mod store;
+pub mod stream;
+#[cfg(feature = "tls")]
+pub mod tls;
 pub mod user;
 pub mod users;
 mod walk;

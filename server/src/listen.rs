@@ -1,4 +1,7 @@
 //! Where the server listens, and what it accepts there.
+use crate::stream::Stream;
+#[cfg(feature = "tls")]
+use crate::tls::Acceptor;
 use mio::net::{TcpListener, UnixListener};
 use nix::sys::stat::{umask, Mode};
 use std::fmt::{self, Display, Formatter};
@@ -25,10 +28,9 @@ pub enum Place {
 pub struct Listener {
     socket: OwnedFd,
     file: Option<OwnFile>,
+    #[cfg(feature = "tls")]
+    tls: Option<Acceptor>,
 }
-
-/// A client's connection to one of them. All that it is asked for is the same for a Unix socket, but its address.
-pub struct Stream(pub TcpStream);
 
 /// A file of the server's own, by its whole path. It is removed when this is dropped.
 pub struct OwnFile(PathBuf);
@@ -112,7 +114,19 @@ impl Display for Listener {
 impl Listener {
     fn new(socket: impl IntoRawFd, file: Option<OwnFile>) -> Listener {
         // SAFETY: it is open, and this owns it from now on.
-        Listener { socket: unsafe { OwnedFd::from_raw_fd(socket.into_raw_fd()) }, file }
+        let socket = unsafe { OwnedFd::from_raw_fd(socket.into_raw_fd()) };
+        Listener {
+            socket,
+            file,
+            #[cfg(feature = "tls")]
+            tls: None,
+        }
+    }
+
+    /// Those who connect from now on must use TLS.
+    #[cfg(feature = "tls")]
+    pub fn secure(&mut self, tls: &Acceptor) {
+        self.tls = Some(tls.clone());
     }
 
     pub fn accept(&self) -> io::Result<Stream> {
@@ -126,23 +140,17 @@ impl Listener {
         let stream = unsafe { TcpStream::from_raw_fd(file) };
         // Without that the system would hold small answers back. A client of TCP that has gone already is seen later.
         let _ = stream.set_nodelay(true);
-        Ok(Stream(stream))
+        #[cfg(feature = "tls")]
+        if let Some(tls) = &self.tls {
+            return Ok(Stream::Tls(Box::new(tls.session(stream)?)));
+        }
+        Ok(Stream::Plain(stream))
     }
 }
 
 impl AsRawFd for Listener {
     fn as_raw_fd(&self) -> RawFd {
         self.socket.as_raw_fd()
-    }
-}
-
-impl Display for Stream {
-    fn fmt(&self, text: &mut Formatter) -> fmt::Result {
-        match self.0.peer_addr() {
-            Ok(address) => address.fmt(text),
-            Err(why) if why.kind() == ErrorKind::NotConnected => text.write_str("a client that has left"),
-            Err(_) => text.write_str("a client of the Unix socket"),
-        }
     }
 }
 

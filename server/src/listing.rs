@@ -1,7 +1,9 @@
 //! Long answers, which are made part by part: of `stats cachedump`, `lru_crawler metadump` and `stats conns`.
+use crate::base64;
+use crate::clock::unix_time;
 use crate::command::text;
 use crate::index::Token;
-use crate::item::Item;
+use crate::item::{Item, BINARY};
 use crate::listen::tcp;
 use crate::output::Output;
 use crate::request::Request;
@@ -80,9 +82,18 @@ impl Items {
     }
 }
 
+/// Writes a key as it is. One that came as base64 may have blanks, so it goes as that.
+pub fn write_short_key(out: &mut Vec<u8>, item: &Item) {
+    if item.has(BINARY) {
+        base64::write(out, item.key());
+    } else {
+        out.extend_from_slice(item.key());
+    }
+}
+
 fn write_cached(store: &Store, item: &Item, _: Token, out: &mut Output) {
     out.extend_from_slice(b"ITEM ");
-    out.extend_from_slice(item.key());
+    write_short_key(out, item);
     text!(out, " [{} b; {} s]\r\n", item.value().len(), store.books.clock.unix_end(item.deadline()));
 }
 
@@ -94,9 +105,16 @@ fn write_crawled(store: &Store, item: &Item, token: Token, out: &mut Output) {
             _ => text!(out, "%{byte:02X}"),
         }
     }
-    let end = Some(store.books.clock.unix_end(item.deadline())).filter(|end| *end > 0).map_or(-1, |end| end as i64);
-    let (born, fetched) = (store.books.clock.unix_time_of(item.born()), if item.was_fetched() { "yes" } else { "no" });
-    text!(out, " exp={end} la={born} cas={token} fetch={fetched} cls={CLASS} size={}\n", item.size());
+    let clock = &store.books.clock;
+    let end = Some(clock.unix_end(item.deadline())).filter(|end| *end > 0).map_or(-1, |end| end as i64);
+    write_details(out, item, token, end, unix_time() - u64::from(item.idle(clock.now())));
+    out.push(b'\n');
+}
+
+/// Writes what is known of an item behind its key, with these times of its end and its last use.
+pub fn write_details(out: &mut Vec<u8>, item: &Item, token: Token, end: i64, used: u64) {
+    let fetched = if item.was_fetched() { "yes" } else { "no" };
+    text!(out, " exp={end} la={used} cas={token} fetch={fetched} cls={CLASS} size={}", item.size());
 }
 
 /// Lists the client at this place or the next one behind it. Returns whether there is one.

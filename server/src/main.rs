@@ -12,6 +12,8 @@ use cefrodild::options::{parse, Asked, Options, HELP};
 use cefrodild::server::{named, Server};
 use cefrodild::slabs;
 use cefrodild::store::Store;
+#[cfg(feature = "tls")]
+use cefrodild::tls::Acceptor;
 use cefrodild::user::{become_user, is_root};
 use cefrodild::users::Users;
 use std::alloc::System;
@@ -115,6 +117,19 @@ fn prepare(options: &Options) -> Result<Vec<Listener>, Box<dyn Error>> {
     }
     let listen = |place: &Place| place.listen().map_err(|why| named(place, &why));
     let listeners = options.listen.iter().map(listen).collect::<io::Result<Vec<_>>>()?;
+    let listeners = listeners.into_iter().flatten().collect();
+    #[cfg(feature = "tls")]
+    let listeners = secured(listeners, options)?;
     options.user.as_deref().map_or(Ok(()), become_user).map_err(|why| format!("-u: {why}"))?;
-    Ok(listeners.into_iter().flatten().collect())
+    Ok(listeners)
+}
+
+/// Reads the files for TLS, if it is asked for: perhaps only root can.
+#[cfg(feature = "tls")]
+fn secured(mut listeners: Vec<Listener>, options: &Options) -> io::Result<Vec<Listener>> {
+    if let Some(tls) = &options.tls {
+        let acceptor = Acceptor::new(tls)?;
+        listeners.iter_mut().for_each(|listener| listener.secure(&acceptor));
+    }
+    Ok(listeners)
 }

@@ -1,4 +1,6 @@
 //! Meta commands: what their words ask for.
+use crate::base64;
+use crate::item::BINARY;
 use crate::number;
 use crate::request::{behind, key, refusal, words, How, Order, Refusal, Request, ERROR, FORMAT};
 
@@ -49,13 +51,14 @@ pub struct Meta<'a> {
     pub initial: u64,
 }
 
-/// Reads a line whose first word is `m` and this letter.
-pub fn parse(letter: u8, line: &[u8]) -> Result<Request<'_>, Refusal> {
+/// Reads a line whose first word is `m` and this letter. Its key goes to `decoded` if it is base64.
+pub fn parse<'a>(letter: u8, line: &'a [u8], decoded: &'a mut Vec<u8>) -> Result<Request<'a>, Refusal> {
     let verb = match letter {
         b'g' => Verb::Get,
         b's' => Verb::Set,
         b'd' => Verb::Delete,
         b'a' => Verb::Arithmetic,
+        b'e' => return details(line, decoded),
         b'n' => return Ok(Request::NoOperation),
         _ => return Err(ERROR),
     };
@@ -69,14 +72,38 @@ pub fn parse(letter: u8, line: &[u8]) -> Result<Request<'_>, Refusal> {
     }
     let order = Order { key, length, ..Order::default() };
     let mut meta = Meta { verb, order, words: &line[behind(line, last)..], delta: 1, ..Meta::default() };
-    match meta.read_flags() {
+    match meta.read_flags().and_then(|()| meta.decode(decoded)) {
         Ok(()) => Ok(Request::Meta(meta)),
         Err(why) if verb == Verb::Set => Err(Refusal { block: length + 2, ..why }),
         Err(why) => Err(why),
     }
 }
 
-impl Meta<'_> {
+/// What is behind the key changes nothing, unless it begins with `b`.
+fn details<'a>(line: &'a [u8], decoded: &'a mut Vec<u8>) -> Result<Request<'a>, Refusal> {
+    let mut all = words(line).skip(1);
+    let key = key(all.next().ok_or(FORMAT)?)?;
+    if all.next() != Some(b"b") {
+        return Ok(Request::Details(key));
+    }
+    *decoded = base64::read(key).ok_or(FORMAT)?;
+    Ok(Request::Details(decoded))
+}
+
+impl<'a> Meta<'a> {
+    /// Whether its key came as base64.
+    pub fn is_binary(&self) -> bool {
+        self.order.marks & BINARY != 0
+    }
+
+    fn decode(&mut self, decoded: &'a mut Vec<u8>) -> Result<(), Refusal> {
+        if self.is_binary() {
+            *decoded = base64::read(self.order.key).ok_or(self.fault("CLIENT_ERROR error decoding key"))?;
+            self.order.key = decoded;
+        }
+        Ok(())
+    }
+
     fn read_flags(&mut self) -> Result<(), Refusal> {
         let (mut seen, mut mode) = (0u128, None);
         for word in words(self.words) {
@@ -100,6 +127,7 @@ impl Meta<'_> {
 
     fn read_flag(&mut self, flag: u8, token: &[u8]) -> Result<(), Refusal> {
         match (flag, self.verb) {
+            (b'b', _) => self.order.marks |= BINARY,
             (b'q', _) => self.is_quiet = true,
             (b'v', _) => self.with_value = true,
             (b'k' | b'c' | b'f' | b's' | b't' | b'P' | b'L', _) => {}
@@ -111,7 +139,7 @@ impl Meta<'_> {
                 self.made_expiry = self.order.expiry;
             }
             (b'C', _) => self.order.compare = Some(number::unsigned(token).ok_or(self.bad_token())?),
-            (b'h', Verb::Get) => {}
+            (b'h' | b'l', Verb::Get) => {}
             (b'N', Verb::Get) => self.vivified = Some(number::integer(token).ok_or(self.bad_token())?),
             (b'R', Verb::Get) => self.recached = Some(number::integer(token).ok_or(self.bad_token())?),
             (b'I', Verb::Set) => self.order.may_be_stale = true,

@@ -1,13 +1,15 @@
 //! Carries meta commands out.
+use crate::base64;
 use crate::command::{count_change, line, text, NOT_NUMERIC};
 use crate::counts::Count;
 use crate::index::Token;
-use crate::item::{Item, STALE, WON};
+use crate::item::{Item, BINARY, STALE, WON};
+use crate::listing::{write_details, write_short_key};
 use crate::meta::{Meta, Verb};
 use crate::number;
 use crate::output::Output;
 use crate::request::{words, Change, How, Order};
-use crate::store::{Answer, Changed, Fault, Store};
+use crate::store::{Answer, Changed, Fault, Found, Hit, Store};
 use std::io::Write;
 
 /// What the answer's flags say of the item.
@@ -19,8 +21,26 @@ struct Facts {
     size: Option<i64>,
     left: Option<i64>,
     hit: Option<i64>,
+    /// The seconds since it was used.
+    idle: Option<i64>,
+    /// Whether its key came as base64. `None`: as that of the command.
+    is_binary: Option<bool>,
     /// What comes behind all flags.
     marks: &'static str,
+}
+
+impl Facts {
+    fn of(&self, flag: u8) -> Option<i64> {
+        match flag {
+            b'c' => self.token,
+            b'f' => self.flags,
+            b's' => self.size,
+            b't' => self.left,
+            b'h' => self.hit,
+            b'l' => self.idle,
+            _ => None,
+        }
+    }
 }
 
 fn with(token: Token) -> Facts {
@@ -43,61 +63,113 @@ pub fn run(store: &Store, meta: &Meta, data: &[u8], out: &mut Output) {
 }
 
 fn get(store: &Store, meta: &Meta, out: &mut Output) {
-    if look(store, meta, false, out) {
-        return;
+    let (mut is_found, mut may_win) = (false, false);
+    let deadline = meta.expiry.map(|expiry| store.books.clock.deadline(expiry));
+    let each = |_, hit: Hit| {
+        is_found = true;
+        may_win = deadline.is_none() && wants_winner(store, meta, hit.item) && !hit.item.has(WON);
+        if !may_win {
+            tell_item(store, meta, hit, None, out);
+        }
+        true
+    };
+    match deadline {
+        Some(deadline) => store.look_and_touch(&[meta.order.key], deadline, each),
+        None => store.look(&[meta.order.key], each),
+    };
+    if may_win || !is_found && meta.vivified.is_some() {
+        win(store, meta, deadline, !is_found, out);
+    } else if !is_found {
+        miss(meta, out);
     }
-    if let Some(expiry) = meta.vivified {
-        let order = Order { how: How::Add, expiry, is_won: true, ..meta.order };
+}
+
+/// Answers a client that may be the one to fetch the value anew. Until it is told so, nobody else puts a stale value in the place of that one.
+fn win(store: &Store, meta: &Meta, deadline: Option<u64>, is_made: bool, out: &mut Output) {
+    let (_lock, mut made) = (store.lock(meta.order.key), None);
+    if let Some(expiry) = meta.vivified.filter(|_| is_made) {
+        let order = Order { how: How::Add, expiry, marks: meta.order.marks | WON, ..meta.order };
         match store.store(&order, b"") {
-            Ok(made) if look(store, meta, matches!(made, Answer::Done(_)), out) => return,
-            // It has gone again.
+            Ok(Answer::Done(token)) => made = Some(token),
             Ok(_) => {}
             Err(why) => return line(out, why.text()),
         }
     }
+    let found = store.find(meta.order.key, |hit| {
+        deadline.into_iter().for_each(|deadline| hit.item.touch(deadline));
+        tell_item(store, meta, hit, made, out);
+    });
+    if !matches!(found, Ok(Found::Live(..))) {
+        // It has gone again.
+        miss(meta, out);
+    }
+}
+
+fn miss(meta: &Meta, out: &mut Vec<u8>) {
     if !meta.is_quiet {
         answer(meta, "EN", &Facts::default(), out);
     }
 }
 
-/// Answers with the key's item, if there is one. Returns whether there is.
-fn look(store: &Store, meta: &Meta, is_made: bool, out: &mut Output) -> bool {
-    let mut is_found = false;
-    let each = |_, item: &Item, token| {
-        is_found = true;
-        let (size, left) = (item.value().len(), store.books.clock.left(item.deadline()));
-        let mut facts = Facts { flags: Some(item.flags.into()), size: Some(size as i64), left: Some(left), ..with(token) };
-        facts.hit = Some(item.was_fetched().into());
-        // -1: it stays.
-        let ends_soon = meta.recached.is_some_and(|time| (0..time).contains(&left));
-        facts.marks = marks(item, is_made, ends_soon);
-        if meta.with_value {
-            out.extend_from_slice(b"VA ");
-            number::write(out, size);
-            write_flags(meta, &facts, out);
-            out.block(item);
-        } else {
-            answer(meta, "HD", &facts, out);
-        }
-        true
+/// Whether a client is to fetch the item's value anew.
+fn wants_winner(store: &Store, meta: &Meta, item: &Item) -> bool {
+    // -1: it stays.
+    let ends_soon = meta.recached.is_some_and(|time| (0..time).contains(&store.books.clock.left(item.deadline())));
+    item.has(STALE) || ends_soon
+}
+
+/// Answers with an item. The client wins it if it has made it, with this token.
+fn tell_item(store: &Store, meta: &Meta, Hit { item, token, now }: Hit, made: Option<Token>, out: &mut Output) {
+    let (clock, size) = (&store.books.clock, item.value().len());
+    let facts = Facts {
+        flags: Some(item.flags.into()),
+        size: Some(size as i64),
+        left: Some(clock.left(item.deadline())),
+        hit: Some(item.was_fetched().into()),
+        idle: Some(item.idle(now).into()),
+        is_binary: Some(item.has(BINARY)),
+        marks: marks(item, made == Some(token) || wants_winner(store, meta, item) && item.mark(WON)),
+        ..with(token)
     };
-    match meta.expiry {
-        Some(expiry) => store.look_and_touch(&[meta.order.key], store.books.clock.deadline(expiry), each),
-        None => store.look(&[meta.order.key], each),
-    };
-    is_found
+    if meta.with_value {
+        out.extend_from_slice(b"VA ");
+        number::write(out, size);
+        write_flags(meta, &facts, out);
+        out.block(item);
+    } else {
+        answer(meta, "HD", &facts, out);
+    }
+    item.note_fetched(now);
 }
 
 /// What a client is told beside what it asks for: that another one fetches the value anew, that it is stale, and that this client is to fetch it.
-fn marks(item: &Item, is_made: bool, ends_soon: bool) -> &'static str {
-    let is_stale = item.has(STALE);
-    let wins = is_made || (is_stale || ends_soon) && item.mark(WON);
-    match (wins, is_stale) {
+fn marks(item: &Item, wins: bool) -> &'static str {
+    match (wins, item.has(STALE)) {
         (true, true) => " X W",
         (true, false) => " W",
         (false, true) => " Z X",
         (false, false) if item.has(WON) => " Z",
         (false, false) => "",
+    }
+}
+
+/// Answers `me`, which is no use of the item.
+pub fn details(store: &Store, key: &[u8], out: &mut Vec<u8>) {
+    store.books.counts.add(Count::MetaCommands);
+    let (clock, mut is_found) = (&store.books.clock, false);
+    store.index.peek(store.index.hash_of(key), &mut |item, token| {
+        is_found = item.key() == key && store.books.is_live(item);
+        if is_found {
+            out.extend_from_slice(b"ME ");
+            write_short_key(out, item);
+            // As memcached has it: a time that is left is negative.
+            let end = clock.left(item.deadline()).abs().wrapping_neg();
+            write_details(out, item, token, end, item.idle(clock.now()).into());
+            out.extend_from_slice(b"\r\n");
+        }
+    });
+    if !is_found {
+        line(out, "EN");
     }
 }
 
@@ -168,21 +240,28 @@ fn answer(meta: &Meta, code: &str, facts: &Facts, out: &mut Vec<u8>) {
 /// Writes the flags of the answer, in the order of the command's.
 fn write_flags(meta: &Meta, facts: &Facts, out: &mut Vec<u8>) {
     for word in words(meta.words) {
-        let (text, fact) = match word[0] {
-            b'O' => (Some(&word[1..]), None),
-            b'k' => (Some(meta.order.key), None),
-            b'c' => (None, facts.token),
-            b'f' => (None, facts.flags),
-            b's' => (None, facts.size),
-            b't' => (None, facts.left),
-            b'h' => (None, facts.hit),
-            _ => (None, None),
-        };
-        if text.is_some() || fact.is_some() {
-            out.extend_from_slice(&[b' ', word[0]]);
-            out.extend_from_slice(text.unwrap_or_default());
-            fact.into_iter().for_each(|fact| number::write(out, fact));
+        match (word[0], facts.of(word[0])) {
+            (b'O', _) => {
+                out.push(b' ');
+                out.extend_from_slice(word);
+            }
+            (b'k', _) => write_key(meta, facts, out),
+            (flag, Some(fact)) => {
+                out.extend_from_slice(&[b' ', flag]);
+                number::write(out, fact);
+            }
+            (_, None) => {}
         }
     }
     out.extend_from_slice(facts.marks.as_bytes());
+}
+
+fn write_key(meta: &Meta, facts: &Facts, out: &mut Vec<u8>) {
+    out.extend_from_slice(b" k");
+    if facts.is_binary.unwrap_or(meta.is_binary()) {
+        base64::write(out, meta.order.key);
+        out.extend_from_slice(b" b");
+    } else {
+        out.extend_from_slice(meta.order.key);
+    }
 }

@@ -24,7 +24,11 @@ cefrodild: a cache server that speaks memcached's text protocol
 -c, --conn-limit=N       most connections at a time (1024)
 -I, --max-item-size=N    longest value in bytes, or with k or m behind it, 1k to 128m (1m), and at most
                          half of the memory limit
--o, --extended=LIST      idle_timeout=N: leave clients that are silent for N seconds (0: none)
+-Z, --enable-ssl         clients of TCP must use TLS; needs ssl_chain_cert and ssl_key of -o
+-o, --extended=LIST      idle_timeout=N: leave clients that are silent for N seconds (0: none);
+                         ssl_chain_cert=FILE, ssl_key=FILE: the server's certificates and their key (PEM);
+                         ssl_verify_mode=N: clients need no certificate (0), are asked for one (1), or
+                         need one (2 or 3), from one of those whose certificates ssl_ca_cert=FILE has
 -Y, --auth-file=FILE     a client says first who it is, by a name and a password of this file, which has
                          name:password on each line
     --audit=FILE         log changes and answers for mccheck; one shard
@@ -76,10 +80,24 @@ pub struct Options {
     pub idle_timeout: Option<u32>,
     /// Where the names and passwords of those are who may use it. `None`: all may.
     pub users: Option<PathBuf>,
+    /// What is needed if clients are to use TLS.
+    pub tls: Option<Tls>,
     /// Memcached's options that were given and change nothing here.
     pub idle: Vec<String>,
     /// Where the log for `mccheck` goes.
     pub audit: Option<String>,
+}
+
+/// Files in PEM for TLS, and what clients must have.
+#[derive(Clone, Debug, Default, PartialEq, Eq)]
+pub struct Tls {
+    /// The server's own certificate, and those of who signed it.
+    pub chain: PathBuf,
+    pub key: PathBuf,
+    /// The certificates of those who may sign clients' certificates.
+    pub authority: Option<PathBuf>,
+    /// Whether clients need no certificate (0), are asked for one (1), or need one.
+    pub verify: usize,
 }
 
 #[derive(Debug, PartialEq, Eq)]
@@ -116,6 +134,8 @@ struct Given {
     mode: u32,
     megabytes: usize,
     items: Option<usize>,
+    has_tls: bool,
+    tls: Tls,
     /// All else. What follows from the fields above is missing there.
     options: Options,
 }
@@ -137,7 +157,17 @@ pub fn parse(words: impl IntoIterator<Item = String>) -> Result<Asked, String> {
 impl Default for Given {
     fn default() -> Given {
         let options = Options { threads: 4, connections: 1024, longest: MEGABYTE, ..Options::default() };
-        Given { port: 11211, hosts: Vec::new(), file: None, mode: 0o700, megabytes: 64, items: None, options }
+        Given {
+            port: 11211,
+            hosts: Vec::new(),
+            file: None,
+            mode: 0o700,
+            megabytes: 64,
+            items: None,
+            has_tls: false,
+            tls: Tls::default(),
+            options,
+        }
     }
 }
 
@@ -161,10 +191,29 @@ impl Given {
             'c' => options.connections = within(word, &value, 1..=1 << 20)?,
             'I' => options.longest = size(word, &value)?,
             'Y' => options.users = Some(path(word, value)?),
-            'o' => value.split(',').try_for_each(|one| extended(options, word, one))?,
+            'Z' => self.has_tls = true,
+            'o' => value.split(',').try_for_each(|one| self.extended(word, one))?,
             'B' if value != "ascii" => return Err(format!("{word}: there is no protocol but ascii: leave it out")),
             'R' | 'b' | 'k' | 'B' | 'f' => options.idle.push(word.to_owned()),
             _ => options.audit = Some(value),
+        }
+        Ok(())
+    }
+
+    fn extended(&mut self, word: &str, one: &str) -> Result<(), String> {
+        let (name, value) = one.split_once('=').unwrap_or((one, ""));
+        match name {
+            "idle_timeout" => {
+                let seconds = within(name, value, 0..=u32::MAX as usize)? as u32;
+                self.options.idle_timeout = Some(seconds).filter(|seconds| *seconds > 0);
+            }
+            "ssl_chain_cert" => self.tls.chain = path(name, value.to_owned())?,
+            "ssl_key" => self.tls.key = path(name, value.to_owned())?,
+            "ssl_ca_cert" => self.tls.authority = Some(path(name, value.to_owned())?),
+            "ssl_verify_mode" => self.tls.verify = within(name, value, 0..=3)?,
+            "" => {}
+            _ if EXTENDED.split_whitespace().any(|known| known == name) => self.options.idle.push(format!("{word} {name}")),
+            _ => return Err(format!("{word}: there is no '{name}' here: leave it out")),
         }
         Ok(())
     }
@@ -182,8 +231,23 @@ impl Given {
         if self.options.longest > memory / PART_OF_LONGEST {
             return Err("-I: the longest value may take half of the memory limit (-m) at most".into());
         }
+        let tls = tls(self.has_tls, self.tls, self.file.is_some())?;
         let file = self.file.map(|file| Place::File(file, self.mode));
-        Ok(Options { listen: places(self.hosts, self.port, file)?, memory, items, ..self.options })
+        Ok(Options { listen: places(self.hosts, self.port, file)?, memory, items, tls, ..self.options })
+    }
+}
+
+/// What is needed for TLS, if it is asked for.
+fn tls(is_asked_for: bool, tls: Tls, has_file: bool) -> Result<Option<Tls>, String> {
+    let has_certificates = !tls.chain.as_os_str().is_empty() && !tls.key.as_os_str().is_empty();
+    match is_asked_for {
+        true if !cfg!(feature = "tls") => Err("-Z: this server was built without TLS".into()),
+        true if has_file => Err("-Z: there is no TLS on a Unix socket (-s)".into()),
+        true if !has_certificates => Err("-Z needs ssl_chain_cert and ssl_key of -o".into()),
+        true if tls.verify > 0 && tls.authority.is_none() => Err("ssl_verify_mode needs ssl_ca_cert".into()),
+        true => Ok(Some(tls)),
+        false if tls != Tls::default() => Err("-o: what begins with ssl_ needs -Z".into()),
+        false => Ok(None),
     }
 }
 
@@ -259,19 +323,6 @@ fn option(word: &str, words: &mut impl Iterator<Item = String>) -> Result<(char,
         }
         (false, Some(_)) => Err(format!("{word} takes no value")),
     }
-}
-
-fn extended(options: &mut Options, word: &str, one: &str) -> Result<(), String> {
-    let (name, value) = one.split_once('=').unwrap_or((one, ""));
-    if name == "idle_timeout" {
-        let seconds = within(name, value, 0..=u32::MAX as usize)? as u32;
-        options.idle_timeout = Some(seconds).filter(|seconds| *seconds > 0);
-    } else if EXTENDED.split_whitespace().any(|known| known == name) {
-        options.idle.push(format!("{word} {name}"));
-    } else if !name.is_empty() {
-        return Err(format!("{word}: there is no '{name}' here: leave it out"));
-    }
-    Ok(())
 }
 
 fn within(word: &str, value: &str, range: std::ops::RangeInclusive<usize>) -> Result<usize, String> {

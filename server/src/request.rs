@@ -36,6 +36,8 @@ pub enum Request<'a> {
     Quit,
     /// `mg`, `ms`, `md` and `ma`.
     Meta(Meta<'a>),
+    /// `me`.
+    Details(&'a [u8]),
     /// `mn`.
     NoOperation,
 }
@@ -78,8 +80,8 @@ pub struct Order<'a> {
     pub compare: Option<u64>,
     /// Whether it is stored as stale over an item with a newer token.
     pub may_be_stale: bool,
-    /// Whether it is marked as won.
-    pub is_won: bool,
+    /// The marks that it gets.
+    pub marks: u8,
 }
 
 /// What becomes of a number.
@@ -115,13 +117,13 @@ pub fn words(line: &[u8]) -> impl Iterator<Item = &[u8]> {
     line.split(|byte| *byte == b' ').filter(|word| !word.is_empty())
 }
 
-/// Reads a line, without its end. The second result is whether the client wants no answer.
-pub fn parse(line: &[u8]) -> (Result<Request<'_>, Refusal>, bool) {
+/// Reads a line, without its end. Its key goes to `decoded` if it is base64. The second result is whether the client wants no answer.
+pub fn parse<'a>(line: &'a [u8], decoded: &'a mut Vec<u8>) -> (Result<Request<'a>, Refusal>, bool) {
     let mut found = [&line[..0]; WORDS];
     let count = words(line).take(WORDS).zip(&mut found).map(|(word, place)| *place = word).count();
     let (words, name) = (&found[..count], found[0]);
     if name.len() == 2 && name[0] == b'm' {
-        return (meta::parse(name[1], line), false);
+        return (meta::parse(name[1], line, decoded), false);
     }
     let is_quiet = words.last() == Some(&b"noreply".as_slice()) && can_be_quiet(name, count);
     let request = classic(name, words, line, is_quiet);

@@ -2,10 +2,11 @@
 use crate::accept::accept_some;
 use crate::connection::Connection;
 use crate::counts::Count;
-use crate::listen::{Listener, Stream};
+use crate::listen::Listener;
 use crate::log::{log, Seldom};
 use crate::signal;
 use crate::store::Store;
+use crate::stream::Stream;
 use crate::worker::{Inbox, Worker};
 use mio::unix::SourceFd;
 use mio::{Events, Interest, Poll, Token};
@@ -77,12 +78,12 @@ impl Server {
 
 impl Workers {
     fn hand(&mut self, mut stream: Stream) {
-        let Some(seat) = self.store.seats.take(stream.0.as_raw_fd()) else {
+        let Some(seat) = self.store.seats.take(stream.as_raw_fd()) else {
             static SELDOM: Seldom = Seldom::new(1);
             self.store.books.counts.add(Count::Rejected);
             SELDOM.log(format_args!("clients are turned away: {} are connected (-c)", self.store.options.connections));
             // If the client doesn't get this, it sees all the same that the connection ends.
-            let _ = stream.0.write(b"ERROR Too many open connections\r\n");
+            let _ = stream.write(b"ERROR Too many open connections\r\n");
             return;
         };
         self.store.books.counts.add(Count::Connections);

@@ -63,6 +63,14 @@ pub enum Changed<T = u64> {
     NotNumeric,
 }
 
+/// What a lookup finds at this time: a live item.
+#[derive(Clone, Copy)]
+pub struct Hit<'a> {
+    pub item: &'a Item,
+    pub token: Token,
+    pub now: u64,
+}
+
 /// What is under a key.
 pub(crate) enum Found<T> {
     Live(T, Token),
@@ -77,9 +85,9 @@ impl Store {
         Store { index, books, key_locks, round, helpless, seats, users: None, options }
     }
 
-    /// Looks the keys up in order, and calls `each` with the position of each that has a value. It returns whether it goes on: if not, the
-    /// keys behind are not looked at. Returns how many keys were looked at.
-    pub fn look(&self, keys: &[&[u8]], mut each: impl FnMut(usize, &Item, Token) -> bool) -> usize {
+    /// Looks the keys up in order, and calls `each` with the position of each that has a value. It notes that a client fetches the item, and returns
+    /// whether it goes on: if not, the keys behind are not looked at. Returns how many keys were looked at.
+    pub fn look(&self, keys: &[&[u8]], mut each: impl FnMut(usize, Hit) -> bool) -> usize {
         let (now, mut looked, mut goes_on) = (self.books.clock.now(), 0, true);
         self.index.look(keys, &mut |position, seen| {
             if !goes_on {
@@ -89,8 +97,7 @@ impl Store {
             match seen {
                 Ok(Some((item, token))) if item.is_live(now, &self.books.flushes) => {
                     self.books.counts.add(Count::GetHits);
-                    goes_on = each(position, item, token);
-                    item.note_fetched();
+                    goes_on = each(position, Hit { item, token, now });
                 }
                 seen => self.count_miss(seen, now),
             }
@@ -100,14 +107,14 @@ impl Store {
     }
 
     /// Does the same, and gives what is found this deadline.
-    pub fn look_and_touch(&self, keys: &[&[u8]], deadline: u64, mut each: impl FnMut(usize, &Item, Token) -> bool) -> usize {
+    pub fn look_and_touch(&self, keys: &[&[u8]], deadline: u64, mut each: impl FnMut(usize, Hit) -> bool) -> usize {
         for (position, key) in keys.iter().enumerate() {
             let _lock = self.lock(key);
             let (mut is_hit, mut goes_on) = (false, true);
-            self.look(&[key], |_, item, token| {
+            self.look(&[key], |_, hit| {
                 is_hit = true;
-                item.touch(deadline);
-                goes_on = each(position, item, token);
+                hit.item.touch(deadline);
+                goes_on = each(position, hit);
                 goes_on
             });
             self.books.counts.add(Count::Touches);
@@ -129,12 +136,12 @@ impl Store {
         }
     }
 
-    pub(crate) fn find<T>(&self, key: &[u8], see: impl FnOnce(&Item, u64) -> T) -> Result<Found<T>, Fault> {
+    pub(crate) fn find<T>(&self, key: &[u8], see: impl FnOnce(Hit) -> T) -> Result<Found<T>, Fault> {
         let (now, mut see, mut found) = (self.books.clock.now(), Some(see), Err(Fault::Disturbed));
         self.index.look(&[key], &mut |_, seen| {
             found = match (seen, see.take()) {
                 (Ok(Some((item, token))), Some(see)) if item.is_live(now, &self.books.flushes) => {
-                    Ok(Found::Live(see(item, now), token))
+                    Ok(Found::Live(see(Hit { item, token, now }), token))
                 }
                 (Ok(Some((_, token))), _) => Ok(Found::Dead(token)),
                 (Ok(None), _) => Ok(Found::Absent),
@@ -165,8 +172,8 @@ impl Store {
     /// Gives the key's item a new deadline. Returns whether the key has a value.
     pub fn touch(&self, key: &[u8], deadline: u64) -> Result<bool, Fault> {
         let _lock = self.lock(key);
-        let found = self.find(key, |item, _| {
-            item.note_fetched();
+        let found = self.find(key, |Hit { item, now, .. }| {
+            item.note_fetched(now);
             item.touch(deadline);
         })?;
         Ok(matches!(found, Found::Live(..)))

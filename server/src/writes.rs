@@ -2,10 +2,10 @@
 use crate::budget::{cost, Claim};
 use crate::counts::Count;
 use crate::index::{Over, Refused, Token};
-use crate::item::{new_item, Item, NewItem, WON};
+use crate::item::{new_item, remade, Item, NewItem, WON};
 use crate::number;
 use crate::request::{Change, How, Order};
-use crate::store::{Answer, Changed, Fault, Found, Store};
+use crate::store::{Answer, Changed, Fault, Found, Hit, Store};
 use cefrodil_map::Reason;
 
 /// How often a call tries again that others' changes of its key disturbed.
@@ -56,8 +56,8 @@ impl Store {
 
     fn fresh(&self, order: &Order, born: u64, data: &[u8]) -> Option<NewItem> {
         let item = new_item(born, order.flags, self.books.clock.deadline(order.expiry), order.key, &[data])?;
-        if order.is_won {
-            item.mark(WON);
+        if order.marks != 0 {
+            item.mark(order.marks);
         }
         Some(item)
     }
@@ -69,7 +69,7 @@ impl Store {
             How::Prepend => [data, item.value()],
             _ => return self.fresh(order, born, data),
         };
-        new_item(born, item.flags, item.deadline(), order.key, &value)
+        remade(item, born, item.deadline(), &value)
     }
 
     fn store_if(&self, order: &Order, data: &[u8]) -> Result<Answer, Fault> {
@@ -77,7 +77,8 @@ impl Store {
         let keeps_deadline = order.may_be_stale || matches!(order.how, How::Append | How::Prepend);
         let _lock = keeps_deadline.then(|| self.lock(order.key));
         for _ in 0..TRIES {
-            let found = self.find(order.key, |item, now| (self.over(order, data, item, now), item.deadline(), item.has(WON)))?;
+            let found = self
+                .find(order.key, |Hit { item, now, .. }| (self.over(order, data, item, now), item.deadline(), item.has(WON)))?;
             let (next, over) = match (found, order.how, order.compare) {
                 (Found::Absent | Found::Dead(..), How::Set | How::Replace, Some(_)) => return Ok(Answer::NotFound),
                 (Found::Live(..), How::Add, _) => return Ok(Answer::NotStored),
@@ -154,7 +155,7 @@ impl Store {
     /// Removes the key, and returns what it was: if it was live, whether its token was to be deleted.
     fn delete_if(&self, key: &[u8], is_meant: impl Fn(Token) -> bool) -> Result<Found<bool>, Fault> {
         for _ in 0..TRIES {
-            let found = self.find(key, |_, _| ())?;
+            let found = self.find(key, |_| ())?;
             let token = match found {
                 Found::Absent => return Ok(Found::Absent),
                 Found::Live((), token) if !is_meant(token) => return Ok(Found::Live(false, token)),
@@ -176,15 +177,18 @@ impl Store {
         self.put_changed(key, compare, |item, born| {
             let number = change.of(number::unsigned(item.value())?);
             let deadline = deadline.unwrap_or(item.deadline());
-            Some((new_item(born, item.flags, deadline, key, &[number.to_string().as_bytes()]), number))
+            Some((remade(item, born, deadline, &[number.to_string().as_bytes()]), number))
         })
     }
 
     /// Makes the key's value stale, if it has this token. The item gets the deadline, if there is one.
     pub fn invalidate(&self, key: &[u8], compare: Option<Token>, deadline: Option<u64>) -> Result<Answer, Fault> {
         let stale = self.put_changed(key, compare, |item, born| {
-            let next = new_item(born, item.flags, item.deadline(), key, &[item.value()]);
-            Some((next.inspect(|next| next.make_stale(deadline.unwrap_or(item.deadline()), false)), ()))
+            let next = remade(item, born, item.deadline(), &[item.value()]).inspect(|next| {
+                next.use_as(item);
+                next.make_stale(deadline.unwrap_or(item.deadline()), false);
+            });
+            Some((next, ()))
         })?;
         match stale {
             Changed::Changed((), token, _) => return Ok(Answer::Done(token)),
@@ -203,7 +207,7 @@ impl Store {
     ) -> Result<Changed<T>, Fault> {
         let _lock = self.lock(key);
         for _ in 0..TRIES {
-            let (next, told, token) = match self.find(key, &change)? {
+            let (next, told, token) = match self.find(key, |Hit { item, now, .. }| change(item, now))? {
                 Found::Absent | Found::Dead(..) => return Ok(Changed::NotFound),
                 Found::Live(_, token) if compare.is_some_and(|compare| compare != token) => return Ok(Changed::Exists),
                 Found::Live(None, _) => return Ok(Changed::NotNumeric),

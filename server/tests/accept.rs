@@ -1,6 +1,8 @@
 //! How clients are accepted.
 use cefrodild::accept::accept_some;
+use cefrodild::listen::Place;
 use std::io::{Error, ErrorKind};
+use std::net::TcpStream;
 use std::time::Duration;
 
 #[test]
@@ -40,4 +42,13 @@ fn a_system_without_room_is_asked_again_later() {
     assert_eq!(calls, 1);
     // Soon, but not at once: the system has no more room yet.
     assert!(next.is_some_and(|pause| !pause.is_zero() && pause <= Duration::from_secs(1)));
+}
+
+/// Without that the system would hold a small answer back until the one before has arrived.
+#[test]
+fn answers_are_not_held_back() {
+    let listeners = Place::Host("127.0.0.1".into(), 0).listen().expect("a port is free");
+    let _client = TcpStream::connect(listeners[0].to_string()).expect("it listens");
+    let accepted = listeners[0].accept().expect("one has connected");
+    assert!(accepted.socket().nodelay().expect("it is a socket"));
 }

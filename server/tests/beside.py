@@ -19,7 +19,9 @@ NUMBERS = [b'0', b'1', b'7', b'10', b'99', b'18446744073709551615', b'9999999999
 VALUES = [b'', b'1', b'10', b'99', b'0', b'x', b'12x', b' 5', b'5 ', b'18446744073709551615', b'\r\nx', b'get a\r\n', b'y' * 300, b'z' * 5000]
 EXPIRIES = [b'0'] * 8 + [b'100', b'-1', b'2592000', b'2592001', b'2147483647']
 VALUE_LINE = re.compile(rb'^(VALUE (\S+) \d+ (\d+)) (\d+)$')
-META_NUMBER = re.compile(rb'^((?:HD|VA|NS|NF|EX|EN)\b.*?) ([ct])[1-9]\d*')
+META_NUMBER = re.compile(rb'^((?:HD|VA|NS|NF|EX|EN)\b.*?) ([ct](?=[1-9])|l)\d+')
+# Of `me` the last use, the token, the class and the size are left out, and how much time is left.
+DETAILS = re.compile(rb'^(ME \S+ exp=-?)(\d+) la=\d+ cas=\d+ (fetch=\w+) cls=\d+ size=\d+$')
 
 
 class Peer:
@@ -55,6 +57,9 @@ class Peer:
         if found:
             self.tokens[found[2].decode('latin1')] = int(found[4])
             return found[1] + b' TOKEN'
+        details = DETAILS.match(line)
+        if details:
+            return b'%s%s %s' % (details[1], details[2] if len(details[2]) < 2 else b'NUMBER', details[3])
         while META_NUMBER.search(line):
             line = META_NUMBER.sub(rb'\1 \2NUMBER', line)
         return line
@@ -96,7 +101,7 @@ def meta(draw, key, counter, value):
     flags = [b'k', b'O%d' % draw.randrange(99), b'q', b'c', b'f', b's', b't', b'v', b'T%s' % draw.choice([b'0', b'100'])]
     verb = draw.choice([b'mg', b'ms', b'md', b'ma'])
     if verb == b'mg':
-        flags += [b'h', b'N%s' % draw.choice([b'0', b'60']), b'R%s' % draw.choice([b'0', b'30', b'200', b'-1'])]
+        flags += [b'h', b'l', b'N%s' % draw.choice([b'0', b'60']), b'R%s' % draw.choice([b'0', b'30', b'200', b'-1'])]
     if verb == b'md':
         flags += [b'I', b'T60']
     if verb == b'ms' and draw.random() < 0.2:

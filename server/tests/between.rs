@@ -4,6 +4,7 @@ use cefrodild::budget::cost;
 use plain::client::{Client, MEGABYTE};
 use std::sync::atomic::Ordering::SeqCst;
 use std::sync::mpsc::channel;
+use std::sync::Arc;
 use std::thread::{self, JoinHandle};
 use std::time::{Duration, Instant};
 
@@ -174,4 +175,37 @@ fn a_new_time_to_live_waits_for_the_crawler() {
         Some(Box::new(move || sender.send(ask_in_vain(other, "touch n 100\n")).expect("it is waited for")));
     client.expire();
     assert_eq!(threads.recv().expect("there is a thread").join().expect("it is answered"), "NOT_FOUND\n");
+}
+
+#[test]
+fn who_may_fetch_a_value_waits_for_a_stale_one_that_comes_over_it() {
+    for before in ["ms n 1 T30\n1\n", "ms n 1 T30\n1\nmd n I\n"] {
+        let (mut client, (sender, threads)) = (client_with("1"), channel());
+        client.ask(before);
+        client.ask_beside("ms n 1 C0 I\n2\n", move |other| {
+            sender.send(ask_in_vain(other, "mg n R60 v\n")).expect("it is waited for");
+        });
+        let told = threads.recv().expect("there is a thread").join().expect("it is answered");
+        assert_eq!((told.as_str(), client.ask("mg n\n").as_str()), ("VA 1 X W\n2\n", "HD Z X\n"), "{before}");
+    }
+}
+
+#[test]
+fn a_stale_value_waits_for_who_makes_an_item() {
+    let (mut client, (sender, threads)) = (Client::new(MEGABYTE), channel());
+    let answer = client.ask_beside("mg n N30 v\n", move |other| {
+        sender.send(ask_in_vain(other, "ms n 1 C0 I\n2\n")).expect("it is waited for");
+    });
+    let told = threads.recv().expect("there is a thread").join().expect("it is answered");
+    assert_eq!((answer.as_str(), told.as_str(), client.ask("mg n v\n").as_str()), ("VA 0 W\n\n", "HD\n", "VA 1 Z X\n2\n"));
+}
+
+#[test]
+fn who_makes_an_item_wins_no_other_one() {
+    let mut client = Client::new(MEGABYTE);
+    let answer = client.ask_beside("mg n N30 v\n", |mut other| {
+        let control = Arc::clone(&other.control);
+        *control.before_look.lock().unwrap() = Some(Box::new(move || set(&mut other, "7")));
+    });
+    assert_eq!((answer.as_str(), client.ask("mg n\n").as_str()), ("VA 1\n7\n", "HD\n"));
 }

@@ -66,7 +66,7 @@ fn what_gave_way_is_counted() {
     let leave = |is_live, was_fetched, reason| {
         let item = new_item(1, 0, if is_live { u64::MAX } else { 0 }, b"key", &[]).expect("there is memory");
         if was_fetched {
-            item.note_fetched();
+            item.note_fetched(1);
         }
         books.budget.claim(cost(3, 0)).keep();
         books.left(&item, reason);

@@ -297,3 +297,22 @@ fn a_connection_that_fails_is_an_error() {
         yield_now();
     }
 }
+
+#[test]
+fn what_is_before_quit_is_sent_to_a_client_that_reads_late() {
+    let mut client = Client::new(MEGABYTE);
+    client.ask(&format!("set k 0 0 10000\n{}\n", "5".repeat(10_000)));
+    let ask = |both: &mut both::Both, command: &[u8]| {
+        both.stream.write_all(command).expect("it takes a command");
+        assert_eq!(both.turn(&client.store), Next::Event);
+        both.connection.is_idle()
+    };
+    let mut first = both::Both::of(&client.store);
+    // So many answers are sent, and the next one waits.
+    let count = (0..10_000).take_while(|_| ask(&mut first, b"get k\r\n")).count();
+    let mut late = both::Both::of(&client.store);
+    assert!((0..count).all(|_| ask(&mut late, b"get k\r\n")) && !ask(&mut late, b"get k\r\nquit\r\n"));
+    let one = answer(10_000);
+    assert_eq!(late.read(&client.store).len(), (count + 1) * one);
+    assert_eq!(late.turn(&client.store), Next::Nothing);
+}

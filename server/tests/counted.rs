@@ -49,9 +49,20 @@ fn lookups_and_new_times_to_live() {
         ("touch gone 0\n", "cmd_touch touch_misses"),
         ("mg n\n", "cmd_get cmd_meta get_hits"),
         ("mg none q\n", "cmd_get cmd_meta get_misses"),
+        ("mg none N30\n", "cmd_get cmd_set cmd_meta get_misses total_items"),
+        ("md n I\nmg n\nmg n\n", "2*cmd_get 3*cmd_meta 2*get_hits"),
+        ("me n\nme none\nme gone\n", "3*cmd_meta"),
         ("mg n T0\n", "cmd_get cmd_touch cmd_meta get_hits touch_hits"),
         ("mg none T0\n", "cmd_get cmd_touch cmd_meta get_misses touch_misses"),
     ]);
+}
+
+/// Each of these answers is sent before the next key is looked at.
+#[test]
+fn lookups_of_large_values() {
+    let mut client = Client::new(MEGABYTE);
+    client.ask(&format!("set large 0 0 20000\n{}\n", "x".repeat(20_000)));
+    assert_eq!(counted(&mut client, "get large large large\n"), "3*cmd_get 3*get_hits");
 }
 
 #[test]

@@ -267,3 +267,16 @@ fn it_does_not_matter_how_bytes_are_cut() {
         assert_eq!(answers, expected, "{:?}", String::from_utf8_lossy(&script));
     }
 }
+
+/// The connection asks for that when it has no memory for what comes. If no value has begun, none is refused.
+#[test]
+fn only_a_value_that_has_begun_is_refused() {
+    let (store, mut dialogue, mut out) = (Client::new(MEGABYTE).store, Dialogue::default(), Output::default());
+    dialogue.refuse_block();
+    assert_eq!(dialogue.turn(&store, b"set k", &mut out), (0, Turn::Needs(6)));
+    assert_eq!(dialogue.turn(&store, b"set k 0 0 5\r\nab", &mut out), (0, Turn::Needs(20)));
+    assert!(out.is_empty() && !dialogue.is_skipping());
+    dialogue.refuse_block();
+    assert_eq!(dialogue.turn(&store, b"set k 0 0 5\r\nab", &mut out), (15, Turn::Needs(1)));
+    assert!(out.starts_with(b"SERVER_ERROR out of memory") && dialogue.is_skipping());
+}

@@ -32,7 +32,7 @@ FLAGS = [number for number in NUMBERS if number not in ['9223372036854775807', '
 TIMES = ['100', '+100'] + [number for number in FLAGS if number not in ['1', '+1', '4294967295']]
 STORING = ['set', 'add', 'replace', 'append', 'prepend']
 # Flags that memcached takes and cefrodild refuses: some it lacks, and others belong to another meta command.
-REFUSED = {'mg': 'bhluNRDFIJM', 'ms': 'bINhluDJR', 'md': 'bIhluDFJMNR', 'ma': 'bhluFIR'}
+REFUSED = {'mg': 'uNRDFIJM', 'ms': 'INhluDJR', 'md': 'IhluDFJMNR', 'ma': 'hluFIR'}
 
 
 def flags():
@@ -96,6 +96,19 @@ def blocks():
             yield line + behind, block
 
 
+def base64_keys():
+    """Keys as base64, right and wrong, behind each meta command, and the key of what was stored so or not."""
+    texts = ['Zg==', 'Zm8=', 'Zm9v', 'Pz8/', 'YSBiDQo=', 'AAAA', '////', 'Zm9vYh==', 'Zm9=', 'Zm=v', 'Zg=v', 'Zm8=AAAA', 'Zm8=A', 'Zg', 'Zm9', 'Z===', '====', '=AAA', 'A=AA', 'Zm9-', 'Zm9_', 'none', 'n', 'A' * 248, 'A' * 252]
+    for text, verb, more in itertools.product(texts, ['mg {}', 'ms {} 2', 'md {}', 'md {} I', 'ma {}'], ['b', 'b k', 'k b O7', 'k b q', 'k bx', 'k b v', 'k']):
+        store = f'ms {text} 2 b\r\n55\r\n'
+        line = f'{verb.format(text)} {more}' + ('\r\n66' if verb.startswith('ms') else '')
+        yield f'{line}\r\nmg {text} b k v\r\n{store}{line}\r\nmg {text} k b v h\r\nme {text} b', None
+    for text, more in itertools.product(texts + KEYS, ['', ' b', ' bx', ' q b', ' b b', ' x']):
+        yield f'me {text}{more}', None
+    for line in ['me', 'me ', 'me n\r\nget n\r\nme n', 'me t\r\nmg t T100 l h\r\nme t', 'touch n 100\r\nme n', f'me {LONG}', 'md n I\r\nme n\r\nmg n h l']:
+        yield line, None
+
+
 def odd_bytes():
     """Each byte before, in and behind a number and a word. A zero ends memcached's text, and a line feed the line."""
     for byte in map(chr, range(1, 256)):
@@ -113,7 +126,7 @@ DIFFERENT = re.compile(r'ma .* C0|flush_all 1$|gats? .* k{251}')
 
 def main():
     peers, asked = [Peer(int(port)) for port in sys.argv[1:3]], 0
-    for table in [flags, modes, words, numbers, faults, blocks, odd_bytes]:
+    for table in [flags, modes, words, numbers, faults, blocks, base64_keys, odd_bytes]:
         for line, block in table():
             if DIFFERENT.match(line):
                 continue

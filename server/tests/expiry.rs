@@ -4,6 +4,7 @@ use cefrodild::clock::unix_time;
 use cefrodild::counts::Count;
 use cefrodild::expire::LOOKED_AT;
 use plain::client::{Client, MEGABYTE};
+use std::thread::sleep;
 use std::time::{Duration, Instant};
 
 /// Each gives `k` this time to live, or makes it with that.
@@ -209,4 +210,51 @@ fn a_new_value_is_not_taken_for_the_dead_one() {
     client.expire();
     assert!(client.control.meanwhile.lock().unwrap().is_none(), "it is about to be removed");
     assert_eq!(client.ask("get a\n"), "VALUE a 0 1\n2\nEND\n");
+}
+
+/// The seconds since the key was used, as `me` shows them.
+fn idle(client: &mut Client, key: &str) -> u64 {
+    let answer = client.ask(&format!("me {key}\n"));
+    answer.split(' ').find_map(|word| word.strip_prefix("la=")).and_then(|seconds| seconds.parse().ok()).expect(&answer)
+}
+
+#[test]
+fn what_counts_as_a_use_of_an_item() {
+    let mut client = Client::over_map(MEGABYTE, "-t1");
+    let uses = [
+        ("get a\n", "a", true),
+        ("gat 0 b\n", "b", true),
+        ("mg c l\n", "c", true),
+        ("touch d 0\n", "d", true),
+        ("incr e 1\n", "e", true),
+    ];
+    let others = [
+        ("me f\n", "f", false),
+        ("md g I\n", "g", false),
+        ("lru_crawler metadump all\n", "h", false),
+        ("add i 0 0 1\n5\n", "i", false),
+    ];
+    "abcdefghi".chars().for_each(|key| drop(client.ask(&format!("set {key} 0 0 1\n5\n"))));
+    sleep(Duration::from_millis(2100));
+    for (command, key, is_use) in uses.into_iter().chain(others) {
+        assert!(idle(&mut client, key) >= 2, "{command}");
+        within_a_second(|| {
+            let mut client = client.beside();
+            client.ask(command);
+            let idle = idle(&mut client, key);
+            ((idle < 2) == is_use).then_some(()).ok_or(format!("{command}: {idle}"))
+        });
+    }
+    let answer = client.ask("mg h l\n");
+    let told: u64 = answer.trim_end().strip_prefix("HD l").and_then(|seconds| seconds.parse().ok()).expect(&answer);
+    assert!((2..60).contains(&told), "{answer}");
+    let crawled = client.ask("lru_crawler metadump all\n");
+    let used = |key: &str| -> u64 {
+        crawled
+            .lines()
+            .find_map(|line| line.strip_prefix(&format!("key={key} exp=-1 la=")))
+            .and_then(|rest| rest.split(' ').next()?.parse().ok())
+            .expect(&crawled)
+    };
+    assert!(used("h") > used("f") + 1 && used("h") <= unix_time(), "{crawled}");
 }

@@ -21,7 +21,7 @@ fn set(store: &Store, key: &[u8], length: usize) -> Result<Answer, Fault> {
 
 /// Looks at this key, and calls `meanwhile` in another thread while it looks.
 fn while_it_is_read(store: &Store, key: &[u8], meanwhile: impl Fn() + Sync) {
-    let looked = store.look(&[key], |_, _, _| {
+    let looked = store.look(&[key], |_, _| {
         thread::scope(|threads| threads.spawn(&meanwhile).join().expect("no assertion failed"));
         true
     });
@@ -78,7 +78,7 @@ fn a_put_waits_for_a_reader_that_was_stopped() {
     let ((tell, told), has_read) = (channel(), AtomicBool::new(false));
     thread::scope(|threads| {
         threads.spawn(|| {
-            store.look(&[b"key"], |_, _, _| {
+            store.look(&[b"key"], |_, _| {
                 tell.send(()).expect("the other thread waits");
                 sleep(Duration::from_millis(700));
                 has_read.store(true, SeqCst);

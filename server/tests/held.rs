@@ -1,11 +1,15 @@
 //! What clients hold: values that they read late, and values that they have not sent as a whole.
 mod plain;
 use cefrodild::connection::Next;
+use cefrodild::counts::Count;
+use cefrodild::request::How;
 use cefrodild::store::Store;
 use plain::both::Both;
-use plain::client::{Client, MEGABYTE};
+use plain::client::{order, Client, MEGABYTE};
 use std::io::Write;
+use std::sync::atomic::{AtomicBool, Ordering::SeqCst};
 use std::sync::{Mutex, MutexGuard, PoisonError};
+use std::thread;
 
 /// One test at a time, since what has left and is held is counted for the process.
 static TURN: Mutex<()> = Mutex::new(());
@@ -127,6 +131,38 @@ fn who_sends_one_value_after_the_other_has_not_held_them_all_the_time() {
     drop((others, last));
 }
 
+/// Neither those of values that were sent to the end, nor those of clients that have left.
+#[test]
+fn bytes_that_were_held_before_count_no_more() {
+    let _turn = turn();
+    let (client, _) = stored();
+    for _ in 0..20 {
+        let mut both = Both::of(&client.store);
+        assert!(both.ask(&client.store, &begun("a")).is_empty());
+        assert_eq!(both.ask(&client.store, &ended(b"set b 0 0 50\r\n12345")), b"STORED\r\n");
+        assert!(client.store.books.budget.buffers() < 1_000, "it holds few bytes: {}", client.store.books.budget.buffers());
+        drop(stalled(&client.store, 1));
+    }
+    assert_eq!(stalled(&client.store, 1)[0].ask(&client.store, &ended(b"")), b"STORED\r\n");
+}
+
+/// A value that no client is sent is freed when it leaves. At no time in between does it count.
+#[test]
+fn what_no_client_is_sent_is_never_held() {
+    let _turn = turn();
+    let (store, value, has_ended) = (Client::with(8 * MEGABYTE, "-t2").store, vec![b'x'; 200_000], AtomicBool::new(false));
+    let replace = || {
+        (0..2_000).for_each(|_| assert!(store.store(&order(How::Set, b"k", value.len()), &value).is_ok()));
+        has_ended.store(true, SeqCst);
+    };
+    thread::scope(|threads| {
+        threads.spawn(replace);
+        while !has_ended.load(SeqCst) {
+            assert!(store.books.budget.buffers() <= MEGABYTE as u64);
+        }
+    });
+}
+
 /// Items that were replaced while clients read them are kept for these alone: they count, and who keeps most for longest is cut off.
 #[test]
 fn who_keeps_items_that_have_left_is_cut_off() {
@@ -140,6 +176,33 @@ fn who_keeps_items_that_have_left_is_cut_off() {
     }
     let nexts: Vec<_> = late.iter_mut().map(|both| both.turn(&client.store)).collect();
     assert_eq!(nexts.iter().filter(|next| **next == Next::Nothing).count(), 4, "8 MB may be kept: {nexts:?}");
+    assert_eq!(client.store.books.counts.get(Count::NoBuffers), 4);
     drop(late);
     assert_eq!(client.store.books.budget.buffers(), 0);
+}
+
+/// What a client has sent of a value counts, and at most as much again, however long the value is to be.
+#[test]
+fn a_part_of_a_value_counts_as_its_client_s() {
+    let _turn = turn();
+    let (client, _) = stored();
+    for sent in [20_000, 60_000, 120_000, 200_000, 400_000] {
+        let mut both = Both::of(&client.store);
+        assert!(both.ask(&client.store, &begun("a")[..sent]).is_empty());
+        let held = client.store.books.budget.buffers() as usize;
+        assert!((sent..=2 * sent).contains(&held), "{held} bytes of {sent}");
+    }
+}
+
+/// It holds nothing that would be freed without it.
+#[test]
+fn who_reads_an_item_that_stays_is_not_cut_off() {
+    let _turn = turn();
+    let (client, answer) = stored();
+    let mut late = Both::of(&client.store);
+    late.stream.write_all(b"get k\r\n").expect("it takes a command");
+    assert_eq!(late.turn(&client.store), Next::Event);
+    let mut others = stalled(&client.store, 12);
+    others.iter_mut().for_each(|both| assert_eq!(both.turn(&client.store), Next::Event));
+    assert!(late.read(&client.store) == answer.as_bytes());
 }

@@ -5,11 +5,11 @@ use cefrodild::request::{parse, Change, How, Keys, Order, Request};
 use plain::draw::Draw;
 
 fn read(line: &str) -> Request<'_> {
-    parse(line.as_bytes()).0.unwrap_or_else(|why| panic!("{line}: {}", why.text))
+    parse(line.as_bytes(), Box::leak(Box::default())).0.unwrap_or_else(|why| panic!("{line}: {}", why.text))
 }
 
 fn refused(line: &str) -> &'static str {
-    parse(line.as_bytes()).0.expect_err(line).text
+    parse(line.as_bytes(), &mut Vec::new()).0.expect_err(line).text
 }
 
 fn stored<'a>(how: How, compare: Option<u64>) -> Request<'a> {
@@ -167,8 +167,9 @@ const META: [&str; 4] = ["mg k", "ms k 1", "md k", "ma k"];
 
 #[test]
 fn the_flags_of_each_meta_command() {
-    let (all, more) = ("qvkcfstOTCPL", ["hNR", "FMI", "I", "MDJN"]);
-    for (line, more) in META.iter().zip(more) {
+    let (all, more) = ("bqvkcfstOTCPL", ["hlNR", "FMI", "I", "MDJN"]);
+    // The key is base64.
+    for (line, more) in META.map(|line| line.replace('k', "Zm9v")).iter().zip(more) {
         for flag in (b'!'..=b'~').map(char::from) {
             // The token is right for each flag that takes one.
             let token = if flag == 'M' {
@@ -181,7 +182,7 @@ fn the_flags_of_each_meta_command() {
                 "1"
             };
             let (line, is_known) = (format!("{line} {flag}{token}"), all.contains(flag) || more.contains(flag));
-            match parse(line.as_bytes()).0 {
+            match parse(line.as_bytes(), &mut Vec::new()).0 {
                 Ok(_) => assert!(is_known, "{line}"),
                 Err(why) if line.starts_with("mg") || line.starts_with("ms") => {
                     assert_eq!((why.text, is_known), ("CLIENT_ERROR invalid flag", false), "{line}");
@@ -220,7 +221,7 @@ fn each_meta_flag_may_come_once() {
     for (line, text) in
         META.iter().zip(["duplicate flag", "duplicate flag", "invalid or duplicate flag", "invalid or duplicate flag"])
     {
-        for flag in ["q", "v", "k", "c", "f", "s", "t", "Oa", "T0", "C0", "P", "L"] {
+        for flag in ["b", "q", "v", "k", "c", "f", "s", "t", "Oa", "T0", "C0", "P", "L"] {
             assert_eq!(refused(&format!("{line} {flag} {flag}")), format!("CLIENT_ERROR {text}"), "{line} {flag}");
         }
     }
@@ -231,12 +232,12 @@ fn meta_flags_that_are_wrong() {
     assert_eq!(refused("mg k O123456789012345678901234567890123"), "CLIENT_ERROR opaque token too long");
     assert_eq!(refused("ms k"), "CLIENT_ERROR bad command line format");
     // The block of a refused line is skipped.
-    assert_eq!(parse(b"ms k 5 MX").0.expect_err("no such mode").block, 7);
+    assert_eq!(parse(b"ms k 5 MX", &mut Vec::new()).0.expect_err("no such mode").block, 7);
 }
 
 #[test]
 fn no_line_panics() {
-    let text = b"get set cas mg ms ma noreply 0 -1 99999999999999999999 M C N \xff\x00 ";
+    let text = b"get set cas mg ms ma me b Zm9v Zg== noreply 0 -1 99999999999999999999 M C N \xff\x00 ";
     let words: Vec<&[u8]> = text.split(|byte| *byte == b' ').chain([&b" "[..]]).collect();
     let mut draw = Draw(1);
     for _ in 0..100_000 {
@@ -245,6 +246,6 @@ fn no_line_panics() {
             line.extend_from_slice(words[draw.below(words.len())]);
             line.push([b' ', b'\t'][draw.below(2)]);
         }
-        let _ = parse(&line);
+        let _ = parse(&line, &mut Vec::new());
     }
 }

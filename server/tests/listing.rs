@@ -80,7 +80,7 @@ fn crawl(client: &mut Client, classes: &str) -> Vec<String> {
 fn a_crawler_s_list() {
     let mut client = Client::new(MEGABYTE);
     client.ask("set a 5 0 3\nabc\nset b%c 0 0 1\n1\nset gone 0 -1 1\n1\nset \u{e4}-._~ 0 0 1\n1\nget a\n");
-    let size = |key: usize, value: usize| 26 + key + value;
+    let size = |key: usize, value: usize| 30 + key + value;
     let all = [
         format!("key=%C3%A4-._~ exp=-1 cas=4 fetch=no cls=1 size={}", size(6, 1)),
         format!("key=a exp=-1 cas=1 fetch=yes cls=1 size={}", size(1, 3).max(32)),

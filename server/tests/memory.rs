@@ -71,7 +71,7 @@ fn nothing_gives_way_to_an_item_that_a_command_could_not_change() {
 
 #[test]
 fn what_an_item_counts() {
-    assert_eq!((cost(0, 0), cost(3, 5)), (44, 52));
+    assert_eq!((cost(0, 0), cost(3, 5)), (48, 56));
 }
 
 /// A command that changes what `a` has, and its answer.
@@ -137,4 +137,14 @@ fn items_that_give_way_as_the_system_refuses_memory_leave_the_limit_as_it_is() {
     let limit = client.store.books.budget.limit();
     assert_eq!(client.store.with_more_memory(1_000, || Some(client.store.index.len())), Some(9));
     assert_eq!(*client.control.limits.lock().unwrap(), [limit]);
+}
+
+/// Nothing beside the limit is for an item, though what has left may take a little more.
+#[test]
+fn an_item_is_refused_if_no_other_one_goes() {
+    let mut client = Client::new(100 * cost(2, 1) as usize);
+    (0..100).for_each(|key| assert_eq!(client.ask(&format!("set {key:02} 0 0 1\n5\n")), "STORED\n"));
+    client.control.refuses_removals.store(true, SeqCst);
+    assert_eq!(client.ask("set a 0 0 1\n5\n"), FULL);
+    assert!(client.store.books.budget.used() <= client.store.books.budget.limit());
 }

@@ -15,7 +15,7 @@ fn send(store: &Store, how: How, key: &[u8], length: usize) {
 
 fn has(store: &Store, key: &[u8]) -> bool {
     let mut is_there = false;
-    store.look(&[key], |_, _, _| {
+    store.look(&[key], |_, _| {
         is_there = true;
         true
     });

@@ -1,5 +1,7 @@
 //! The command line.
 use cefrodild::listen::Place;
+#[cfg(feature = "tls")]
+use cefrodild::options::Tls;
 use cefrodild::options::{parse, Asked, Options, HELP};
 use std::path::Path;
 
@@ -139,7 +141,7 @@ fn options_of_memcached_that_change_nothing() {
         assert_eq!(Options { idle, ..options("") }, options(words), "{words}");
     }
     assert_eq!(options("-o modern,lru_crawler").idle, ["-o modern", "-o lru_crawler"]);
-    for words in ["-C", "-M", "-S", "-L", "-Z", "-F", "-B auto", "-B binary", "-o ext_path=/x", "-o modern,x", "--enable-sasl"] {
+    for words in ["-C", "-M", "-S", "-L", "-F", "-B auto", "-B binary", "-o ext_path=/x", "-o modern,x", "--enable-sasl"] {
         assert!(read(words).expect_err(words).contains("leave it out"), "{words}");
     }
 }
@@ -238,6 +240,8 @@ fn the_help_names_what_is_accepted() {
             "N" => "1024",
             "MODE" => "660",
             "LIST" => "idle_timeout=1",
+            // It needs others.
+            "" if names.starts_with("Z,") => continue,
             value => value,
         };
         for name in names.split(", -") {
@@ -246,6 +250,43 @@ fn the_help_names_what_is_accepted() {
             assert!(read(&words).is_ok(), "{words}: {:?}", read(&words));
         }
     }
+}
+
+#[test]
+#[cfg(feature = "tls")]
+fn what_tls_needs() {
+    let given = "-Z -o ssl_chain_cert=chain,ssl_key=key";
+    let tls = Tls { chain: "chain".into(), key: "key".into(), authority: None, verify: 0 };
+    assert_eq!(options(given).tls, Some(tls.clone()));
+    assert_eq!(options("--enable-ssl -o ssl_key=key --extended=ssl_chain_cert=chain").tls, Some(tls.clone()));
+    for verify in [0, 1, 2, 3] {
+        let words = format!("{given},ssl_ca_cert=those,ssl_verify_mode={verify}");
+        assert_eq!(options(&words).tls, Some(Tls { authority: Some("those".into()), verify, ..tls.clone() }));
+    }
+    assert_eq!(options("").tls, None);
+    for (words, named) in [
+        ("-Z", "ssl_chain_cert"),
+        ("-Z -o ssl_chain_cert=chain", "ssl_key"),
+        ("-Z -o ssl_key=key", "ssl_chain_cert"),
+        ("-Z -o ssl_chain_cert=,ssl_key=key", "ssl_chain_cert"),
+        ("-o ssl_chain_cert=chain,ssl_key=key", "-Z"),
+        ("-o ssl_ca_cert=those", "-Z"),
+        ("-o ssl_verify_mode=1", "-Z"),
+        ("-Z -o ssl_chain_cert=chain,ssl_key=key,ssl_verify_mode=1", "ssl_ca_cert"),
+        ("-Z -o ssl_chain_cert=chain,ssl_key=key,ssl_verify_mode=4", "ssl_verify_mode"),
+        ("-Z -o ssl_chain_cert=chain,ssl_key=key,ssl_ciphers=x", "ssl_ciphers"),
+        ("-Z -o ssl_chain_cert=chain,ssl_key=key -s file", "-s"),
+    ] {
+        let why = read(words).expect_err(words);
+        assert!(why.contains(named), "{words}: {why}");
+    }
+}
+
+#[test]
+#[cfg(not(feature = "tls"))]
+fn there_may_be_no_tls() {
+    let why = read("-Z -o ssl_chain_cert=chain,ssl_key=key").expect_err("it was built without");
+    assert!(why.contains("built without TLS"), "{why}");
 }
 
 #[test]

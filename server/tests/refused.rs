@@ -1,18 +1,22 @@
 //! Memory that the system refuses: each allocation in turn, and all for a while. Clients get an error or are cut off, and the server goes on. The index is the
 //! real one.
 mod plain;
+use cefrodild::books::Books;
 use cefrodild::connection::{warm_up, Next};
 use cefrodild::item::new_item;
 use cefrodild::memory::Spare;
+use cefrodild::request::How;
 use cefrodild::slabs;
 use cefrodild::store::Store;
 use cefrodild::worker::Worker;
 use plain::both::Both;
-use plain::client::map_store;
+use plain::client::{map_store, options_of, order};
+use plain::{Control, Plain};
 use std::alloc::{GlobalAlloc, Layout, System};
 use std::cell::Cell;
 use std::io::{ErrorKind, Read, Write};
 use std::ptr;
+use std::sync::atomic::Ordering::SeqCst;
 use std::sync::{Arc, Mutex, MutexGuard, Once, PoisonError};
 
 /// Refuses some allocations of one thread.
@@ -267,4 +271,54 @@ fn each_allocation_of_a_worker_is_refused() {
         assert_eq!(store.seats.taken(), 0);
         was_refused = refused;
     }
+}
+
+/// If items that give way don't help, no more of them go in that second.
+#[test]
+fn items_do_not_go_in_vain() {
+    let _turn = set_up();
+    let (store, value) = (store(), vec![b'x'; 100_000]);
+    (0..200).for_each(|key: u8| assert!(store.store(&order(How::Set, &[key], 1_000), &value[..1_000]).is_ok()));
+    let mut gone = Vec::new();
+    for _ in 0..20 {
+        let before = store.index.len();
+        let (answer, _) = refusing(0, usize::MAX, || store.store(&order(How::Set, b"large", value.len()), &value));
+        assert!(answer.is_err());
+        gone.push(before - store.index.len());
+    }
+    // A second may end meanwhile.
+    assert!(gone[0] > 0 && gone.iter().filter(|gone| **gone > 0).count() <= 3, "{gone:?}");
+}
+
+/// The reserve has a megabyte.
+#[test]
+fn the_reserve_begins_anew_when_none_of_it_is_taken() {
+    let _turn = set_up();
+    for _ in 0..50 {
+        let (block, is_refused) = refusing(0, 1, || Vec::<u8>::with_capacity(100_000));
+        assert!(is_refused && block.capacity() == 100_000);
+    }
+}
+
+/// The list of items that lie in no chunk does not grow.
+#[test]
+fn the_place_of_an_item_that_has_left_is_used_again() {
+    let _turn = set_up();
+    let item = || new_item(1, 0, 0, b"key", &[&[0; 2_000]]);
+    assert!(item().is_some());
+    for _ in 0..20_000 {
+        // It needs a block of its own, and nothing else.
+        assert!(refusing(1, usize::MAX, item).0.is_some());
+    }
+}
+
+#[test]
+fn what_gave_way_is_freed_before_the_system_is_asked_again() {
+    let _turn = set_up();
+    let (options, control) = (options_of("-t1"), Arc::new(Control::default()));
+    let books = Arc::new(Books::new(1 << 20, &options));
+    let store = Store::new(Box::new(Plain::new(&books, &control)), books, options);
+    let put = || store.store(&order(How::Set, b"key", 20_000), &[b'x'; 20_000]);
+    assert!(put().is_ok() && control.sweeps.load(SeqCst) == 0);
+    assert!(refusing(0, 1, put).0.is_ok() && control.sweeps.load(SeqCst) == 1);
 }

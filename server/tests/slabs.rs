@@ -110,3 +110,23 @@ fn empty_chunks_go_back_to_the_system_and_come_again() {
     let again = chunks(&small_items(100_000, 200)).intersection(&before).count();
     assert!(again >= before.len() * 9 / 10, "{again} of {} chunks are used again", before.len());
 }
+
+/// Whether a part of this chunk is in memory.
+fn is_in_memory(chunk: &usize) -> bool {
+    let mut pages = [0; slabs::CHUNK / 4096];
+    // SAFETY: there is a number for each page of the chunk. A larger page has one number, too.
+    let status = unsafe { libc::mincore((chunk * slabs::CHUNK) as *mut _, slabs::CHUNK, pages.as_mut_ptr()) };
+    assert_eq!(status, 0, "its addresses are mapped");
+    pages.iter().any(|page| page & 1 > 0)
+}
+
+#[test]
+fn some_empty_chunks_stay_in_memory() {
+    let _turn = set_up();
+    for _ in 0..3 {
+        // More become empty than stay.
+        drop(small_items(100_000, 200));
+        let few = chunks(&small_items(50, 900));
+        assert!(few.len() < 8 && few.iter().all(is_in_memory));
+    }
+}

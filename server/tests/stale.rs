@@ -24,6 +24,7 @@ fn the_client_that_misses_is_to_fetch_the_value() {
         ("md k q\nmg k q v\nmn\n", "MN\n"),
         ("mg k N0 s\n", "HD s0 W\n"),
         ("mg k t\n", "HD t-1 Z\n"),
+        ("md k q\nmg k N0 T60 t\nmg k t\n", "HD t60 W\nHD t60 Z\n"),
     ]);
 }
 
@@ -92,6 +93,11 @@ fn a_first_hit_is_told() {
         ("get none\nmg k h\n", "END\nHD h0\n"),
         ("gat 0 k\nmg k h\n", "VALUE k 0 2\n61\nEND\nHD h1\n"),
         ("ms k 1\n5\ntouch k 0\nmg k h\n", "HD\nTOUCHED\nHD h1\n"),
+        // What becomes stale was hit as before.
+        ("md k I\nmg k h\n", "HD\nHD h1 X W\n"),
+        ("ms k 1\n5\nmd k I\nmg k h\nmg k h\n", "HD\nHD\nHD h0 X W\nHD h1 Z X\n"),
+        ("md k q\nmg k N0 h\nmg k h\n", "HD h0 W\nHD h1 Z\n"),
+        ("ms k 1 T60\n5\nmg k R90 h\nmg k R90 h\n", "HD\nHD h0 W\nHD h1 Z\n"),
     ]);
 }
 
@@ -115,5 +121,31 @@ fn of_many_clients_one_fetches_the_value() {
         let answers = thread::scope(|threads| [(); CLIENTS].map(|()| threads.spawn(ask)).map(|client| client.join().unwrap()));
         let won = answers.iter().filter(|answer| *answer == winner).count();
         assert!(won == 1 && answers.iter().all(|answer| answer == winner || answer == other), "{line}: {answers:?}");
+    }
+}
+
+/// Asks each line in a thread of its own, over this client's store. Returns the answers in that order.
+fn together(first: &Client, lines: &[&str]) -> Vec<String> {
+    let begin = Barrier::new(lines.len());
+    let ask = |line| {
+        begin.wait();
+        first.beside().ask(line)
+    };
+    thread::scope(|threads| {
+        let asking: Vec<_> = lines.iter().map(|line| threads.spawn(move || ask(line))).collect();
+        asking.into_iter().map(|client| client.join().unwrap()).collect()
+    })
+}
+
+#[test]
+fn a_stale_value_that_comes_meanwhile_is_fetched_by_one_client() {
+    let first = Client::over_map(MEGABYTE, "-t4");
+    for before in ["ms k 1 T30\n5\n", "ms k 1 T30\n5\nmd k I\n"].iter().cycle().take(400) {
+        first.beside().ask(before);
+        let lines = ["ms k 1 C0 I\n6\n", "mg k R60\n", "ms k 1 C0 I\n7\n", "mg k R60\n"];
+        let answers = together(&first, &lines);
+        let won = answers.iter().filter(|answer| answer.ends_with(" W\n")).count();
+        assert!(won == 1 && answers.iter().filter(|answer| answer.contains(" Z")).count() == 1, "{before}{answers:?}");
+        assert_eq!(first.beside().ask("mg k\n"), "HD Z X\n");
     }
 }

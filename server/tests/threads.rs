@@ -33,8 +33,8 @@ impl Drop for Stop<'_> {
 
 fn deadline(store: &Store) -> Option<u64> {
     let mut found = None;
-    store.look(&[KEY], |_, item, _| {
-        found = Some(item.deadline());
+    store.look(&[KEY], |_, hit| {
+        found = Some(hit.item.deadline());
         true
     });
     found

@@ -19,6 +19,16 @@ fn is_after(deadline: u64, seconds: u64, before: u64, after: u64) -> bool {
 }
 
 #[test]
+fn how_long_an_item_is_idle() {
+    let item = item(5 * SECOND + 1, NEVER);
+    assert_eq!([5, 6, 9].map(|second| item.idle(second * SECOND + 2)), [0, 1, 4]);
+    item.note_fetched(7 * SECOND);
+    assert_eq!([4, 7, 8].map(|second| item.idle(second * SECOND + SECOND - 1)), [0, 0, 1]);
+    item.note_fetched(9 * SECOND - 1);
+    assert_eq!(item.idle(9 * SECOND), 1);
+}
+
+#[test]
 fn times_to_live() {
     let clock = Clock::new();
     assert_eq!(clock.deadline(0), NEVER);

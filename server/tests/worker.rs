@@ -1,13 +1,15 @@
 //! A worker and its clients.
 mod plain;
+use cefrodild::files::make_room;
 use cefrodild::store::Store;
 use cefrodild::worker::{Inbox, Worker};
 use plain::both::connection;
 use plain::client::{Client, MEGABYTE};
 use std::io::{self, Read, Write};
 use std::net::{TcpListener, TcpStream};
+use std::sync::mpsc::channel;
 use std::sync::Arc;
-use std::thread::{spawn, yield_now, JoinHandle};
+use std::thread::{sleep, spawn, yield_now, JoinHandle};
 use std::time::{Duration, Instant};
 
 /// How long a client may wait.
@@ -32,9 +34,14 @@ impl Working {
 
     /// One whose worker does not run yet.
     fn waiting() -> (Working, Worker) {
-        let store = Client::new(MEGABYTE).store;
-        let (worker, inbox) = Worker::new(Arc::clone(&store)).expect("there are descriptors");
-        (Working { store, listener: TcpListener::bind("127.0.0.1:0").expect("a port is free"), inbox }, worker)
+        Working::of(&Client::new(MEGABYTE).store)
+    }
+
+    /// The same, over this store.
+    fn of(store: &Arc<Store>) -> (Working, Worker) {
+        let (worker, inbox) = Worker::new(Arc::clone(store)).expect("there are descriptors");
+        let (store, listener) = (Arc::clone(store), TcpListener::bind("127.0.0.1:0").expect("a port is free"));
+        (Working { store, listener, inbox }, worker)
     }
 
     /// A client that the worker has.
@@ -152,4 +159,63 @@ fn a_client_that_quits_leaves_its_seat() {
     assert_eq!(answer, b"STORED\r\n");
     working.wait(1);
     assert!(is_answered(&second));
+}
+
+/// There are more than the worker hears of at once, so some have no event in its last round.
+#[test]
+fn all_that_clients_have_sent_is_answered_at_the_end() {
+    const CLIENTS: usize = 3_000;
+    make_room(2 * CLIENTS, 1).expect("the system allows as many files");
+    let first = Client::with(MEGABYTE, &format!("-t1 -c {}", CLIENTS + 1));
+    let (working, worker) = Working::of(&first.store);
+    let ended = spawn(|| worker.run(0));
+    let mut clients: Vec<_> = (0..CLIENTS).map(|_| working.connect()).collect();
+    assert!(clients.iter().all(is_answered));
+    // The worker waits within a command. When it goes on, it hears of the inbox first.
+    let (go_on, waits) = channel();
+    *first.control.before_look.lock().unwrap() = Some(Box::new(move || waits.recv().expect("it is told to")));
+    clients[0].write_all(b"get k\r\n").expect("it is connected");
+    while first.control.before_look.lock().unwrap().is_some() {
+        yield_now();
+    }
+    let _last = working.connect();
+    clients[1..].iter_mut().for_each(|client| client.write_all(b"mn\r\n").expect("it is connected"));
+    drop(working);
+    go_on.send(()).expect("it waits");
+    let is_told = |mut client: &TcpStream| client.read(&mut [0]).is_ok_and(|length| length == 1);
+    assert_eq!(clients.iter().filter(|client| is_told(client)).count(), CLIENTS);
+    assert!(join(ended).is_ok());
+}
+
+/// The worker is woken once, though two are to be cut off.
+#[test]
+fn all_that_are_cut_off_together_hear_so() {
+    let mut first = Client::with(8 * MEGABYTE, "-t1 -m 16");
+    let (working, worker) = Working::of(&first.store);
+    spawn(|| worker.run(0));
+    let wait_for = |bytes: u64| {
+        let end = Instant::now() + LIMIT;
+        while first.store.books.budget.buffers() < bytes {
+            assert!(Instant::now() < end, "clients hold {} bytes", first.store.books.budget.buffers());
+            yield_now();
+        }
+    };
+    let part = [&b"set a 0 0 200000\r\n"[..], &[b'x'; 199_000]].concat();
+    let clients: Vec<_> = (0..40).map(|_| working.connect()).collect();
+    clients.iter().for_each(|mut client| client.write_all(&part).expect("it is connected"));
+    wait_for(40 * 199_000);
+    // So they have held for longer than the next one.
+    sleep(Duration::from_secs(1));
+    // With an item that leaves while it is read they hold more than half of the memory limit, by more than one of them holds.
+    first.ask(&format!("set k 0 0 1000000\n{}\n", "x".repeat(1_000_000)));
+    let (mut late, mut other) = (working.connect(), working.connect());
+    // The system has no room for so many answers.
+    late.write_all(&b"get k\r\n".repeat(50)).and_then(|()| late.peek(&mut [0])).expect("it is answered");
+    other.write_all(&[&b"set k 0 0 40000\r\n"[..], &[b'x'; 40_000], b"\r\n"].concat()).expect("it is connected");
+    let end = Instant::now() + LIMIT;
+    let is_told = |client: &&TcpStream| client.set_nonblocking(true).and_then(|()| client.peek(&mut [0])).is_ok();
+    while clients.iter().filter(is_told).count() < 2 {
+        assert!(Instant::now() < end, "{} have heard so", clients.iter().filter(is_told).count());
+        yield_now();
+    }
 }

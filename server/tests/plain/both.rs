@@ -1,9 +1,10 @@
 //! A client over a connection.
 use super::client::MEGABYTE;
 use cefrodild::connection::{Connection, Next};
-use cefrodild::listen::Stream;
 use cefrodild::store::Store;
+use cefrodild::stream::Stream;
 use std::io::{self, ErrorKind, Read, Write};
+use std::net::TcpStream;
 use std::os::fd::OwnedFd;
 use std::os::unix::net::UnixStream;
 
@@ -61,7 +62,7 @@ impl Both {
 
 /// The connection that has this end of a socket.
 pub fn connection(store: &Store, end: impl Into<OwnedFd>) -> Connection {
-    let stream = Stream(end.into().into());
-    stream.0.set_nonblocking(true).expect("it is a socket");
-    Connection::new(stream, store.seats.take(0).expect("a seat is free"))
+    let socket = TcpStream::from(end.into());
+    socket.set_nonblocking(true).expect("it is a socket");
+    Connection::new(Stream::Plain(socket), store.seats.take(0).expect("a seat is free"))
 }

@@ -24,6 +24,8 @@ pub struct Control {
     pub removals_to_refuse: AtomicUsize,
     /// What happens right before the next change that has a condition.
     pub meanwhile: Mutex<Option<Box<dyn FnOnce() + Send>>>,
+    /// What happens right before the next lookup.
+    pub before_look: Mutex<Option<Box<dyn FnOnce() + Send>>>,
     /// For so many seconds calls have given up.
     pub stalled: AtomicU64,
     /// How often what had left was to be freed.
@@ -42,6 +44,11 @@ struct Entry {
 
 /// The items, and the last token.
 type Items = (HashMap<u64, Entry>, Token);
+
+fn act(others: &Mutex<Option<Box<dyn FnOnce() + Send>>>) {
+    let act = others.lock().unwrap().take();
+    act.into_iter().for_each(|act| act());
+}
 
 /// A map under a mutex.
 pub struct Plain {
@@ -64,13 +71,6 @@ impl Plain {
         let one_less = self.control.removals_to_refuse.fetch_update(SeqCst, SeqCst, |left| left.checked_sub(1));
         self.control.refuses_removals.load(SeqCst) || one_less.is_ok()
     }
-
-    fn let_others_act(&self) {
-        let act = self.control.meanwhile.lock().unwrap().take();
-        if let Some(act) = act {
-            act();
-        }
-    }
 }
 
 impl Index for Plain {
@@ -79,6 +79,7 @@ impl Index for Plain {
     }
 
     fn look(&self, keys: &[&[u8]], each: &mut dyn FnMut(usize, Seen<'_>)) {
+        act(&self.control.before_look);
         let (items, _) = &*self.items.lock().unwrap();
         for (position, key) in keys.iter().enumerate() {
             if self.control.refuses_looks.load(SeqCst) {
@@ -100,7 +101,7 @@ impl Index for Plain {
 
     fn put(&self, item: NewItem, over: Over) -> Result<Token, Refused> {
         if !matches!(over, Over::Any) {
-            self.let_others_act();
+            act(&self.control.meanwhile);
         }
         if self.control.refuses_puts.load(SeqCst) {
             return Err(Refused::Full);
@@ -120,7 +121,7 @@ impl Index for Plain {
     }
 
     fn remove(&self, hash: u64, token: Token, reason: Reason) -> Result<Token, Refused> {
-        self.let_others_act();
+        act(&self.control.meanwhile);
         if self.refuses_removal() {
             return Err(Refused::Held);
         }
