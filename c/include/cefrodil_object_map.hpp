@@ -101,7 +101,7 @@ class object_map : public inside::ObjectCalls<K, V, Hash, Equal> {
         return open(options, std::move(rules), std::move(hash));
     }
     [[nodiscard]] Status open(const MapOptions &options, Rules rules, Hash hash = Hash()) noexcept {
-        return this->open_as(options, [&] { return std::make_unique<Inner>(std::move(hash), options.passes, std::move(rules)); });
+        return this->open_as(options, [&] { return std::make_unique<Inner>(std::move(hash), std::move(rules)); });
     }
 
     // Calls `see(const V &)` with the key's value. ok, or absent, busy or closed: then it was not called. The value stays for so long, though another

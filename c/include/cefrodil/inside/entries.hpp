@@ -10,6 +10,7 @@
 #include <array>
 #include <cstddef>
 #include <cstdint>
+#include <mutex>
 #include <utility>
 #include <vector>
 
@@ -45,8 +46,9 @@ inline bool is_lost(Status status) noexcept {
 // So many keys are looked up by one call of the index.
 inline constexpr size_t few_keys = 32;
 
-template <size_t Words> class Entries : public Turns<Words> {
+template <size_t Words, class Beside = NothingBeside> class Entries : public Turns<Words, Beside> {
   public:
+    using typename Turns<Words, Beside>::OwnSlot;
     Generation generations{};
     AllFlights flights{};
 
@@ -70,12 +72,20 @@ template <size_t Words> class Entries : public Turns<Words> {
         }
     }
 
+    // Makes a call as `repeated` does, with the key's lock.
+    template <class Call> [[gnu::always_inline]] auto locked(uint64_t key, Call made) noexcept {
+        return this->repeated([this, key, made](OwnSlot &slot) __attribute__((always_inline)) {
+            const std::unique_lock<KeyLock> guard(flights.lock_of(key), std::try_to_lock);
+            return guard ? made(slot) : refusal<decltype(made(slot))>(Status::held);
+        });
+    }
+
   protected:
     // Looks a few keys up.
     void get_few(const Identity *keys, size_t count, std::array<uint64_t, Words> *found, cefrodil_answer *answers) noexcept {
         std::array<uint64_t, few_keys> indices;
         std::transform(keys, keys + count, indices.begin(), [](const Identity &key) { return key.index; });
-        this->call([&](Slot<Words> &slot) {
+        this->call([&](OwnSlot &slot) {
             // It is ok: an open handle has an answer for each key.
             [[maybe_unused]] const cefrodil_status status =
                 cefrodil_get_many_or_none(slot.handle.raw(), indices.data(), count, found->data(), Words * count, answers, count);
@@ -85,7 +95,7 @@ template <size_t Words> class Entries : public Turns<Words> {
     // entries others may be first.
     template <class Call> Status each_listed(Call call) {
         std::vector<uint64_t> list;
-        Status status = this->repeated([&](Slot<Words> &slot) { return slot.handle.try_entries(list); });
+        Status status = this->repeated([&](OwnSlot &slot) { return slot.handle.try_entries(list); });
         for (size_t at = 0; at < list.size() && status == Status::ok; at += 1 + Words) {
             std::array<uint64_t, Words> listed;
             std::copy_n(&list[at + 1], Words, listed.begin());

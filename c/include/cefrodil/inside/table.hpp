@@ -152,9 +152,12 @@ class Table : public Entries<Packing<V, Times::moments>::words>, private Packing
     // Puts whatever is there. The generation is read with the key's lock, so what gives way is of no newer one.
     Stored put(const Identity &key, const V &value, const Life &life = {}) noexcept {
         const Ends ends = Times::ends(life);
-        return this->locked(key.index, [this, key, ends, &value](Slot<words> &slot) {
+        const bool has_evicted = this->is_bounded() && make_room_for(key.index);
+        Stored put = this->locked(key.index, [this, key, ends, &value](Slot<words> &slot) {
             return slot.put(key.index, pack_in(generations.now(), key, ends, value));
         });
+        put.evicted = put.evicted || has_evicted;
+        return put;
     }
     // Puts if the key is absent. An entry of an older generation gives way, and so does another key's entry under the same number.
     Stored put_if_absent(const Identity &key, const V &value, const Life &life = {}) noexcept {
@@ -233,7 +236,18 @@ class Table : public Entries<Packing<V, Times::moments>::words>, private Packing
         return each_listed([this](uint64_t index, const Words &listed) { return has_ended(listed) ? take_ended(index) : Status::ok; });
     }
 
+    // Changes the bound on the number of entries, and evicts what is too much.
+    Status set_capacity(uint64_t most) noexcept {
+        return this->bound_keys(most, [this](uint64_t near) { return evict(near); });
+    }
+
   private:
+    Status evict(uint64_t near) noexcept {
+        return this->call([near](Slot<words> &slot) { return slot.evict(near).status; });
+    }
+    [[gnu::cold]] [[gnu::noinline]] bool make_room_for(uint64_t index) noexcept {
+        return !this->has(index) && this->make_room(index, [this](uint64_t near) { return evict(near); });
+    }
     // The key as its entries of the present generation have it.
     Identity now(const Identity &key) const noexcept { return in_generation(key, generations.now()); }
     bool is_there(const Identity &known, const Words &packed) const noexcept {
@@ -294,9 +308,11 @@ class Table : public Entries<Packing<V, Times::moments>::words>, private Packing
             const bool goes_on = generation == generations.now();
             return goes_on ? slot.put_if_absent(key.index, pack_in(generation, key, ends, value)) : refusal<Stored>(Status::stale);
         };
+        const bool has_evicted = this->is_bounded() && make_room_for(key.index);
         for (uint32_t repeat = 0;; repeat++) {
-            const Stored put = this->locked(key.index, make);
+            Stored put = this->locked(key.index, make);
             if (put.status != Status::present) {
+                put.evicted = put.evicted || has_evicted;
                 return put;
             }
             const uint64_t generation = begun();
