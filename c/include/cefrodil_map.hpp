@@ -51,6 +51,7 @@
 #define CEFRODIL_MAP_HPP
 
 #include "cefrodil.hpp"
+#include "cefrodil/inside/computed.hpp"
 #include "cefrodil/inside/forks.hpp"
 #include "cefrodil/inside/hash.hpp"
 #include "cefrodil/inside/table.hpp"
@@ -75,29 +76,10 @@ struct MapOptions {
     std::chrono::nanoseconds most_wait = forever; // for so long a call waits at most for functions that others have called: see `find_or_compute`
 };
 
-// The answers of lookups and updates are `Found`, in cefrodil/inside/table.hpp. Those of puts are `Stored`, in cefrodil/inside/slot.hpp.
-
-// The answer of find_or_compute. `value` is a V. If the function returns an optional, so is `value`: it is empty if the function declined. If the status
-// is not ok, it says why the value was not put.
-template <class V> struct Computed {
-    Status status;
-    V value;
-    bool computed; // by this call
-};
+// The answers of lookups and updates are `Found`, in cefrodil/inside/table.hpp. Those of puts are `Stored`, in cefrodil/inside/slot.hpp, and those of
+// find_or_compute are `Computed`, in cefrodil/inside/computed.hpp.
 
 namespace inside {
-
-// Whether a function may decline to make a V of this, and how it returns one.
-template <class V, class Function, class... Given>
-inline constexpr bool may_decline = std::is_same_v<std::invoke_result_t<Function &, Given...>, std::optional<V>>;
-template <class V, class Function, class... Given> using Made = std::conditional_t<may_decline<V, Function, Given...>, std::optional<V>, V>;
-template <class Function, class V> Computed<Made<V, Function>> made_by(Computed<std::optional<V>> &&made) {
-    if constexpr (may_decline<V, Function>) {
-        return std::move(made);
-    } else {
-        return {made.status, std::move(*made.value), made.computed};
-    }
-}
 
 // What maps of both kinds have. `Inner`: what an open one owns.
 template <class Inner> class AnyMap {
@@ -133,6 +115,8 @@ template <class Inner> class AnyMap {
     // `meter().counts().hit_rate()` is exact while no call runs. What has expired is a miss, and so is another key's entry. A call of find_or_compute
     // that waits for another one's value is a miss, too. The other counts are of calls of the index: of those, a call of the map may make several.
     Meter meter() const noexcept { return inner_ ? inner_->entries.meter() : Meter(nullptr); }
+    // Which part of the lookups of about the last minute found their key, as `counts` says, or 0.
+    double hit_rate_of_last_minute() const noexcept { return meter().counts().hit_rate_of_last_minute; }
     // What `meter` has, with the size, the capacity and the weight of the map.
     Counts counts() const noexcept {
         Counts all = meter().counts();
@@ -295,7 +279,7 @@ class map : public inside::AnyMap<inside::Opened<K, Hash, inside::Table<V, Times
             if (inner_->entries.seek(known, found) == Status::ok) {
                 break;
             }
-            const std::optional<V> value = function();
+            const std::optional<V> value = inner_->entries.template loaded<inside::may_decline<V, Function>>(function);
             const auto put = [&] { return inner_->entries.put_if_absent_in(generation, known, *value).status; };
             return inside::made_by<Function>(Computed<std::optional<V>>{value ? flight.land(put) : Status::declined, value, true});
         }

@@ -230,12 +230,12 @@ class object_map : public inside::ObjectCalls<K, V, Hash, Equal> {
         const auto again = [&] { return this->seek(key, [](auto &object) { return std::optional<V>(object.value); }); };
         return inside::made_by<Function>(this->template computed<std::optional<V>>(key, again, [&](Own &object, uint64_t begun, const auto &land) {
             if constexpr (inside::may_decline<V, Function>) {
-                std::optional<V> value = function();
+                std::optional<V> value = inner_->entries.template loaded<true>(function);
                 object = value ? this->made(key, begun, [&]() -> const V & { return *value; }) : Own();
                 const Status status = value ? land() : Status::declined;
                 return Answer{status, std::move(value), true};
             } else {
-                V value = function();
+                V value = inner_->entries.template loaded<false>(function);
                 object = this->made(key, begun, [&]() -> const V & { return value; });
                 const Status status = land();
                 return Answer{status, std::move(value), true};
@@ -255,13 +255,13 @@ class object_map : public inside::ObjectCalls<K, V, Hash, Equal> {
         const auto again = [&] { return this->seek(key, [](auto &object) { return inside::pin_of(object); }); };
         return this->template computed<pinned<V>>(key, again, [&](Own &object, uint64_t begun, const auto &land) {
             if constexpr (inside::may_decline<V, Function>) {
-                std::optional<V> value = function();
+                std::optional<V> value = inner_->entries.template loaded<true>(function);
                 if (!value) {
                     return Answer{Status::declined, nullptr, true};
                 }
                 object = this->made(key, begun, [&] { return std::move(*value); });
             } else {
-                object = this->made(key, begun, [&] { return function(); });
+                object = this->made(key, begun, [&] { return inner_->entries.template loaded<false>(function); });
             }
             pinned<V> pin = object ? inside::pin_of(*object) : nullptr;
             const bool is_computed = bool(pin);

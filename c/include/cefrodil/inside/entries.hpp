@@ -8,8 +8,10 @@
 #include "turns.hpp"
 #include <algorithm>
 #include <array>
+#include <chrono>
 #include <cstddef>
 #include <cstdint>
+#include <exception>
 #include <mutex>
 #include <utility>
 #include <vector>
@@ -58,7 +60,19 @@ template <size_t Words, class Beside = NothingBeside> class Entries : public Tur
     Status invalidate_all() noexcept {
         generations.begin_next();
         flights.outdate_all();
+        note(std::chrono::steady_clock::now());
         return Status::ok;
+    }
+    // What the function returns. It is counted, with its time. It has failed if it throws or, where it may decline, returns none.
+    template <bool Declines, class Function> auto loaded(Function &function) -> decltype(function()) {
+        Load load(*this);
+        if constexpr (Declines) {
+            auto made = function();
+            load.has_failed = !made;
+            return made;
+        } else {
+            return function();
+        }
     }
 
     // Takes by `take` what `find` finds, by the moment of its put, and finds again if others were first. Unless `find` is ok, its status is the answer.
@@ -81,6 +95,11 @@ template <size_t Words, class Beside = NothingBeside> class Entries : public Tur
     }
 
   protected:
+    // The status of the removal of an entry that had ended. It is counted.
+    Status ended_by(Status taken) noexcept {
+        this->count(this->own_slot(), ended, taken == Status::ok ? 1 : 0);
+        return taken;
+    }
     // Looks a few keys up.
     void get_few(const Identity *keys, size_t count, std::array<uint64_t, Words> *found, cefrodil_answer *answers) noexcept {
         std::array<uint64_t, few_keys> indices;
@@ -95,6 +114,7 @@ template <size_t Words, class Beside = NothingBeside> class Entries : public Tur
     // entries others may be first.
     template <class Call> Status each_listed(Call call) {
         std::vector<uint64_t> list;
+        note(std::chrono::steady_clock::now());
         Status status = this->repeated([&](OwnSlot &slot) { return slot.handle.try_entries(list); });
         for (size_t at = 0; at < list.size() && status == Status::ok; at += 1 + Words) {
             std::array<uint64_t, Words> listed;
@@ -114,6 +134,35 @@ template <size_t Words, class Beside = NothingBeside> class Entries : public Tur
             return status == Status::changed ? Status::held : status;
         });
         return erased;
+    }
+
+  private:
+    using Time = std::chrono::steady_clock::time_point;
+
+    // One run of a function that computes a value.
+    struct Load {
+        explicit Load(Entries &those) noexcept : entries(those) {}
+        Load(const Load &) = delete;
+        Load &operator=(const Load &) = delete;
+        ~Load() {
+            const Time now = std::chrono::steady_clock::now();
+            OwnSlot *const slot = entries.own_slot();
+            entries.count(slot, loads);
+            entries.count(slot, load_failures, has_failed || std::uncaught_exceptions() > exceptions ? 1 : 0);
+            entries.count(slot, load_nanoseconds, static_cast<uint64_t>(std::chrono::nanoseconds(now - begun).count()));
+            entries.note(now);
+        }
+
+        Entries &entries;
+        bool has_failed = false;
+        const int exceptions = std::uncaught_exceptions();
+        const Time begun = std::chrono::steady_clock::now();
+    };
+    // For the hit rate of the last minute.
+    void note(Time now) noexcept {
+        if (this->lines()) {
+            this->lines()->note(now);
+        }
     }
 };
 

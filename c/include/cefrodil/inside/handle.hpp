@@ -4,6 +4,7 @@
 
 #include "../../cefrodil.h"
 #include "counts.hpp"
+#include "prometheus.hpp"
 #include <array>
 #include <cstddef>
 #include <cstdint>

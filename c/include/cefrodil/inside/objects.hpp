@@ -196,7 +196,7 @@ template <class K, class V> class Objects : public Entries<1, Epochs>, public Ob
         return each_listed([this](uint64_t index, const auto &) {
             const Seen seen = Pinned(*this).peek(index, generations.now());
             Change change(*this);
-            return seen.status == Status::absent && seen.since != 0 ? take(index, seen.since, change) : seen.status;
+            return seen.status == Status::absent && seen.since != 0 ? ended_by(take(index, seen.since, change)) : seen.status;
         });
     }
     size_t free_now() noexcept { return free(beside().free_now()); }
@@ -221,7 +221,7 @@ template <class K, class V> class Objects : public Entries<1, Epochs>, public Ob
             return Status::too_deep;
         }
         Change change(*this);
-        return bound_keys(most, [&](uint64_t near) { return evict(near, change); });
+        return bound_keys(most, [&](uint64_t near) { return evict(near, by_capacity, change); });
     }
 
   private:
@@ -274,7 +274,7 @@ template <class K, class V> class Objects : public Entries<1, Epochs>, public Ob
     }
     template <class IsNew> [[gnu::cold]] [[gnu::noinline]] void make_room_for(uint64_t index, Change &change, const IsNew &is_new) noexcept {
         if (is_new()) {
-            make_room(index, [&](uint64_t near) { return evict(near, change); });
+            make_room(index, [&](uint64_t near) { return evict(near, by_capacity, change); });
         }
     }
     // Others leave for a new key before it is put, so that it is not itself what gives way.
@@ -300,7 +300,7 @@ template <class K, class V> class Objects : public Entries<1, Epochs>, public Ob
     // so many tries: then a later put goes on.
     void shrink(Change &change) noexcept {
         for (uint32_t looked = 0, held = 0; weights_.is_over() && looked <= shards() && held <= tries();) {
-            switch (evict(looked == 0 ? weights_.fullest() : weights_.next(), change)) {
+            switch (evict(looked == 0 ? weights_.fullest() : weights_.next(), by_weight, change)) {
             case Status::ok: looked = 0; break;
             case Status::absent: looked++; break;
             default: wait_before(held++);
@@ -308,8 +308,8 @@ template <class K, class V> class Objects : public Entries<1, Epochs>, public Ob
         }
     }
     // Evicts an object of the shard that has this key.
-    Status evict(uint64_t near, Change &change) noexcept {
-        const Swapped<1> taken = call([near](OwnSlot &slot) { return slot.evict(near); });
+    Status evict(uint64_t near, Counted cause, Change &change) noexcept {
+        const Swapped<1> taken = call([near, cause](OwnSlot &slot) { return slot.evict(near, cause); });
         if (taken.old) {
             static_cast<void>(out(near, *taken.old, change));
             change.evicted = true;

@@ -58,10 +58,13 @@ template <size_t Words, class Beside = NothingBeside> struct alignas(128) Slot {
     }
     Status remove(uint64_t key) noexcept { return removed(handle.try_remove(key).status); }
     Status take_if(uint64_t key, uint64_t since) noexcept { return removed(handle.try_take_if(key, since).status); }
-    // Evicts a key of this one's shard. It is counted.
-    Swapped<Words> evict(uint64_t near) noexcept {
+    // Evicts a key of this one's shard. It is counted, and why.
+    Swapped<Words> evict(uint64_t near, Counted why) noexcept {
         const Swapped<Words> tried = handle.try_evict(near);
-        removed(tried.status) == Status::ok ? count(evictions, 1) : void();
+        if (removed(tried.status) == Status::ok) {
+            count(evictions, 1);
+            count(why, 1);
+        }
         return tried;
     }
 

@@ -243,7 +243,7 @@ class Table : public Entries<Packing<V, Times::moments>::words>, private Packing
 
   private:
     Status evict(uint64_t near) noexcept {
-        return this->call([near](Slot<words> &slot) { return slot.evict(near).status; });
+        return this->call([near](Slot<words> &slot) { return slot.evict(near, by_capacity).status; });
     }
     [[gnu::cold]] [[gnu::noinline]] bool make_room_for(uint64_t index) noexcept {
         return !this->has(index) && this->make_room(index, [this](uint64_t near) { return evict(near); });
@@ -296,7 +296,7 @@ class Table : public Entries<Packing<V, Times::moments>::words>, private Packing
     Status take_ended(uint64_t index) noexcept {
         Words packed;
         const Seen seen = this->get(this->own_slot(), index, this->tries(), packed);
-        return seen.status == Status::ok && has_ended(packed) ? take_if(index, seen.since) : seen.status;
+        return seen.status == Status::ok && has_ended(packed) ? this->ended_by(take_if(index, seen.since)) : seen.status;
     }
     Words pack_in(uint64_t generation, const Identity &key, const Ends &ends, const V &value) const noexcept {
         return pack(in_generation(key, generation), Times::in_generation(ends, generation), value);
