@@ -24,10 +24,14 @@ ALL = tuple(SHOWN)
 # Those of the bench of maps: the language of the program, and the contestant's name there.
 MAPS = {'rust_cefrodil': '`cefrodil-map`', 'rust_dashmap': 'dashmap', 'rust_locked': SHOWN['locked'], 'rust_lru': SHOWN['lru'],
         'cpp_cefrodil': '`cefrodil::map`', 'cpp_libcuckoo': 'libcuckoo', 'cpp_tbb': 'TBB'}
+# Those of the bench of both kinds of maps.
+KINDS = {'cpp_map': '`map`', 'cpp_objects': '`object_map`', 'rust_map': '`Map`', 'rust_objects': '`ObjectMap`', 'rust_lru': SHOWN['lru']}
+# From C to 64 shards, in the bench of large maps.
+FROM_C = {'c_shards': SHOWN['door']}
 LARGE_MAPS = ('rust_cefrodil', 'rust_dashmap', 'cpp_cefrodil', 'cpp_libcuckoo', 'cpp_tbb')
 # Those of the bench of full caches: the policies, and the LRU cache of the crate lru.
 POLICIES = {'scan_resistant': 'scan-resistant', 'clock': 'CLOCK', 'full_lru': '`Mutex<LruCache>`'}
-SHOWN.update(MAPS | POLICIES)
+SHOWN.update(MAPS | POLICIES | KINDS | FROM_C)
 WRITERS = ('door', 'cefrodil', 'libcuckoo', 'tbb', 'dashmap', 'locked', 'lru')
 # From C all threads write to 64 shards, each until it has the turn.
 IN_SHARDS = (('door', 'door_shards'),)
@@ -51,7 +55,8 @@ PROGRAMS = {'cefrodil': ('mcbench',), 'many': ('mcbench', '--many', str(MANY)), 
             'shards64': ('mcbench', '--shards', '64'), 'door_many': ('door', '--many', str(MANY)), 'twin': ('contest', 'twin'),
             'scan_resistant': ('door_shards', '--shards', '16'), 'clock': ('door_shards', '--shards', '16', '--clock', '1'), 'full_lru': ('full_lru',),
             'dashmap': ('contest', 'dashmap'), 'locked': ('contest', 'locked'), 'lru': ('contest', 'lru'),
-            **{name: ('maps_' + name.split('_')[0], name.split('_', 1)[1]) for name in MAPS}}
+            'c_shards': ('door_shards',), 'cpp_map': ('maps_cpp', 'cefrodil'), 'rust_map': ('maps_rust', 'cefrodil'),
+            **{name: ('maps_' + name.split('_')[0], name.split('_', 1)[1]) for name in (*MAPS, 'cpp_objects', 'rust_objects')}}
 # The figures: their units, and how they are shown.
 UNITS = {'ns_lookup': ', ns', 'lookups_s': ', M/s', 'writes_s': ', M/s', 'load_factor': '', 'bytes_key': '', 'ns_call': ', ns',
          'calls_s': ', M/s', 'hit_ratio': '', 'busy_percent': ', %', 'ns_each': ', ns', 'empty_ns': ', ns', **dict.fromkeys(PERCENTILES, ', ns')}
@@ -168,13 +173,21 @@ def maps():
     return rows + full
 
 
+def kinds():
+    """Maps of values and maps of objects, beside an LRU cache behind a mutex."""
+    rows = [calls('hit, 100,000 keys', options('hit', 100_000), n) for n in (1, 4)]
+    rows += [calls('full cache of 100,000 keys', '--workload cache --keys 200000 --capacity 100000', n) for n in (1, 4)]
+    rows.append(rows[-1]._replace(label='the same: hit ratio', figure='hit_ratio'))
+    return [row._replace(names=tuple(KINDS)) for row in rows]
+
+
 def millions():
     """Hits in maps of so many keys that most are in no cache of the processor."""
     rows = []
     for keys in (1_000_000, 4_000_000, 16_000_000):
-        rows += [calls(f'{keys:,} keys', options('hit', keys), n)._replace(names=LARGE_MAPS) for n in (1, 4)]
+        rows += [calls(f'{keys:,} keys', options('hit', keys), n)._replace(names=(*FROM_C, *LARGE_MAPS)) for n in (1, 4)]
         many = options('hit', keys, f' --many {MANY}')
-        rows += [calls(f'{keys:,} keys, by {MANY}', many, n)._replace(names=('rust_cefrodil', 'cpp_cefrodil')) for n in (1, 4)]
+        rows += [calls(f'{keys:,} keys, by {MANY}', many, n)._replace(names=(*FROM_C, 'rust_cefrodil', 'cpp_cefrodil')) for n in (1, 4)]
     return rows
 
 
@@ -232,7 +245,7 @@ def sizes():
 
 
 BENCHES = {'peers': peers(), 'large': large(False), 'huge': large(True), 'turns': turns(), 'threads': threads(), 'sizes': sizes(),
-           'maps': maps(), 'millions': millions(), 'full': full(), 'latencies': latencies(), 'puts': puts(), 'used': used(), 'shares': shares()}
+           'maps': maps(), 'kinds': kinds(), 'millions': millions(), 'full': full(), 'latencies': latencies(), 'puts': puts(), 'used': used(), 'shares': shares()}
 
 
 def alone(run):
@@ -298,7 +311,9 @@ def values(told, row, name):
         return [100 * each['busy'] / each['lookups'] for each in rounds]
     if row.figure == 'ns_each':
         return [each['ns_lookup'] or 1e9 / each['writes_s'] for each in rounds]
-    return [each[row.figure] for each in rounds]
+    # Programs that are no maps tell their lookups by other names.
+    figure = row.figure if all(row.figure in each for each in rounds) else {'ns_call': 'ns_lookup', 'calls_s': 'lookups_s'}[row.figure]
+    return [each[figure] for each in rounds]
 
 
 def quartiles(numbers):
@@ -316,7 +331,7 @@ def cell(told, row, name):
 
 
 def table(bench, told):
-    names = {'turns': WRITERS, 'maps': tuple(MAPS), 'millions': LARGE_MAPS, 'full': tuple(POLICIES), 'latencies': TIMED, 'shares': ('cefrodil',)}.get(bench, ALL)
+    names = {'turns': WRITERS, 'maps': tuple(MAPS), 'millions': (*FROM_C, *LARGE_MAPS), 'kinds': tuple(KINDS), 'full': tuple(POLICIES), 'latencies': TIMED, 'shares': ('cefrodil',)}.get(bench, ALL)
     lines = ['| | ' + ' | '.join(SHOWN[name] for name in names) + ' |', '|---' * (len(names) + 1) + '|']
     for row in filter(lambda row: is_measured(told, row), BENCHES[bench]):
         lines.append(f'| {row.title()} | ' + ' | '.join(cell(told, row, name) for name in names) + ' |')

@@ -5,6 +5,8 @@
 # `cefrodil::map` takes two hashes. Keys are numbers, or strings of 16 letters. Each lookup's value is compared with the one that was put for its key.
 # bench/contests.py says how the contestants run and what a cell is.
 #
+# Among millions of keys a cache from C, with 64 shards, stands beside them. It hashes nothing.
+#
 # A full cache holds half of the keys that are drawn. Each key that is missed is put. The table has the share of hits, since cefrodil-map and
 # cefrodil::map hold some more keys than they are asked to.
 #
@@ -24,8 +26,10 @@ export CEFRODIL_LIB
 [ -f "$CEFRODIL_LIB/libcefrodil.a" ] || fail "there is no $CEFRODIL_LIB/libcefrodil.a; c/build builds it"
 crates=$(dpkg -L librust-dashmap-dev 2> /dev/null | grep -m1 '/dashmap-[0-9][^/]*/Cargo.toml$') || fail "there is no crate dashmap; see --help"
 
-# Both are built for the processors for which the toolchain builds mcbench.
-g++ -O3 -march=x86-64-v2 -std=c++17 -pthread -I"$top/c/include" "$sources/maps.cpp" "$CEFRODIL_LIB/libcefrodil.a" -ltbb -o "$built/maps_cpp" >&2
+# All are built for the processors for which the toolchain builds mcbench.
+cxx() { g++ -O3 -march=x86-64-v2 -std=c++17 -pthread -I"$top/c/include" "$@" >&2; }
+cxx "$sources/maps.cpp" "$CEFRODIL_LIB/libcefrodil.a" -ltbb -o "$built/maps_cpp"
+cxx "$sources/door_shards.cpp" "$CEFRODIL_LIB/libcefrodil.a" -o "$built/door_shards"
 cp -r "$sources/twin" "$sources/maps" "$built"
 mkdir -p "$built/maps/.cargo"
 printf '[source.crates-io]\nreplace-with = "debian"\n[source.debian]\ndirectory = "%s"\n[patch.crates-io]\ncefrodil-map = { path = "%s" }\n' \
@@ -34,7 +38,7 @@ printf '[source.crates-io]\nreplace-with = "debian"\n[source.debian]\ndirectory 
 cp "$built/maps/target/release/maps" "$built/maps_rust"
 
 results=${RESULTS:-$built}
-"$top/bench/contests.py" run maps,millions "$built" "$results/maps.jsonl"
-for bench in maps millions; do
+"$top/bench/contests.py" run maps,kinds,millions "$built" "$results/maps.jsonl"
+for bench in maps kinds millions; do
     "$top/bench/contests.py" table $bench "$results/maps.jsonl"
 done

@@ -5,6 +5,7 @@ usage: bench/plots.py FILE FOLDER     FILE: the lines of JSON of bench/contests.
 """
 import math
 import os
+import re
 import sys
 from typing import NamedTuple
 
@@ -15,7 +16,7 @@ WIDTH, HEIGHT, LEFT, RIGHT, TOP, BOTTOM = 640, 360, 58, 132, 34, 44
 DASHES = ('', '6 3', '2 3', '8 3 2 3', '12 4', '1 4', '4 2', '10 2 2 2 2 2')
 MARKS = ('circle', 'square', 'diamond', 'up', 'down', 'cross', 'plus', 'bar', 'ring', 'frame')
 # What the figures of a plot are divided by.
-SHOWN_IN = {'lookups_s': 1e6, 'writes_s': 1e6}
+SHOWN_IN = {'lookups_s': 1e6, 'writes_s': 1e6, 'calls_s': 1e6}
 STYLE = """\
 <style>
 svg{background:#fff;color:#111}
@@ -145,7 +146,7 @@ def draw(plot, lines):
     for number, (name, line) in enumerate(lines.items()):
         places = [(across.at(x), up.at(y)) for x, y in line]
         dashes = DASHES[number % len(DASHES)]
-        css = 'line ours' if name in ('door', 'cefrodil', 'Cefrodil') else 'line'
+        css = 'line ours' if 'cefrodil' in label_of(name).lower() else 'line'
         made.append(f'<path class="{css}" stroke-dasharray="{dashes or "none"}" d="M{"L".join(f"{x} {y}" for x, y in places)}"/>')
         made += [mark(MARKS[number % len(MARKS)], x, y) for x, y in places]
         x, label = places[-1][0], label_of(name)
@@ -214,6 +215,14 @@ def used():
     return Plot('used', 'Calls in a table of 65,536 slots, by one thread', 'slots in use, %', 'ns per call', 'ns_each', groups=groups)
 
 
+def map_sizes():
+    """Hits in maps by four threads, over the number of keys."""
+    rows = [row for bench in ('maps', 'millions') for row in contests.BENCHES[bench]
+            if re.fullmatch(r'(hit, )?[\d,]+ keys, 4 threads', row.label)]
+    across = tuple((int(re.search(r'[\d,]+ keys', row.label)[0][:-5].replace(',', '')), row._replace(names=contests.LARGE_MAPS)) for row in rows)
+    return Plot('map_sizes', 'Hits in a map of a program\'s own types, by four threads', 'keys', 'M lookups/s', 'calls_s', across, True)
+
+
 def plots():
     benches = contests.BENCHES
     return (
@@ -223,7 +232,7 @@ def plots():
         Plot('writers', 'Writes by threads that write one call in ten (100,000 keys)', 'threads', 'M writes/s', 'writes_s',
              tuple(enumerate(benches['threads'][7:], 1))),
         Plot('sizes', 'A hit, by one thread', 'keys', 'ns', 'ns_lookup', tuple(zip(contests.SIZES, benches['sizes'])), True),
-        busy(), latency(), puts(), used())
+        map_sizes(), busy(), latency(), puts(), used())
 
 
 def draw_all(path, folder):

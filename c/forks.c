@@ -103,6 +103,8 @@ OF_PROCESS(take_if, (cefrodil_handle *handle, uint64_t key, uint64_t since, uint
            (handle, key, since, old, old_words, reply))
 OF_PROCESS(evict, (cefrodil_handle *handle, uint64_t near, uint64_t *old, size_t old_words, cefrodil_reply *reply),
            (handle, near, old, old_words, reply))
+OF_PROCESS(entry_at, (cefrodil_handle *handle, uint64_t near, uint32_t item, uint64_t *value, size_t words, cefrodil_reply *reply),
+           (handle, near, item, value, words, reply))
 OF_PROCESS(hold, (cefrodil_handle *handle), (handle))
 OF_PROCESS(release, (cefrodil_handle *handle), (handle))
 OF_PROCESS(moment, (cefrodil_handle *handle, uint64_t *moment), (handle, moment))

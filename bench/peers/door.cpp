@@ -21,14 +21,6 @@ struct Door : Handles<READERS + 1> {
         return cefrodil_get(&mine, key, value.data(), value.size(), &reply) == CEFRODIL_OK;
     }
 
-    size_t get_many(const uint64_t *keys, Value *values, size_t many) {
-        cefrodil_answer answers[MOST];
-        if (cefrodil_get_many(&mine, keys, many, values[0].data(), 4 * many, answers, many) != CEFRODIL_OK) abort();
-        size_t hits = 0;
-        for (size_t n = 0; n < many; n++) hits += answers[n].status == CEFRODIL_OK;
-        return hits;
-    }
-
     bool put(uint64_t key, const Value &value) {
         cefrodil_reply reply;
         return cefrodil_put(&handles[READERS], key, value.data(), value.size(), &reply) == CEFRODIL_OK;

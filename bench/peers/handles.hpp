@@ -3,6 +3,7 @@
 #define HANDLES_HPP
 
 #include "cefrodil.h"
+#include "harness.hpp"
 #include <cstdlib>
 #include <mutex>
 
@@ -22,6 +23,14 @@ template <int COUNT> struct Handles {
         if (left == 0) abort();
         mine = handles[--left];
         handles[left] = CEFRODIL_EMPTY;
+    }
+
+    size_t get_many(const uint64_t *keys, Value *values, size_t many) {
+        cefrodil_answer answers[MOST];
+        if (cefrodil_get_many(&mine, keys, many, values[0].data(), 4 * many, answers, many) != CEFRODIL_OK) abort();
+        size_t hits = 0;
+        for (size_t n = 0; n < many; n++) hits += answers[n].status == CEFRODIL_OK;
+        return hits;
     }
 
     void tick() {}

@@ -1,7 +1,8 @@
-// Maps of a program's own types, side by side: the same work as in `maps/src/main.rs`. The contestants are cefrodil::map, libcuckoo and TBB. All of
+// Maps of a program's own types, side by side: the same work as in `maps/src/main.rs`. The contestants are cefrodil::map, cefrodil::object_map, libcuckoo and TBB. All of
 // them hash by the SipHash-1-3 of cefrodil/inside/hash.hpp, or all by two multiplications.
 #include "harness.hpp"
 #include "cefrodil_map.hpp"
+#include "cefrodil_object_map.hpp"
 #include <libcuckoo/cuckoohash_map.hh>
 #include <optional>
 #include <string_view>
@@ -55,6 +56,20 @@ template <class K, size_t N, class Hash> struct Cefrodil {
     }
     std::optional<Words<N>> get(typename Map::Key key) { return map.find(key); }
     void get_many(const K *keys, size_t count, std::optional<Words<N>> *values) { map.find_many(keys, count, values); }
+    bool put(typename Map::Key key, const Words<N> &value) { return map.insert_or_assign(key, value).status == cefrodil::Status::ok; }
+};
+
+// The same as objects on the heap, of which a lookup copies the value.
+template <class K, size_t N, class Hash> struct Objects {
+    typedef cefrodil::object_map<K, Words<N>, Hash> Map;
+    Map map;
+
+    explicit Objects(uint32_t keys) {
+        cefrodil::MapOptions options{};
+        options.entries = keys;
+        if (map.open(options) != cefrodil::Status::ok) abort();
+    }
+    std::optional<Words<N>> get(typename Map::Key key) { return map.find(key); }
     bool put(typename Map::Key key, const Words<N> &value) { return map.insert_or_assign(key, value).status == cefrodil::Status::ok; }
 };
 
@@ -202,6 +217,9 @@ template <class K, size_t N, class C> void run(const Options &options) {
 
 template <class K, size_t N, class Hash = cefrodil::SipHash<K>> void choose(const Options &options, const std::string &name) {
     if (name == "cefrodil") run<K, N, Cefrodil<K, N, Hash>>(options);
+    if constexpr (!std::is_same_v<Hash, Quick>) {
+        if (name == "objects") run<K, N, Objects<K, N, Hash>>(options);
+    }
     if (name == "libcuckoo") run<K, N, Cuckoo<K, N, Hash>>(options);
     if (name == "tbb") run<K, N, Tbb<K, N, Hash>>(options);
 }

@@ -327,6 +327,13 @@ CEFRODIL_CALL cefrodil_status cefrodil_take_if(cefrodil_handle *handle, uint64_t
 CEFRODIL_CALL cefrodil_status cefrodil_evict(cefrodil_handle *handle, uint64_t near, uint64_t *old, size_t old_words,
                                              cefrodil_reply *reply);
 
+/* Looks at the entry that lies at a place of the table: in item `item`, from 0, of the shard of the key `near`. It is no use of the entry's
+ * key. An entry stays in its item until its key is removed or evicted. So a program goes round all entries of a shard, a few at a time.
+ * OK: `evicted` is its key, which nothing has evicted, `value` its value, `since` the `at` of its last put. ABSENT: the item has no entry, or
+ * the shape has fewer items. HELD, CLOSED, WIDTH. Unless OK, `value` is unchanged. */
+CEFRODIL_CALL cefrodil_status cefrodil_entry_at(cefrodil_handle *handle, uint64_t near, uint32_t item, uint64_t *value, size_t words,
+                                                cefrodil_reply *reply);
+
 /* Takes the turn of every shard and holds them: nobody else writes until cefrodil_release or cefrodil_close. It takes no memory. Meanwhile
  * the writes of this handle are never HELD, its lookups never BUSY, and each list and number that it asks for is of one moment of all
  * shards. Other handles look up as before, and their writes are HELD.

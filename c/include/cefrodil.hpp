@@ -71,6 +71,9 @@ template <size_t Words> class Handle : public inside::Calls<Words> {
     // Evicts a key without a put: the one that would give way to a new key if the shard of `near` were full. absent: that shard has no key.
     [[nodiscard]] Swapped<Words> try_evict(uint64_t near = 0) noexcept { return this->evict(near); }
 
+    // Looks at the entry in this item, from 0, of the shard of `near`. It is no use of its key. absent: the item has none, or there are fewer items.
+    [[nodiscard]] Shown<Words> try_entry_at(uint64_t near, uint32_t item) noexcept { return this->entry_at(near, item); }
+
     // Makes a call by this handle again while it is held: at most `tries` times, at least once, without a pause. `call` takes the handle, and
     // returns what its call returned: `handle.within(1000, [](auto &handle) { return handle.try_take(7); })`. Not for try_put_many, whose answers
     // say what was held.
@@ -154,8 +157,8 @@ template <size_t Words> class Writing : private inside::Calls<Words> {
     using Calls::swap, Calls::swap_if, Calls::swap_if_absent, Calls::take;
     // Takes the entry whose put was at `since`, and no later one.
     using Calls::take_if;
-    // As Handle::try_evict.
-    using Calls::evict;
+    // As Handle::try_evict and Handle::try_entry_at.
+    using Calls::evict, Calls::entry_at;
     // Equivalent to put for each key in order.
     using Calls::put_many;
     // Looks the key up, but doesn't count as a use of it.

@@ -26,6 +26,7 @@
     row(take, WIDTH | TURN | LIMIT | REPLY, (handle, key, told.old, words, &told.reply)) \
     row(take_if, WIDTH | TURN | LIMIT | REPLY, (handle, key, since, told.old, words, &told.reply)) \
     row(evict, WIDTH | TURN | LIMIT | REPLY, (handle, key, told.old, words, &told.reply)) \
+    row(entry_at, WIDTH | TURN | REPLY, (handle, key, 0, told.value, words, &told.reply)) \
     row(hold, TURN, (handle)) \
     row(release, NOTHING, (handle)) \
     row(moment, TURN, (handle, &told.moment)) \

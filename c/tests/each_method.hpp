@@ -29,6 +29,7 @@ static std::vector<cefrodil::Handle<1>> handles;
     row(handle, try_take, (1)) \
     row(handle, try_take_if, (1, 1)) \
     row(handle, try_evict, (1)) \
+    row(handle, try_entry_at, (1, 0)) \
     row(handle, hold, (writing)) \
     row(handle, try_moment, (number)) \
     row(handle, try_len, (number)) \
@@ -47,6 +48,7 @@ static std::vector<cefrodil::Handle<1>> handles;
     row(writing, take, (1)) \
     row(writing, take_if, (1, 1)) \
     row(writing, evict, (1)) \
+    row(writing, entry_at, (1, 0)) \
     row(writing, moment, (number)) \
     row(writing, len, (number)) \
     row(writing, capacity, (number)) \

@@ -251,6 +251,19 @@ impl<const WORDS: usize> Handle<WORDS> {
         reply::turn(told, |told| Evict::of(old, told))
     }
 
+    /// Tries once for the turn of the shard of `near`, and with it calls [`Writing::entry_at`](crate::Writing::entry_at).
+    ///
+    /// # Errors
+    ///
+    /// [`Held`]: the try did not win.
+    pub fn try_entry_at(&mut self, near: u64, item: u32) -> Result<Option<Entry<WORDS>>, Held> {
+        let mut value = [0; WORDS];
+        match self.0.entry_at(near, item, &mut value) {
+            (raw::HELD, _) => Err(Held),
+            told => Ok(Entry::shown(value, told)),
+        }
+    }
+
     /// The number of keys in the cache. Each shard is counted in a turn of its own, so with several it adds up numbers of several moments.
     ///
     /// # Errors

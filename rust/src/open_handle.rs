@@ -223,6 +223,14 @@ impl OpenHandle {
         (status, reply)
     }
 
+    pub fn entry_at(&mut self, near: u64, item: u32, value: &mut [u64]) -> (u32, RawReply) {
+        let mut reply = RawReply::default();
+        let words = value.len();
+        let status = unsafe { raw::cefrodil_entry_at(&mut self.raw, near, item, value.as_mut_ptr(), words, &mut reply) };
+        self.counter.tried(status);
+        (status, reply)
+    }
+
     pub fn hold(&mut self) -> u32 {
         let status = unsafe { raw::cefrodil_hold(&mut self.raw) };
         self.counter.tried(status);

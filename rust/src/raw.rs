@@ -214,6 +214,14 @@ unsafe extern "C" {
         reply: *mut RawReply,
     ) -> u32;
     pub fn cefrodil_evict(handle: *mut RawHandle, near: u64, old: *mut u64, old_words: usize, reply: *mut RawReply) -> u32;
+    pub fn cefrodil_entry_at(
+        handle: *mut RawHandle,
+        near: u64,
+        item: u32,
+        value: *mut u64,
+        words: usize,
+        reply: *mut RawReply,
+    ) -> u32;
     pub fn cefrodil_hold(handle: *mut RawHandle) -> u32;
     pub fn cefrodil_release(handle: *mut RawHandle) -> u32;
     pub fn cefrodil_moment(handle: *mut RawHandle, moment: *mut u64) -> u32;

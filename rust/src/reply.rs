@@ -331,6 +331,17 @@ impl<const WORDS: usize> Evict<WORDS> {
     }
 }
 
+impl<const WORDS: usize> Entry<WORDS> {
+    /// The entry that lies at a place of the table.
+    pub(crate) fn shown(value: [u64; WORDS], (status, reply): Told) -> Option<Entry<WORDS>> {
+        match status {
+            raw::OK => Some(Entry { key: reply.evicted, value, since: reply.since }),
+            raw::ABSENT => None,
+            other => not_told(other),
+        }
+    }
+}
+
 /// A number that the handle knows.
 pub(crate) fn number((status, number): (u32, u64)) -> u64 {
     match status {

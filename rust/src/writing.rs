@@ -240,6 +240,30 @@ impl<const WORDS: usize> Writing<'_, WORDS> {
         Evict::of(old, told)
     }
 
+    /// The entry that lies at a place of the table: in this item, from 0, of the shard of the key `near`. It is no use of the entry's key. `None`
+    /// if the item has none, or a shard has fewer items. An entry stays in its item until its key is removed or evicted, so a program goes
+    /// round all entries of a shard, a few at a time.
+    ///
+    /// # Examples
+    ///
+    /// ```
+    /// use cefrodil::{Cache, Entry, Shape};
+    ///
+    /// let shape = Shape::for_items(100, 1)?;
+    /// let mut handles = Cache::<1>::open(&shape, 1, 1)?;
+    /// let mut writing = handles[0].hold()?;
+    /// writing.put(7, &[70])?;
+    /// let there: Vec<_> = (0..shape.items).filter_map(|item| writing.entry_at(0, item)).collect();
+    /// assert_eq!(there, [Entry { key: 7, value: [70], since: 1 }]);
+    /// # Ok::<(), Box<dyn std::error::Error>>(())
+    /// ```
+    #[must_use]
+    pub fn entry_at(&mut self, near: u64, item: u32) -> Option<Entry<WORDS>> {
+        let mut value = [0; WORDS];
+        let told = self.handle().entry_at(near, item, &mut value);
+        Entry::shown(value, told)
+    }
+
     /// Looks the key up. Never [`Reply::Busy`]. A hit marks the key as recently used.
     #[inline]
     #[must_use]

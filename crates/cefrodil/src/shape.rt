@@ -100,7 +100,7 @@ impl RawShape {
 /// The shape of each of `shards` shards, which have `items` items together. Its policy is not CLOCK.
 #[unsafe(no_mangle)]
 pub extern "C" fn cefrodil_shape_for_items(items: u32, shards: u32, shape: &mut RawShape) -> u32
-    ensures sized { result ≡ OK → (chosen : Shape) × (share : ℕ) × IsShapeOf shape.new chosen × HasShards shards × IsShare items shards share × IsShardShape share chosen }
+    ensures sized { result ≡ OK → (chosen : Shape) × (share : ℕ) × IsShapeOf shape.new chosen × HasShards shards × IsShare items shards share × IsShardShape shards share chosen }
     ensures policy { result ≡ OK → shape.new.policy ≡ SCAN_RESISTANT }
     ensures refused { result ≢ OK → (why : OpenShardsError) × (result ≡ shards_status why) × RefusesShare items shards why × (shape.new ≡ shape.old) }
 {

@@ -100,3 +100,19 @@ pub extern "C" fn cefrodil_take(
 {
     told_of_handle!(handle, reply, held => held.swap(key, Swap::Remove, &[], old, reply))
 }
+
+/// Shows the entry that lies in this item, in the shard of the key `near`. It is no use of the entry's key. Its value is written to `value`.
+#[tactic(auto, using(crate::proofs::Gives::gives_open, crate::proofs::Gives::gives_closed))]
+#[unsafe(no_mangle)]
+pub extern "C" fn cefrodil_entry_at(
+    handle: &mut RawHandle,
+    near: u64,
+    item: u32,
+    value: &mut [u64],
+    reply: &mut RawReply,
+) -> u32
+    ensures open { handle.new.live ≡ handle.old.live }
+    ensures told { SwapGives (kept handle.old) (kept handle.new) near (Swap.Show item) [] value.old value.new (record { status = result; reply = reply.new }) }
+{
+    told_of_handle!(handle, reply, held => held.swap(near, Swap::Show(item), &[], value, reply))
+}

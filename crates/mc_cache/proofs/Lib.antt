@@ -4,6 +4,7 @@ pub mod OrderedAnswers
 pub mod PlainCalls
 pub mod FailedCalls
 pub mod EntryCounts
+pub mod Shown
 pub mod StampedLists
 pub mod LoadedEntries
 pub mod HistoryLaws

@@ -57,6 +57,8 @@ use Rattle.mc_writer.specs.declared.entry.Entry.{Entry}
 use Rattle.mc_writer.specs.declared.entry.Evict.{Evict}
 use Rattle.mc_writer.specs.declared.entry.Evict.TheVariants.{Evicted, Empty}
 use Rattle.mc_writer.specs.declared.entry.Swapped.{Swapped}
+use Rattle.std.specs.declared.convert.Infallible.{Infallible}
+use Rattle.mc_cache.specs.Showing.{ShowMeans}
 use Rattle.mc_cache.specs.Stamped.{AreStampedEntriesOf}
 use Rattle.mc_cache.specs.Taking.{EvictMeans, Holds, SwapMeans, giving_way, put_of, swap_answer}
 use Rattle.mc_cache.specs.Plain.{Begins, HasAnswered, HasMet, PutIfAbsentMeans, PutIfMeans, PutMeans, RemovalMeans, TellsNow, history, moment_of, seen}
@@ -246,6 +248,11 @@ module _ (V : ℕ) (o cells : Opening) (self seat : WriterRecord) (table : cells
 
   pub stamped_now : (es : List (Entry V)) → AreStampedEntriesOf V (state_of V cells.layout.shape seat.acts).history es → AreStampedEntriesOf V (history V self) es
   stamped_now es e = subst (λ (h : List (Change V)). AreStampedEntriesOf V h es) (sym history_before) e
+
+  -- a call that shows an entry changes nothing
+  pub shown_now : (after : WriterRecord) (told : Result (Option (Entry V)) Infallible) → after ≡ seat → ShowMeans V (state_of V cells.layout.shape seat.acts).history (state_of V cells.layout.shape seat.acts).history told → ShowMeans V (history V self) (history V after) told
+  shown_now after told kept means =
+      subst (λ (p : List (Change V) × List (Change V)). ShowMeans V p.0 p.1 told) (λ i. (sym history_before i, sym (ap (history V) kept ∙ history_is V cells seat seat_of) i)) means
 
 -- the moment that a writer keeps is the length of the history
 pub moment_tells : (V : ℕ) (books : Books) (self seat : WriterRecord) (n : ℕ) → seat ≡ self → IsRested V books seat → KeepsMoment V seat n → n ≡ length (history V self)

@@ -5,7 +5,6 @@ use Rattle.mc_words.specs.declared.shape.Shape.{Shape}
 use Rattle.mc_shared.specs.Records.{Opening, ReaderRecord, WriterRecord, reader_record}
 use Rattle.mc_cache.specs.Inside.Turned.{HasBegunWith, HasEnded, turned}
 use Rattle.mc_cache.specs.Orders.{HasAnsweredInOrder}
-use Rattle.mc_cache.specs.Plain.{seen}
 use Rattle.mc_cache.specs.Turns.{HasHadTurn, HasTriedTo}
 use Rattle.mc_cache.specs.declared.desk.DeskError.{DeskError}
 

@@ -1,5 +1,6 @@
 -- The contracts of the calls that change the map, one record a call: by the writer, in a turn, and from C.
-use Rattle.std.specs.Prelude.{ℕ, List}
+use Rattle.std.specs.Prelude.{ℕ, List, Option}
+use Rattle.std.specs.declared.convert.Infallible.{Infallible}
 use Rattle.mc_plan.specs.WholeCalls.{PutCall, PutIfCall, RemoveCall}
 use Rattle.mc_plan.specs.declared.answer.AbsentError.{AbsentError}
 use Rattle.mc_plan.specs.declared.answer.Answer.TheVariants as answer
@@ -11,12 +12,14 @@ use Rattle.mc_plan.specs.declared.answer.Remove.{Remove}
 use Rattle.mc_plan.specs.declared.answer.Spent.{Spent}
 use Rattle.mc_writer.specs.Evictions.{HasTriedToEvict}
 use Rattle.mc_writer.specs.WriterCalls.{HasCalled, HasPutIfAbsent}
+use Rattle.mc_writer.specs.declared.entry.Entry.{Entry}
 use Rattle.mc_writer.specs.declared.entry.Evict.{Evict}
 use Rattle.mc_writer.specs.declared.entry.Replaced.{Replaced}
 use Rattle.mc_writer.specs.declared.entry.Swapped.{Swapped}
 use Rattle.mc_writer.specs.declared.entry.Take.{Take}
 use Rattle.mc_cache.specs.Failing.{EvictFails, PutFails, PutIfAbsentFails, PutIfFails, RemovalFails, SwapFails, SwapIfFails, TakeFails, TakeIfFails}
 use Rattle.mc_cache.specs.Plain.{PutIfAbsentMeans, PutIfMeans, PutMeans, RemovalMeans}
+use Rattle.mc_cache.specs.Showing.{HasShown, ShowMeans}
 use Rattle.mc_cache.specs.Taking.{EvictMeans, HasTakenIf, SwapIfAbsentMeans, SwapIfMeans, SwapMeans, TakeIfMeans, TakeMeans, absent_of, swap_answer, swap_if_answer, take_answer}
 use Rattle.mc_cache.specs.TurnCalls.{Contract}
 
@@ -88,4 +91,12 @@ evict_contract V = record {
   called = λ sh told w w'. HasTriedToEvict V sh w w' told;
   means = λ h h' told. EvictMeans V h h' told;
   fails = λ sh h made told. EvictFails sh h made told;
+}
+
+-- it never fails
+abbrev pub show_contract : (V : ℕ) → ℕ → Contract V (Option (Entry V)) Infallible
+show_contract V i = record {
+  called = λ sh told w w'. HasShown V sh i w w' told;
+  means = λ h h' told. ShowMeans V h h' told;
+  fails = λ sh h made told. Unit {0};
 }

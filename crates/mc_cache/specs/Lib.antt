@@ -6,6 +6,7 @@ pub mod Orders
 pub mod Plain
 pub mod PlainLaws
 pub mod Resting
+pub mod Showing
 pub mod Stamped
 pub mod Taking
 pub mod TurnCalls

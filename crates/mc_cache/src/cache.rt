@@ -1,7 +1,7 @@
 //! The words of a cache.
 ghost use Rattle.std.specs.Prelude.{◌≡◌};
 
-use mc_reader::{guess_named, touch_ahead, touch_guessed, touch_slots};
+use mc_reader::{Aim, aim_of, guess_named, touch_ahead, touch_guessed, touch_slots};
 use mc_shared::Cells;
 use std::marker::Model;
 
@@ -22,6 +22,7 @@ impl<const V: usize> Model for Cache<V> {
 impl<const V: usize> Cache<V> {
     ghost use Rattle.mc_words.specs.Places.{IsWidth};
     ghost use Rattle.mc_words.specs.Shapes.{IsShape};
+    ghost use Rattle.mc_reader.specs.Aims.{IsAimIn};
 
     /// What always holds of a cache, for proofs: a value has from 1 to 8 words, and the shape was checked. Does nothing at run time.
     #[inline(always)]
@@ -45,16 +46,28 @@ impl<const V: usize> Cache<V> {
         touch_ahead(&self.cells, keys);
     }
 
-    /// Loads the slots of the key's two buckets.
+    /// Where a lookup of the key looks. It reads no word of the table.
     #[inline(always)]
-    pub fn touch_slots(&self, key: u64) {
-        touch_slots(&self.cells, key);
+    pub fn aim_of(&self, key: u64) -> Aim
+        ensures { IsAimIn V self.now.layout.shape result }
+    {
+        aim_of(&self.cells, key)
     }
 
-    /// The item that the slots of the key's buckets seem to name.
+    /// Loads the slots of the two buckets.
     #[inline(always)]
-    pub fn guess_named(&self, key: u64) -> u32 {
-        guess_named(&self.cells, key)
+    pub fn touch_slots(&self, aim: Aim)
+        requires { IsAimIn V self.now.layout.shape aim }
+    {
+        touch_slots(&self.cells, aim);
+    }
+
+    /// The item that the slots of the two buckets seem to name.
+    #[inline(always)]
+    pub fn guess_named(&self, aim: Aim) -> u32
+        requires { IsAimIn V self.now.layout.shape aim }
+    {
+        guess_named(&self.cells, aim)
     }
 
     /// Loads the words of this item, or of the last one if there are fewer.

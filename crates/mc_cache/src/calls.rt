@@ -1,12 +1,13 @@
 //! The calls of the writer that a turn makes, as values.
 ghost use Rattle.mc_cache.specs.TurnCalls.{CanMake, HasMade};
-ghost use Rattle.mc_cache.specs.CallContracts.{evict_contract, put_contract, put_if_absent_contract, put_if_contract, remove_contract, swap_contract, swap_if_absent_contract, swap_if_contract, take_contract, take_if_contract};
+ghost use Rattle.mc_cache.specs.CallContracts.{evict_contract, put_contract, put_if_absent_contract, put_if_contract, remove_contract, show_contract, swap_contract, swap_if_absent_contract, swap_if_contract, take_contract, take_if_contract};
 
 use crate::cache::Cache;
 use crate::turn::{Answers, TurnCall};
 use crate::writer::Writer;
 use mc_plan::{AbsentError, EvictError, IfError, Put, PutError, Remove, Spent};
-use mc_writer::{Evict, Replaced, Swapped, Take};
+use mc_writer::{Entry, Evict, Replaced, Swapped, Take};
+use std::convert::Infallible;
 
 /// `Writer::put` of this key with this value.
 #[derive(Clone, Copy)]
@@ -195,5 +196,26 @@ impl<const V: usize> TurnCall<V, Evict<V>, EvictError> for Evicting {
         ensures { HasMade (evict_contract V) cache.now result writer.old writer.new }
     {
         writer.evict(cache)
+    }
+}
+
+/// `Writer::entry_at` of this item, in the shard of this key: first the key, then the item. The key alone is not asked for.
+#[derive(Clone, Copy)]
+pub struct Showing(pub u64, pub u32);
+
+impl<const V: usize> TurnCall<V, Option<Entry<V>>, Infallible> for Showing {
+    ghost contract = { λ c. show_contract V c.1 };
+
+    #[inline(always)]
+    fn make(
+        self,
+        cache: &Cache<V>,
+        writer: &mut Writer<V>,
+        _: Answers<V>,
+    ) -> Result<Option<Entry<V>>, Infallible>
+        requires { CanMake V cache.now writer.old }
+        ensures { HasMade (show_contract V self.1) cache.now result writer.old writer.new }
+    {
+        Ok(writer.entry_at(cache, self.1))
     }
 }

@@ -2,7 +2,7 @@
 ghost use Rattle.std.specs.Prelude.{◌≡◌};
 
 use crate::calls::{
-    Evicting, Putting, PuttingIf, PuttingIfAbsent, Removing, Swapping, SwappingIf,
+    Evicting, Putting, PuttingIf, PuttingIfAbsent, Removing, Showing, Swapping, SwappingIf,
     SwappingIfAbsent, Taking, TakingIf,
 };
 
@@ -118,6 +118,17 @@ impl Keyed for TakingIf {
 }
 
 impl Keyed for Evicting {
+    ghost key_of = { λ c. c.0 };
+
+    #[inline(always)]
+    fn key(&self) -> u64
+        ensures value { result ≡ self.now.0 }
+    {
+        self.0
+    }
+}
+
+impl Keyed for Showing {
     ghost key_of = { λ c. c.0 };
 
     #[inline(always)]

@@ -33,6 +33,7 @@ mod listing;
 mod loading;
 mod opening;
 mod reader;
+mod showing;
 mod stamped;
 mod taking;
 pub mod turn;

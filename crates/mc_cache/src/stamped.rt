@@ -22,7 +22,7 @@ use mc_writer::{Entry, Pen};
 use std::alloc::{AllocError, Global};
 
 // The entry whose slot names this item.
-fn stamped_at<const V: usize, P: Peek>(
+pub(crate) fn stamped_at<const V: usize, P: Peek>(
     checked: &Checked,
     peek: &mut P,
     item: u32,

@@ -13,13 +13,15 @@ use crate::desk::DeskError;
 use crate::reader::Reader;
 use crate::writer::Writer;
 use mc_words::{NoMemory, Reply};
-use mc_writer::{Evict, Replaced, Swapped, Take};
+use mc_writer::{Entry, Evict, Replaced, Swapped, Take};
 use std::alloc::Global;
 use std::marker::PhantomData;
 
 /// The types of answers that have a const parameter. `TurnCall::make` names them, because the method of an `impl` could not return them
 /// otherwise. The value takes no place.
-pub type Answers<const V: usize> = PhantomData<(Swapped<V>, Replaced<V>, Take<V>, Evict<V>)>;
+pub type Answers<const V: usize> = PhantomData<
+    (Swapped<V>, Replaced<V>, Take<V>, Evict<V>, Entry<V>),
+>;
 
 /// A call of the writer, with its arguments.
 pub trait TurnCall<const V: usize, T, E>: Drop {

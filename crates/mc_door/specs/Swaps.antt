@@ -1,6 +1,7 @@
--- What the writes mean that also return the entry which gives way: a holder makes them, and a pass in a turn.
+-- What the writes mean that also return the entry which gives way, and the look at an item: a holder makes them, and a pass in a turn.
 use Rattle.std.specs.Prelude.{ℕ, ◌≡◌, ◌≢◌, ◌⊎◌, List, length, Option, Some, None, Result, Ok, Err}
-use Rattle.mc_cache.specs.CallContracts.{evict_contract, swap_contract, swap_if_absent_contract, swap_if_contract, take_contract, take_if_contract}
+use Rattle.std.specs.declared.convert.Infallible.{Infallible}
+use Rattle.mc_cache.specs.CallContracts.{evict_contract, show_contract, swap_contract, swap_if_absent_contract, swap_if_contract, take_contract, take_if_contract}
 use Rattle.mc_cache.specs.TurnCalls.{Contract}
 use Rattle.mc_cache.specs.declared.desk.DeskError.{DeskError}
 use Rattle.mc_cache.specs.declared.desk.DeskError.TheVariants as desk
@@ -17,7 +18,7 @@ use Rattle.mc_plan.specs.declared.answer.IfError.{IfError}
 use Rattle.mc_plan.specs.declared.answer.PutError.{PutError}
 use Rattle.mc_plan.specs.declared.answer.Spent.{Spent}
 use Rattle.mc_door.specs.Roles.{Role}
-use Rattle.mc_door.specs.Tellings.{evict_told, plain, swap_if_absent_told, swap_if_told, swap_told, take_if_told, take_told, turn_told}
+use Rattle.mc_door.specs.Tellings.{evict_told, plain, shown_told, swap_if_absent_told, swap_if_told, swap_told, take_if_told, take_told, turn_told}
 use Rattle.mc_door.specs.Tells.{HasTold}
 use Rattle.mc_door.specs.Turns.{HasCalledBy}
 use Rattle.mc_door.specs.declared.status.TheConstants.{WIDTH}
@@ -30,6 +31,7 @@ abbrev pub swap_words : ℕ → Swap → List ℕ → ℕ
 swap_words V call.Remove v = V
 swap_words V (call.RemoveIf since) v = V
 swap_words V call.Evict v = V
+swap_words V (call.Show item) v = V
 swap_words V _ v = length v
 
 -- the entry that a call took out, if it took one out
@@ -55,7 +57,11 @@ old_of_evict (Ok (Evicted at old)) = Some old
 old_of_evict (Ok (Empty at)) = None
 old_of_evict (Err why) = None
 
--- the entry that a turn took out, if it took one out
+abbrev pub old_of_shown : {V : ℕ} → Result (Option (Entry V)) Infallible → Option (Entry V)
+old_of_shown (Ok shown) = shown
+old_of_shown (Err never) = None
+
+-- the entry that a turn took out or showed, if it did
 abbrev pub old_of_turn : {V : ℕ} {T E : Type 0} → (Result T E → Option (Entry V)) → Result T (DeskError E) → Option (Entry V)
 old_of_turn old_of (Ok done) = old_of (Ok done)
 old_of_turn old_of (Err desk.Held) = None
@@ -66,7 +72,7 @@ abbrev pub left_by : {V : ℕ} → Option (Entry V) → List ℕ → List ℕ
 left_by (Some entry) words = entry.value
 left_by None words = words
 
--- the contract of each of these writes, how its answer is told, and what it took out
+-- the contract of each of these calls, how its answer is told, and what it took out or showed
 abbrev pub SwapIs : (V : ℕ) → ((T E : Type 0) → Contract V T E → (Result T E → Outcome) → (Result T E → Option (Entry V)) → Type 0) → ℕ → Swap → List ℕ → Type 0
 SwapIs V Is key call.Put v = Is (Swapped V) PutError (swap_contract V key v) swap_told old_of_swap
 SwapIs V Is key (call.PutIf since) v = Is (Replaced V) IfError (swap_if_contract V key since v) swap_if_told old_of_swap_if
@@ -74,6 +80,7 @@ SwapIs V Is key call.PutIfAbsent v = Is (Swapped V) AbsentError (swap_if_absent_
 SwapIs V Is key call.Remove v = Is (Take V) Spent (take_contract V key) take_told old_of_take
 SwapIs V Is key (call.RemoveIf since) v = Is (Replaced V) IfError (take_if_contract V key since) take_if_told old_of_swap_if
 SwapIs V Is key call.Evict v = Is (Evict V) EvictError (evict_contract V) evict_told old_of_evict
+SwapIs V Is key (call.Show item) v = Is (Option (Entry V)) Infallible (show_contract V item) shown_told old_of_shown
 
 -- by a holder, or by a pass, which tries for the turn. The words of the old value are these before the call, and those after it
 abbrev pub SwapMeans : (V : ℕ) → Role → Role → ℕ → Swap → List ℕ → List ℕ → List ℕ → Outcome → Type 0

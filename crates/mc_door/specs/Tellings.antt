@@ -1,5 +1,6 @@
 -- How each answer of a call is returned: a status, and the numbers of a reply.
 use Rattle.std.specs.Prelude.{ℕ, Option, Some, None, Result, Ok, Err}
+use Rattle.std.specs.declared.convert.Infallible.{Infallible}
 use Rattle.mc_cache.specs.declared.desk.DeskError.{DeskError}
 use Rattle.mc_cache.specs.declared.desk.DeskError.TheVariants as desk
 use Rattle.mc_plan.specs.declared.answer.AbsentError.{AbsentError}
@@ -119,3 +120,9 @@ evict_told (Ok (Evicted at old)) = record { status = OK; reply = record { at = a
 evict_told (Ok (Empty at)) = told_at ABSENT at
 evict_told (Err evict_error.AllRecent) = plain ALL_RECENT
 evict_told (Err evict_error.Spent) = plain SPENT
+
+-- the entry in an item, with its key
+abbrev pub shown_told : {V : ℕ} → Result (Option (Entry V)) Infallible → Outcome
+shown_told (Ok (Some entry)) = record { status = OK; reply = record { at = 0; since = entry.since; evicted = entry.key; moves = 0; put = NOTHING } }
+shown_told (Ok None) = plain ABSENT
+shown_told (Err never) = plain ABSENT

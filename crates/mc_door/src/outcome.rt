@@ -28,7 +28,7 @@ pub struct RawReply {
     pub at: u64,
     /// The moment of the key's last put.
     pub since: u64,
-    /// The key that was taken out.
+    /// The key that was taken out, or whose entry is shown.
     pub evicted: u64,
     /// How many keys were moved.
     pub moves: u32,

@@ -10,7 +10,9 @@ use crate::tell::in_turn;
 use crate::words::array_of;
 use crate::write::Swap;
 use mc_cache::DeskError;
-use mc_cache::calls::{Evicting, Swapping, SwappingIf, SwappingIfAbsent, Taking, TakingIf};
+use mc_cache::calls::{
+    Evicting, Showing, Swapping, SwappingIf, SwappingIfAbsent, Taking, TakingIf,
+};
 
 #[inline(never)]
 fn swap_in<const V: usize, S: Caller<V>>(
@@ -113,6 +115,22 @@ fn evict<const V: usize, S: Caller<V>>(
     in_turn!(tried, reply, made => tell::evict(made, old, reply))
 }
 
+#[inline(never)]
+fn show<const V: usize, S: Caller<V>>(
+    side: &mut S,
+    near: u64,
+    item: u32,
+    old: &mut [u64],
+    reply: &mut RawReply,
+) -> u32
+    requires width { IsWidth V }
+    requires old { length old.old ≡ V }
+    ensures { SwapMeans V (S.role side.old) (S.role side.new) near (Swap.Show item) [] old.old old.new (record { status = result; reply = reply.new }) }
+{
+    let tried = side.try_call(Showing(near, item));
+    in_turn!(tried, reply, made => tell::shown(made, old, reply))
+}
+
 /// Any of them.
 #[inline(always)]
 pub(crate) fn swap<const V: usize, S: Caller<V>>(
@@ -135,5 +153,6 @@ pub(crate) fn swap<const V: usize, S: Caller<V>>(
         Swap::Remove => take::<V, S>(side, key, old, reply),
         Swap::RemoveIf(since) => take_if::<V, S>(side, key, since, old, reply),
         Swap::Evict => evict::<V, S>(side, key, old, reply),
+        Swap::Show(item) => show::<V, S>(side, key, item, old, reply),
     }
 }

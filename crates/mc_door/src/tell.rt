@@ -1,8 +1,8 @@
 //! Writes the answer of a write to C's reply, each form of it by itself. A refusal and a put that failed are out of line, which saves
 //! registers.
 ghost use Rattle.std.specs.Prelude.{◌≡◌, Err, length};
-ghost use Rattle.mc_door.specs.Swaps.{left_by, old_of_evict, old_of_swap, old_of_swap_if, old_of_swap_if_absent, old_of_take};
-ghost use Rattle.mc_door.specs.Tellings.{done_told, evict_told, not_put_told, plain, put_if_absent_told, put_if_told, put_told, removal_told, swap_if_absent_told, swap_if_told, swap_told, stamped, take_if_told, take_told};
+ghost use Rattle.mc_door.specs.Swaps.{left_by, old_of_evict, old_of_shown, old_of_swap, old_of_swap_if, old_of_swap_if_absent, old_of_take};
+ghost use Rattle.mc_door.specs.Tellings.{done_told, evict_told, not_put_told, plain, put_if_absent_told, put_if_told, put_told, removal_told, shown_told, swap_if_absent_told, swap_if_told, swap_told, stamped, take_if_told, take_told};
 
 use crate::outcome::{Outcome, RawReply};
 use crate::status;
@@ -10,6 +10,7 @@ use mc_cache::{
     AbsentError, Entry, Evict, EvictError, IfError, Put, PutError, Remove, Replaced, Spent,
     Swapped, Take,
 };
+use std::convert::Infallible;
 
 /// A status alone.
 #[cold]
@@ -216,6 +217,27 @@ pub(crate) fn evict<const V: usize>(
         Ok(Evict::Empty { at }) => Outcome::at(status::ABSENT, at).tell(reply),
         Err(EvictError::AllRecent) => refused(status::ALL_RECENT, reply),
         Err(EvictError::Spent) => refused(status::SPENT, reply),
+    }
+}
+
+pub(crate) fn shown<const V: usize>(
+    made: Result<Option<Entry<V>>, Infallible>,
+    old: &mut [u64],
+    reply: &mut RawReply,
+) -> u32
+    requires { length old.old ≡ V }
+    ensures told { record { status = result; reply = reply.new } ≡ shown_told made.entry }
+    ensures old { old.new ≡ left_by (old_of_shown made.entry) old.old }
+{
+    match made {
+        Ok(Some(entry)) => {
+            let status = Outcome::plain(status::OK).tell(reply);
+            reply.evicted = entry.key;
+            give(Some(entry), old, reply);
+            status
+        }
+        Ok(None) => refused(status::ABSENT, reply),
+        Err(never) => match never {},
     }
 }
 

@@ -42,6 +42,8 @@ pub enum Swap {
     RemoveIf(u64),
     /// An eviction in the shard of the key. It has no value.
     Evict,
+    /// A look at the entry in this item, in the shard of the key. It has no value, and changes nothing.
+    Show(u32),
 }
 
 impl Swap {
@@ -51,7 +53,7 @@ impl Swap {
         ensures { result ≡ swap_words words self value.now }
     {
         match self {
-            Swap::Remove | Swap::RemoveIf(_) | Swap::Evict => words,
+            Swap::Remove | Swap::RemoveIf(_) | Swap::Evict | Swap::Show(_) => words,
             _ => value.len(),
         }
     }

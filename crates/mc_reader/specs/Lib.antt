@@ -1,2 +1,3 @@
+pub mod Aims
 pub mod Records
 pub mod Inside

@@ -20,4 +20,4 @@ mod touches;
 
 pub use many_lookups::{get_many, pays_ahead, touch_ahead};
 pub use running_lookup::get;
-pub use touches::{GROUP, guess_named, touch_guessed, touch_slots};
+pub use touches::{Aim, GROUP, aim_of, guess_named, touch_guessed, touch_slots};

@@ -6,7 +6,7 @@ ghost use Rattle.std.specs.Prelude.{◌≡◌, ◌<◌, ◌≤◌, ℕ, All, len
 ghost use Rattle.mc_words.specs.Checks.{shape_of};
 ghost use Rattle.mc_words.specs.Places.{IsWidth};
 ghost use Rattle.mc_shared.specs.Views.{layout_of};
-ghost use Rattle.mc_reader.specs.Inside.Aims.{IsAimIn, IsRow};
+ghost use Rattle.mc_reader.specs.Aims.{IsAimIn, IsRow};
 
 use mc_shared::{Cells, touch};
 use mc_words::{Checked, Place};
@@ -16,7 +16,7 @@ pub const GROUP: usize = 16;
 
 /// Where the slots of a key's two buckets begin. `base` is the word of a slot that names item 0 under the key's tag.
 #[derive(Clone, Copy)]
-struct Aim {
+pub struct Aim {
     base: u64,
     first: usize,
     second: usize,
@@ -119,19 +119,29 @@ fn touch_item<const V: usize>(cells: &Cells<V>, checked: &Checked, i: u32)
     touch(cells, last);
 }
 
-/// Touches the slots of the key's two buckets.
+/// Where a lookup of the key looks. It reads no word of the table.
 #[inline(always)]
-pub fn touch_slots<const V: usize>(cells: &Cells<V>, key: u64) {
-    let aim = aim_at::<V>(cells.checked(), key);
+pub fn aim_of<const V: usize>(cells: &Cells<V>, key: u64) -> Aim
+    ensures { IsAimIn V cells.now.layout.shape result }
+{
+    aim_at::<V>(cells.checked(), key)
+}
+
+/// Touches the slots of the two buckets.
+#[inline(always)]
+pub fn touch_slots<const V: usize>(cells: &Cells<V>, aim: Aim)
+    requires { IsAimIn V cells.now.layout.shape aim }
+{
     touch_row(cells, aim.first);
     touch_row(cells, aim.second);
 }
 
-/// The item that the slots of the key's buckets seem to name. It changes nothing, and says nothing of the table.
+/// The item that the slots of the two buckets seem to name. It changes nothing, and says nothing of the table.
 #[inline(always)]
-pub fn guess_named<const V: usize>(cells: &Cells<V>, key: u64) -> u32 {
-    let checked = cells.checked();
-    guess(cells, aim_at::<V>(checked, key), checked.shape().items)
+pub fn guess_named<const V: usize>(cells: &Cells<V>, aim: Aim) -> u32
+    requires { IsAimIn V cells.now.layout.shape aim }
+{
+    guess(cells, aim, cells.checked().shape().items)
 }
 
 /// Touches this item, or the last one if there are fewer.
@@ -157,8 +167,7 @@ pub(crate) fn touch_group<const V: usize>(cells: &Cells<V>, keys: &[u64])
     let mut guesses = [0u32; GROUP];
     aim_at_all::<V>(checked, keys, &mut aims);
     for i in 0..keys.len() {
-        touch_row(cells, aims[i].first);
-        touch_row(cells, aims[i].second);
+        touch_slots(cells, aims[i]);
     }
     guess_all(cells, &aims[..keys.len()], items, &mut guesses);
     for i in 0..keys.len() {

@@ -1,5 +1,5 @@
 -- The shape that is chosen for shards.
-use Rattle.std.specs.Prelude.{ℕ, ◌≡◌, ◌≢◌, ◌+◌, ◌-◌, ◌*◌, ◌<◌, ◌≤◌, ◌⊎◌, if◌then◌else◌, nat_lt}
+use Rattle.std.specs.Prelude.{ℕ, ◌≡◌, ◌≢◌, ◌+◌, ◌-◌, ◌*◌, ◌/◌, ◌<◌, ◌≤◌, ◌⊎◌, if◌then◌else◌, min, nat_lt}
 use Rattle.mc_words.specs.Shapes.{HasShards}
 use Rattle.mc_words.specs.Sizing.{CanBeSized, IsSizedFor}
 use Rattle.mc_words.specs.declared.shape.Shape.{Shape}
@@ -24,13 +24,13 @@ IsShare items shards n = ((shards ≡ 1) × (n ≡ items)) ⊎ ((shards ≢ 1) �
 abbrev pub room_for : ℕ → ℕ
 room_for n = if nat_lt n 256 then 2 * n else n
 
--- the shape with this number of items
-abbrev pub holding : ℕ → Shape → Shape
-holding n sh = record { buckets = sh.buckets; items = n; stripes = sh.stripes; depth = sh.depth; tries = sh.tries; limit = sh.limit; mix = sh.mix }
+-- the shape with this number of items, and with a shard's part of the stripes: all shards together have 8192 at most
+abbrev pub holding : ℕ → ℕ → Shape → Shape
+holding shards n sh = record { buckets = sh.buckets; items = n; stripes = min sh.stripes (8192 / shards); depth = sh.depth; tries = sh.tries; limit = sh.limit; mix = sh.mix }
 
--- the shape of a shard with n items
-abbrev pub IsShardShape : ℕ → Shape → Type 0
-IsShardShape n sh = (sized : Shape) × IsSizedFor (room_for n) sized × (sh ≡ holding n sized)
+-- the shape of one of so many shards with n items
+abbrev pub IsShardShape : ℕ → ℕ → Shape → Type 0
+IsShardShape shards n sh = (sized : Shape) × IsSizedFor (room_for n) sized × (sh ≡ holding shards n sized)
 
 -- why there is no such shape: their number is not allowed, there are no items, or a shard's are too many
 abbrev pub RefusesShare : ℕ → ℕ → OpenShardsError → Type 0

@@ -17,6 +17,7 @@
 //! ```
 #![tactic(auto)]
 
+mod ahead;
 mod closing;
 mod counting;
 mod held_calls;

@@ -4,8 +4,7 @@ ghost use Rattle.mc_shards.specs.Lending.{table_of};
 ghost use Rattle.mc_shards.specs.Sharded.{shard_in};
 
 use crate::lender::Lender;
-use mc_cache::{Cache, GROUP, Shape};
-use mc_reader::pays_ahead;
+use mc_cache::{Cache, Shape};
 use std::marker::Model;
 
 /// A cache of shards: caches of one shape, each with its writer, which is lent for a turn. Lend it to every thread. In contracts it is the tables that
@@ -76,55 +75,6 @@ impl<const V: usize> Shards<V> {
             return 0;
         }
         self.shape.mix.shard(key, self.count()) as usize
-    }
-
-    /// Loads ahead the words that lookups of the first of these keys will read, of `GROUP` keys at most, where the shards together are large
-    /// enough for it to pay. It changes nothing, and no answer depends on it.
-    pub fn touch_ahead(&self, keys: &[u64]) {
-        if self.is_single() {
-            self.cache(0).touch_ahead(keys);
-            return;
-        }
-        let buckets = u64::from(self.shape.buckets) * u64::from(self.count());
-        if pays_ahead(buckets, keys.len()) {
-            self.touch_each(&keys[..keys.len().min(GROUP)]);
-        }
-    }
-
-    /// Loads ahead the words that a lookup of this key will read. It changes nothing, and no answer depends on it.
-    #[inline(always)]
-    pub fn prefetch(&self, key: u64) {
-        let cache = self.cache(self.shard_of(key));
-        cache.touch_guessed(cache.guess_named(key));
-    }
-
-    // The slots of all the keys first, and then the items that they name, each in a loop that waits for nothing: so the processor waits for many words
-    // at once.
-    #[inline(never)]
-    fn touch_each(&self, keys: &[u64])
-        requires { length keys.now ≤ 16 }
-    {
-        let mut items = [0u32; GROUP];
-        self.touch_slots(keys);
-        self.guess_each(keys, &mut items);
-        for i in 0..keys.len() {
-            self.cache(self.shard_of(keys[i])).touch_guessed(items[i]);
-        }
-    }
-
-    fn touch_slots(&self, keys: &[u64]) {
-        for &key in keys {
-            self.cache(self.shard_of(key)).touch_slots(key);
-        }
-    }
-
-    #[inline(always)]
-    fn guess_each(&self, keys: &[u64], items: &mut [u32])
-        requires { length keys.now ≤ length items.old }
-    {
-        for i in 0..keys.len() {
-            items[i] = self.cache(self.shard_of(keys[i])).guess_named(keys[i]);
-        }
     }
 
     // The cache of a shard.

@@ -23,6 +23,7 @@ pub const TRIES: &[Try] = &[
     ("try_take", |handle| is_held(handle.try_take(7))),
     ("try_take_if", |handle| is_held(handle.try_take_if(7, 1))),
     ("try_evict", |handle| is_held(handle.try_evict(7))),
+    ("try_entry_at", |handle| is_held(handle.try_entry_at(7, 0))),
     ("hold", |handle| is_held(handle.hold())),
     ("try_moment", |handle| is_held(handle.try_moment())),
     ("try_len", |handle| is_held(handle.try_len())),

@@ -1,4 +1,4 @@
-//! The maps, each behind the same two calls: cefrodil-map, dashmap, a locked HashMap of the standard library, and an LRU cache behind a mutex.
+//! The maps, each behind the same two calls: the two of cefrodil-map, dashmap, a locked HashMap of the standard library, and an LRU cache behind a mutex.
 use dashmap::DashMap;
 use lru::{KeyRef, LruCache};
 use std::borrow::Borrow;
@@ -126,6 +126,25 @@ impl<K: Key, V: Copy + Send + Sync + 'static, S: Opens> Contestant<K, V, S> for 
     #[inline(always)]
     fn put(&self, key: &K::Borrowed, value: V) -> bool {
         self.0.insert(key, value).is_ok()
+    }
+}
+
+/// The same as objects on the heap, of which a lookup copies the value. It has its own hasher.
+pub struct Objects<K, V>(cefrodil_map::ObjectMap<K, V>);
+
+impl<K: Key + 'static, V: Copy + Send + Sync + 'static> Contestant<K, V, RandomState> for Objects<K, V> {
+    fn new(keys: usize, _: RandomState) -> Self {
+        Objects(cefrodil_map::ObjectMap::new(keys).expect("a map"))
+    }
+
+    #[inline(always)]
+    fn get(&self, key: &K::Borrowed) -> Option<V> {
+        self.0.get(key)
+    }
+
+    #[inline(always)]
+    fn put(&self, key: &K::Borrowed, value: V) -> bool {
+        self.0.insert(key.to_owned(), value).is_ok()
     }
 }
 

@@ -2,7 +2,7 @@
 //! SipHash-1-3 with a secret (std's default; `cefrodil-map` has its own), or all by two multiplications.
 mod contestants;
 
-use contestants::{Cefrodil, Contestant, Key, Lru, Opens, Quick};
+use contestants::{Cefrodil, Contestant, Key, Lru, Objects, Opens, Quick};
 use dashmap::DashMap;
 use lru::KeyRef;
 use std::borrow::Borrow;
@@ -146,6 +146,10 @@ where
 
 fn main() {
     let options = Options::read();
+    if options.contestant == "objects" {
+        assert!((options.letters, options.words, options.quick) == (0, 4, 0), "objects have keys that are numbers, and four words");
+        return run::<4, u64, _, Objects<u64, [u64; 4]>>(&options, RandomState::new());
+    }
     match (options.letters, options.words, options.quick) {
         (0, 1, 0) => choose::<1, u64, _>(&options, RandomState::new()),
         (0, 4, 0) => choose::<4, u64, _>(&options, RandomState::new()),

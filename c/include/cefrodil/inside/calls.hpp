@@ -137,6 +137,16 @@ template <size_t Words> class Calls : public OpenHandle {
         return swapped<Words>(write, old, true);
     }
 
+    [[nodiscard]] Shown<Words> entry_at(uint64_t near, uint32_t item) noexcept {
+        cefrodil_reply reply;
+        Value value;
+        const Status status = Counting::tried(*this, cefrodil_entry_at(raw(), near, item, value.data(), Words, &reply));
+        Shown<Words> shown{status, reply.evicted, std::nullopt, reply.since};
+        if (status == Status::ok) {
+            shown.value = value;
+        }
+        return shown;
+    }
     // It is no use of the key, so it isn't counted as a lookup.
     [[nodiscard]] Answer<Words> peek(uint64_t key) noexcept {
         cefrodil_reply reply;

@@ -143,6 +143,14 @@ template <size_t Words> struct Swapped {
     uint64_t since; // set by the status `changed`
 };
 
+// What lies at a place of the table. `value` is there if an entry does: that of `key`, whose last put was at `since`.
+template <size_t Words> struct Shown {
+    Status status;
+    uint64_t key;
+    std::optional<std::array<uint64_t, Words>> value;
+    uint64_t since;
+};
+
 namespace inside {
 
 inline Status status_of(Status status) noexcept { return status; }
