@@ -19,7 +19,8 @@
 //     const cefrodil::Status opened = sessions.open({1000}, lives);
 //     const cefrodil::Stored stored = sessions.insert_for("token", 41, std::chrono::minutes(5)); // with a time of its own
 // Its values have up to 40 bytes. What has expired is absent for all calls, and so is what invalidate_all has ended. It takes room until others overwrite
-// or evict it, or until erase or erase_expired, and `size` counts it. A put begins both times anew, also over a value. An update and each call that finds
+// or evict it, or until erase or erase_expired, and `size` counts it. Each call that puts or updates removes it at two places of its shard, and goes round
+// all, so in a full map it makes room before others are evicted. A put begins both times anew, also over a value. An update and each call that finds
 // the entry begin the time to idle anew, but `peek` does not. For that a lookup writes the entry again, if more than a sixteenth of the time has passed
 // since the last such write. It waits for its turn as a write does. So an entry may end a sixteenth of its time to idle sooner.
 //

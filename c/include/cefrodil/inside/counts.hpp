@@ -66,7 +66,7 @@ enum Counted : size_t {
     waiting,
     by_weight,
     by_capacity,
-    ended,
+    by_end,
     loads,
     load_failures,
     load_nanoseconds,
@@ -163,7 +163,7 @@ class Lines {
         counts.evictions = all[evictions], counts.refusals = all[refusals];
         // A thread frees what another one has retired, and the latter's line may have been read before that.
         counts.waiting = static_cast<uint64_t>(std::max<int64_t>(0, static_cast<int64_t>(all[waiting])));
-        counts.evicted_by_weight = all[by_weight], counts.evicted_by_capacity = all[by_capacity], counts.ended = all[ended];
+        counts.evicted_by_weight = all[by_weight], counts.evicted_by_capacity = all[by_capacity], counts.ended = all[by_end];
         counts.loads = all[loads], counts.load_failures = all[load_failures];
         counts.load_time = std::chrono::nanoseconds(all[load_nanoseconds]);
         return counts;

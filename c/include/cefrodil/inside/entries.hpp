@@ -2,6 +2,7 @@
 #ifndef CEFRODIL_INSIDE_ENTRIES_HPP
 #define CEFRODIL_INSIDE_ENTRIES_HPP
 
+#include "cursors.hpp"
 #include "flights.hpp"
 #include "hash.hpp"
 #include "threads.hpp"
@@ -87,17 +88,27 @@ template <size_t Words, class Beside = NothingBeside> class Entries : public Tur
     }
 
     // Makes a call as `repeated` does, with the key's lock.
-    template <class Call> [[gnu::always_inline]] auto locked(uint64_t key, Call made) noexcept {
-        return this->repeated([this, key, made](OwnSlot &slot) __attribute__((always_inline)) {
-            const std::unique_lock<KeyLock> guard(flights.lock_of(key), std::try_to_lock);
-            return guard ? made(slot) : refusal<decltype(made(slot))>(Status::held);
-        });
-    }
+    template <class Call> [[gnu::always_inline]] auto locked(uint64_t key, Call made) noexcept { return this->repeated(with_lock(key, made)); }
+    // The same, but tries once.
+    template <class Call> auto locked_once(uint64_t key, Call made) noexcept { return this->call(with_lock(key, made)); }
 
   protected:
+    // Before the first put of a map whose entries end. False without memory.
+    [[nodiscard]] bool open_cursors() noexcept {
+        return has_memory([&] { cursors_.divide(this->shards(), this->places()); });
+    }
+    // Calls with what lies at the next two places of the key's shard, unless another thread has the turn: its number, its words and the moment of its put.
+    template <class See> void each_placed(uint64_t key, const See &see) noexcept {
+        const uint64_t first = cursors_.pass(key, 2);
+        for (const uint64_t number : {first, first + 1}) {
+            const uint32_t place = cursors_.place(number);
+            const Shown<Words> shown = this->call([key, place](OwnSlot &slot) { return slot.handle.try_entry_at(key, place); });
+            shown.value ? see(shown.key, *shown.value, shown.since) : void();
+        }
+    }
     // The status of the removal of an entry that had ended. It is counted.
     Status ended_by(Status taken) noexcept {
-        this->count(this->own_slot(), ended, taken == Status::ok ? 1 : 0);
+        this->count(this->own_slot(), by_end, taken == Status::ok ? 1 : 0);
         return taken;
     }
     // Looks a few keys up.
@@ -139,6 +150,13 @@ template <size_t Words, class Beside = NothingBeside> class Entries : public Tur
   private:
     using Time = std::chrono::steady_clock::time_point;
 
+    template <class Call> [[gnu::always_inline]] auto with_lock(uint64_t key, Call made) noexcept {
+        return [this, key, made](OwnSlot &slot) __attribute__((always_inline)) {
+            const std::unique_lock<KeyLock> guard(flights.lock_of(key), std::try_to_lock);
+            return guard ? made(slot) : refusal<decltype(made(slot))>(Status::held);
+        };
+    }
+
     // One run of a function that computes a value.
     struct Load {
         explicit Load(Entries &those) noexcept : entries(those) {}
@@ -164,6 +182,8 @@ template <size_t Words, class Beside = NothingBeside> class Entries : public Tur
             this->lines()->note(now);
         }
     }
+
+    Cursors cursors_{};
 };
 
 // What an open map owns.

@@ -41,7 +41,7 @@ template <class K, class V> class Objects : public Entries<1, Epochs>, public Ob
     [[nodiscard]] Status open(uint32_t entries, uint32_t shards, uint32_t passes, uint32_t tries) noexcept {
         const Status status = Entries::open(entries, shards, passes, tries);
         is_open_ = status == Status::ok;
-        if (is_open_ && !has_memory([&] { weights_.divide(this->shards()); })) {
+        if (is_open_ && !(has_memory([&] { weights_.divide(this->shards()); }) && open_cursors())) {
             return Status::no_memory;
         }
         waiting_weight_ = is_open_ && lines() ? &lines()->waiting_weight() : &uncounted_;
@@ -162,7 +162,6 @@ template <class K, class V> class Objects : public Entries<1, Epochs>, public Ob
     Status take(uint64_t index, uint64_t since, Change &change) noexcept {
         return removed(index, change, [&](OwnSlot &slot) { return slot.handle.try_take_if(index, since); });
     }
-    // Removes each key that is listed.
     Status clear() noexcept {
         flights.outdate_all();
         return each_listed([this](uint64_t index, const auto &) {
@@ -217,11 +216,8 @@ template <class K, class V> class Objects : public Entries<1, Epochs>, public Ob
     }
     // Changes the bound on the number of objects, and evicts what is too much.
     Status set_capacity(uint64_t most) noexcept {
-        if (is_too_deep()) {
-            return Status::too_deep;
-        }
         Change change(*this);
-        return bound_keys(most, [&](uint64_t near) { return evict(near, by_capacity, change); });
+        return is_too_deep() ? Status::too_deep : bound_keys(most, [&](uint64_t near) { return evict(near, by_capacity, change); });
     }
 
   private:
@@ -237,15 +233,16 @@ template <class K, class V> class Objects : public Entries<1, Epochs>, public Ob
         object.end_making(object.kind(), is_computed ? own : now);
         return !is_computed || own == now;
     }
-    template <class Take> Status removed(uint64_t index, Change &change, Take take) noexcept {
+    template <bool Once = false, class Take> Status removed(uint64_t index, Change &change, Take take) noexcept {
         if (is_too_deep()) {
             return Status::too_deep;
         }
-        const Swapped<1> taken = locked(index, [&](OwnSlot &slot) {
+        const auto make = [&](OwnSlot &slot) {
             const Swapped<1> tried = take(slot);
             slot.add(tried.status == Status::ok ? -1 : 0);
             return tried;
-        });
+        };
+        const Swapped<1> taken = Once ? locked_once(index, make) : locked(index, make);
         if (taken.old) {
             change.old = out(index, *taken.old, change);
         }
@@ -267,10 +264,23 @@ template <class K, class V> class Objects : public Entries<1, Epochs>, public Ob
         if (is_too_deep()) {
             return Status::too_deep;
         }
+        if (this->has_lives()) {
+            sweep(index, change);
+        }
         if (is_bounded()) {
             make_room_for(index, change, is_new);
         }
         return rules_.weigher ? offered_weighed(index, object, change, is_new, make) : ended(index, object, change, locked(index, make));
+    }
+    // Removes what has ended at two places of the key's shard, so that no other object leaves for a new one.
+    [[gnu::noinline]] void sweep(uint64_t key, Change &change) noexcept {
+        const Pinned pinned(*this);
+        each_placed(key, [&](uint64_t index, const auto &word, uint64_t since) {
+            if (has_ended(*Each::at(word[0]), generations.now())) {
+                ended_by(removed<true>(index, change, [&](OwnSlot &slot) { return slot.handle.try_take_if(index, since); }));
+                change.old = nullptr;
+            }
+        });
     }
     template <class IsNew> [[gnu::cold]] [[gnu::noinline]] void make_room_for(uint64_t index, Change &change, const IsNew &is_new) noexcept {
         if (is_new()) {
@@ -295,9 +305,8 @@ template <class K, class V> class Objects : public Entries<1, Epochs>, public Ob
         shrink(change);
         return status;
     }
-    // Evicts objects until the others are within the bound, if they are not: each from the shard that has the most of a few. What calls are about to put
-    // counts, so there may be no object in that shard: then it goes round all shards. It gives up if it finds none there, or if other threads keep it from
-    // so many tries: then a later put goes on.
+    // Evicts objects until the others are within the bound: each from the shard that has the most of a few. What calls are about to put counts, so that
+    // shard may have none: then it goes round all shards. It gives up if it finds none, or after so many tries: then a later put goes on.
     void shrink(Change &change) noexcept {
         for (uint32_t looked = 0, held = 0; weights_.is_over() && looked <= shards() && held <= tries();) {
             switch (evict(looked == 0 ? weights_.fullest() : weights_.next(), by_weight, change)) {
@@ -318,8 +327,8 @@ template <class K, class V> class Objects : public Entries<1, Epochs>, public Ob
     }
     void end(Change &change) noexcept {
         for (Retired *next = change.first; next != nullptr;) {
-            Each *const object = static_cast<Each *>(std::exchange(next, next->next));
-            retire(*object, object == change.old ? change.why : Left::evicted);
+            Each &object = *static_cast<Each *>(std::exchange(next, next->next));
+            retire(object, &object == change.old ? change.why : Left::evicted);
         }
         free_much();
     }
@@ -333,7 +342,6 @@ template <class K, class V> class Objects : public Entries<1, Epochs>, public Ob
         count_waiting(slot, object, 1);
         static_cast<void>(free(beside().retire(object, place_of(slot))));
     }
-    // Counts one object more or less.
     void count_waiting(OwnSlot *slot, Each &object, int64_t more) noexcept {
         count(slot, inside::waiting, static_cast<uint64_t>(more));
         if (rules_.weigher) {

@@ -86,6 +86,11 @@ class Table : public Entries<Packing<V, Times::moments>::words>, private Packing
     Table() = default;
     explicit Table(const Times &times) : Times(times) {}
 
+    [[nodiscard]] Status open(uint32_t entries, uint32_t shards, uint32_t passes, uint32_t tries) noexcept {
+        const Status status = All::open(entries, shards, passes, tries);
+        return status == Status::ok && Times::moments != 0 && !this->open_cursors() ? Status::no_memory : status;
+    }
+
     // A lookup for the words of its entry, which are set if the status is ok. If it stays busy, that is a miss. It is counted. The key is passed in
     // registers: the index would wait for it in memory.
     Status find(Identity key, Words &packed) noexcept {
@@ -151,6 +156,7 @@ class Table : public Entries<Packing<V, Times::moments>::words>, private Packing
     }
     // Puts whatever is there. The generation is read with the key's lock, so what gives way is of no newer one.
     Stored put(const Identity &key, const V &value, const Life &life = {}) noexcept {
+        sweep(key.index);
         const Ends ends = Times::ends(life);
         const bool has_evicted = this->is_bounded() && make_room_for(key.index);
         Stored put = this->locked(key.index, [this, key, ends, &value](Slot<words> &slot) {
@@ -161,22 +167,19 @@ class Table : public Entries<Packing<V, Times::moments>::words>, private Packing
     }
     // Puts if the key is absent. An entry of an older generation gives way, and so does another key's entry under the same number.
     Stored put_if_absent(const Identity &key, const V &value, const Life &life = {}) noexcept {
-        const Ends ends = Times::ends(life);
-        for (;;) {
-            const Stored put = put_new(key, value, ends, [this] { return generations.now(); });
-            if (put.status != Status::stale) {
-                return put;
-            }
-        }
+        sweep(key.index);
+        return put_absent(key, value, life);
     }
     // The same, as an entry of this generation. stale: a newer one has begun.
     Stored put_if_absent_in(uint64_t generation, const Identity &key, const V &value) noexcept {
+        sweep(key.index);
         return put_new(key, value, Times::ends({}), [generation] { return generation; });
     }
 
     // Puts what the function makes of the key's value, if it makes one. If the key is absent, puts `first`, or nothing if that is null. The new entry has the generation in
     // which the old one was found.
     template <class Function> Found<V> update(const Identity &key, const V *first, const Function &function, const Life &life = {}) {
+        sweep(key.index);
         for (uint32_t repeat = 0;; repeat++) {
             const Identity known = now(key);
             const Entry entry = look(known);
@@ -184,7 +187,7 @@ class Table : public Entries<Packing<V, Times::moments>::words>, private Packing
                 return {entry.status, std::nullopt};
             }
             const Found<V> tried =
-                entry.value ? renew(known, entry, function, life) : Found<V>{put_if_absent(key, *first).status, *first};
+                entry.value ? renew(known, entry, function, life) : Found<V>{put_absent(key, *first).status, *first};
             if (tried.status == Status::ok) {
                 return tried;
             }
@@ -293,6 +296,16 @@ class Table : public Entries<Packing<V, Times::moments>::words>, private Packing
     bool has_ended(const Words &packed) const noexcept {
         return Times::have_passed(ends_of(packed)) || !Times::are_of(ends_of(packed), generations.now());
     }
+    // Before a put. Removes what has ended at two places of the key's shard, so that no other entry gives way for it.
+    void sweep([[maybe_unused]] uint64_t key) noexcept {
+        if constexpr (Times::moments != 0) {
+            this->each_placed(key, [this](uint64_t index, const Words &packed, uint64_t since) {
+                if (has_ended(packed)) {
+                    this->ended_by(this->locked_once(index, [index, since](Slot<words> &slot) { return slot.take_if(index, since); }));
+                }
+            });
+        }
+    }
     Status take_ended(uint64_t index) noexcept {
         Words packed;
         const Seen seen = this->get(this->own_slot(), index, this->tries(), packed);
@@ -300,6 +313,15 @@ class Table : public Entries<Packing<V, Times::moments>::words>, private Packing
     }
     Words pack_in(uint64_t generation, const Identity &key, const Ends &ends, const V &value) const noexcept {
         return pack(in_generation(key, generation), Times::in_generation(ends, generation), value);
+    }
+    Stored put_absent(const Identity &key, const V &value, const Life &life = {}) noexcept {
+        const Ends ends = Times::ends(life);
+        for (;;) {
+            const Stored put = put_new(key, value, ends, [this] { return generations.now(); });
+            if (put.status != Status::stale) {
+                return put;
+            }
+        }
     }
     // Puts if the key is absent, as an entry of the generation that `begun()` says at each try. stale: that has ended.
     template <class Begun> Stored put_new(const Identity &key, const V &value, const Ends &ends, const Begun &begun) noexcept {

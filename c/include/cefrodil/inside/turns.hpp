@@ -120,6 +120,8 @@ template <size_t Words, class Beside = NothingBeside> class Turns : public Passe
     // How often a lookup is repeated that is a miss if it stays busy.
     const uint32_t &looks() const noexcept { return looks_; }
     uint32_t shards() const noexcept { return shards_; }
+    // How many keys a shard has room for.
+    uint32_t places() const noexcept { return static_cast<uint32_t>(room_ / shards_); }
     // Whether the number of keys has a bound below the room. Relaxed: a put and a count of the keys are in an order by the turn of the key's shard. If the
     // put is the later one, it sees the bound that was set before the count.
     bool is_bounded() const noexcept { return bound_.load(std::memory_order_relaxed) != 0; }
@@ -154,10 +156,10 @@ template <size_t Words, class Beside = NothingBeside> class Turns : public Passe
         const uint64_t most = capacity();
         return status == Status::ok && number >= most && evict_some(key, number - most + 1, evict) != 0;
     }
-    // Whether the index has the key.
+    // Whether the index has the key. It tries once: if other threads keep it from that, the key counts as a new one.
     bool has(uint64_t key) noexcept {
         std::array<uint64_t, Words> value;
-        return get(this->own_slot(), key, looks_, value).status == Status::ok;
+        return get(this->own_slot(), key, 0, value).status == Status::ok;
     }
 
   private:
