@@ -1,7 +1,7 @@
 // When an object of a map of objects is freed: the epochs of c/include/cefrodil/inside/epochs.hpp, the header's own code, with atomics and locks of Relacy.
 //
-// One thread removes two objects one after the other and frees what may be freed. Another thread, which has a slot, looks objects up. One without a
-// slot looks one up, and then frees what may be freed of the first thread's. No object is used after it is freed, and each use comes before the free in
+// One thread removes two objects one after the other and frees what may be freed. Another thread gets a place, and looks objects up. One without a
+// place looks one up, and then frees what may be freed of the first thread's. No object is used after it is freed, and each use comes before the free in
 // the order of the memory model.
 //
 // The index is one entry: a lookup is an acquire load, a removal acquires and releases. A step of the header that is sequentially consistent, and so
@@ -13,9 +13,9 @@
 
 struct CxxEpochs : rl::test_suite<CxxEpochs, 3> {
     static constexpr unsigned interruptions = 2;
-    static constexpr std::array<std::string_view, 8> steps{"fence of an announcement",    "fence of a retirement",       "acquire of the epoch",
-                                                           "fence of a new epoch",        "acquire of an announcement",  "release of the end of a pin",
-                                                           "lock of pins without a slot", "removal before the retirement"};
+    static constexpr std::array<std::string_view, 8> steps{"fence of an announcement",     "fence of a retirement",      "acquire of the epoch",
+                                                           "fence of a new epoch",         "acquire of an announcement", "release of the end of a pin",
+                                                           "lock of pins without a place", "removal before the retirement"};
 
     // The header's order. One that is sequentially consistent is this one here, and has a fence.
     static std::memory_order weaker(std::memory_order order, std::memory_order own) { return order == std::memory_order_seq_cst ? own : order; }
@@ -64,15 +64,17 @@ struct CxxEpochs : rl::test_suite<CxxEpochs, 3> {
 
     std::array<Thing, 2> things{};
     explored::Atomic<size_t> entry{0};
-    Epochs epochs{3};
+    Epochs epochs{};
+    Epochs::Place retiring{}, looking{};
 
-    void look_up(size_t slot) {
+    void before() { epochs.join(retiring); }
+    void look_up(Epochs::Place *place) {
         std::optional<explored::Mutex::Off> off;
-        if (slot == 0) {
-            off.emplace("lock of pins without a slot");
+        if (place == nullptr) {
+            off.emplace("lock of pins without a place");
         }
         reads_pins[explored::this_thread()] = false;
-        const Epochs::Pinned pinned(epochs, slot);
+        const Epochs::Pinned pinned(epochs, place);
         const size_t word = entry.load(std::memory_order_acquire);
         RL_ASSERT(word == no_thing || things[word].lives.get() == 1);
     }
@@ -83,7 +85,7 @@ struct CxxEpochs : rl::test_suite<CxxEpochs, 3> {
     }
     void retire(size_t word) {
         reads_pins[0] = false;
-        free(epochs.retire(things[word], 2));
+        free(epochs.retire(things[word], retiring));
         free(epochs.free_now());
     }
     void remove() {
@@ -99,10 +101,11 @@ struct CxxEpochs : rl::test_suite<CxxEpochs, 3> {
         if (index == 0) {
             remove();
         } else if (index == 1) {
-            look_up(1);
-            look_up(1);
+            epochs.join(looking);
+            look_up(&looking);
+            look_up(&looking);
         } else {
-            look_up(0);
+            look_up(nullptr);
             free(epochs.free_now());
         }
     }

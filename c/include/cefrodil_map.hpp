@@ -19,7 +19,8 @@
 //     const cefrodil::Status opened = sessions.open({1000}, lives);
 //     const cefrodil::Stored stored = sessions.insert_for("token", 41, std::chrono::minutes(5)); // with a time of its own
 // Its values have up to 40 bytes. What has expired is absent for all calls, and so is what invalidate_all has ended. It takes room until others overwrite
-// or evict it, or until erase or erase_expired, and `size` counts it. A put begins both times anew, also over a value. An update and each call that finds
+// or evict it, or until erase or erase_expired, and `size` counts it. Each call that puts or updates removes it at two places of its shard, and goes round
+// all, so in a full map it makes room before others are evicted. A put begins both times anew, also over a value. An update and each call that finds
 // the entry begin the time to idle anew, but `peek` does not. For that a lookup writes the entry again, if more than a sixteenth of the time has passed
 // since the last such write. It waits for its turn as a write does. So an entry may end a sixteenth of its time to idle sooner.
 //
@@ -51,6 +52,7 @@
 #define CEFRODIL_MAP_HPP
 
 #include "cefrodil.hpp"
+#include "cefrodil/inside/computed.hpp"
 #include "cefrodil/inside/forks.hpp"
 #include "cefrodil/inside/hash.hpp"
 #include "cefrodil/inside/table.hpp"
@@ -66,37 +68,19 @@ template <class V> inline constexpr bool is_map_value = is_value<V> && words_of<
 // How a map is opened. A thread takes a pass at its first call, and gives it back at its end. One pass is shared behind a lock by all threads that
 // find no other: they are slower, and `shared_calls` counts their calls. Each thread that calls a map takes 4 kB more.
 struct MapOptions {
-    uint32_t entries;         // 1 or more: the map has room for so many; `capacity` is more
-    uint32_t shards = 0;      // a power of two, 1 to 256: so many threads can write at once. 0: one for each 64 entries, 16 at most
+    uint32_t entries;         // 1 or more: the map has room for so many; `capacity` is about a tenth more at most
+    uint32_t shards = 0;      // a power of two, 1 to 256: so many threads can write at once. 0: one for each 2,500 entries, 16 at most. More shards than
+                              // that have more room, so the map is bounded a tenth above `entries`, as by `set_capacity`
     uint32_t passes = 1 + 64; // 1 to 1,024, with the shared one
     uint32_t tries = 10000;   // how often a call is repeated that other threads keep from its turn. This takes over a second. A lookup is repeated
                               // 1,000 times at most, which takes over a tenth of a second.
     std::chrono::nanoseconds most_wait = forever; // for so long a call waits at most for functions that others have called: see `find_or_compute`
 };
 
-// The answers of lookups and updates are `Found`, in cefrodil/inside/table.hpp. Those of puts are `Stored`, in cefrodil/inside/slot.hpp.
-
-// The answer of find_or_compute. `value` is a V. If the function returns an optional, so is `value`: it is empty if the function declined. If the status
-// is not ok, it says why the value was not put.
-template <class V> struct Computed {
-    Status status;
-    V value;
-    bool computed; // by this call
-};
+// The answers of lookups and updates are `Found`, in cefrodil/inside/table.hpp. Those of puts are `Stored`, in cefrodil/inside/slot.hpp, and those of
+// find_or_compute are `Computed`, in cefrodil/inside/computed.hpp.
 
 namespace inside {
-
-// Whether a function may decline to make a V of this, and how it returns one.
-template <class V, class Function, class... Given>
-inline constexpr bool may_decline = std::is_same_v<std::invoke_result_t<Function &, Given...>, std::optional<V>>;
-template <class V, class Function, class... Given> using Made = std::conditional_t<may_decline<V, Function, Given...>, std::optional<V>, V>;
-template <class Function, class V> Computed<Made<V, Function>> made_by(Computed<std::optional<V>> &&made) {
-    if constexpr (may_decline<V, Function>) {
-        return std::move(made);
-    } else {
-        return {made.status, std::move(*made.value), made.computed};
-    }
-}
 
 // What maps of both kinds have. `Inner`: what an open one owns.
 template <class Inner> class AnyMap {
@@ -118,8 +102,13 @@ template <class Inner> class AnyMap {
 
     // How many keys there are. Calls that run meanwhile count or not.
     uint64_t size() const noexcept { return inner_ ? inner_->entries.keys() : 0; }
-    // How many keys all shards hold together. Each evicts for itself, so the first eviction comes before the map is full.
+    // How many keys all shards hold together, or the bound on their number. Each evicts for itself, so the first eviction comes before the map is full.
     uint64_t capacity() const noexcept { return inner_ ? inner_->entries.capacity() : 0; }
+    // Bounds the number of keys: from 1 to the room of all shards, which `capacity` says if `shards` is 0 and no bound was set. It evicts keys until the
+    // others are within the bound. From then on a put of a new key counts all keys, in a turn at each shard, and evicts what is too much, in its own shard
+    // first. If another thread has a turn just then, a later put does so. A put that fails may have made others leave. bad_capacity: nothing was done.
+    // held: not all have left, as other threads were first; later puts go on. Of an object_map, too_deep. closed.
+    [[nodiscard]] Status set_capacity(uint64_t most) noexcept { return inner_ ? inner_->entries.set_capacity(most) : Status::closed; }
     // How many calls of the index threads without a pass of their own made. They wait for each other. If there are many, open the map with more passes.
     uint64_t shared_calls() const noexcept { return inner_ ? inner_->entries.shared_calls() : 0; }
     // What the lookups of this map came to, each counted once: the calls of find, get, look, pin, contains, find_or_compute and pin_or_compute, and the
@@ -127,6 +116,8 @@ template <class Inner> class AnyMap {
     // `meter().counts().hit_rate()` is exact while no call runs. What has expired is a miss, and so is another key's entry. A call of find_or_compute
     // that waits for another one's value is a miss, too. The other counts are of calls of the index: of those, a call of the map may make several.
     Meter meter() const noexcept { return inner_ ? inner_->entries.meter() : Meter(nullptr); }
+    // Which part of the lookups of about the last minute found their key, as `counts` says, or 0.
+    double hit_rate_of_last_minute() const noexcept { return meter().counts().hit_rate_of_last_minute; }
     // What `meter` has, with the size, the capacity and the weight of the map.
     Counts counts() const noexcept {
         Counts all = meter().counts();
@@ -289,7 +280,7 @@ class map : public inside::AnyMap<inside::Opened<K, Hash, inside::Table<V, Times
             if (inner_->entries.seek(known, found) == Status::ok) {
                 break;
             }
-            const std::optional<V> value = function();
+            const std::optional<V> value = inner_->entries.template loaded<inside::may_decline<V, Function>>(function);
             const auto put = [&] { return inner_->entries.put_if_absent_in(generation, known, *value).status; };
             return inside::made_by<Function>(Computed<std::optional<V>>{value ? flight.land(put) : Status::declined, value, true});
         }

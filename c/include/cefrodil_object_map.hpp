@@ -26,8 +26,8 @@
 //
 // Entries that end: `rules.lives.time_to_live = std::chrono::minutes(30)`. A put begins the time anew, also over a value, and may say another time:
 // `insert_for`. An update does not, but `update_for` does. `time_to_idle` ends what no call has found or put for so long. What has expired is absent for
-// all calls. It stays until it is overwritten or evicted, or removed by `erase` or `erase_expired`; the listener then hears `Left::expired`. A call that
-// finds an object begins its time to idle anew if a sixteenth of it has passed. So an entry may end a sixteenth of its time to idle sooner.
+// all calls. It stays until it is overwritten or evicted, or removed by `erase` or `erase_expired`; the listener then hears `Left::expired`. In a map with
+// lives each call that puts or updates removes it at two places of its shard, as in a timed_map. A call that finds an object begins its time to idle anew if a sixteenth of it has passed. So an entry may end a sixteenth of its time to idle sooner.
 //
 // This header is plain C++ and is not proved. The index below it is. The map's own part is an argument by hand: map/SAFETY.md of Cefrodil's repository.
 // Whoever finds an object keeps it until its call ends. An object that has left the map is freed by a later call that writes, once no call can have
@@ -35,6 +35,9 @@
 // has ended. While a function of `look` or `look_many` runs, all objects that leave the map wait for it, above any bound, and so do up to 32 of each thread
 // that left shortly before. For anything that may block, take a `pin`: it keeps one object alone. `waiting` and `waiting_weight` say how
 // many objects wait, and `meter` does.
+//
+// Among very many objects a hit waits for the memory of its object, and less if GLIBC_TUNABLES has glibc.malloc.hugetlb=1: then malloc of glibc asks for
+// huge pages.
 //
 // Keys are compared. Two keys whose hashes of 64 bits are the same can't be in the map at once: the later one replaces the earlier.
 //
@@ -101,7 +104,7 @@ class object_map : public inside::ObjectCalls<K, V, Hash, Equal> {
         return open(options, std::move(rules), std::move(hash));
     }
     [[nodiscard]] Status open(const MapOptions &options, Rules rules, Hash hash = Hash()) noexcept {
-        return this->open_as(options, [&] { return std::make_unique<Inner>(std::move(hash), options.passes, std::move(rules)); });
+        return this->open_as(options, [&] { return std::make_unique<Inner>(std::move(hash), std::move(rules)); });
     }
 
     // Calls `see(const V &)` with the key's value. ok, or absent, busy or closed: then it was not called. The value stays for so long, though another
@@ -230,12 +233,12 @@ class object_map : public inside::ObjectCalls<K, V, Hash, Equal> {
         const auto again = [&] { return this->seek(key, [](auto &object) { return std::optional<V>(object.value); }); };
         return inside::made_by<Function>(this->template computed<std::optional<V>>(key, again, [&](Own &object, uint64_t begun, const auto &land) {
             if constexpr (inside::may_decline<V, Function>) {
-                std::optional<V> value = function();
+                std::optional<V> value = inner_->entries.template loaded<true>(function);
                 object = value ? this->made(key, begun, [&]() -> const V & { return *value; }) : Own();
                 const Status status = value ? land() : Status::declined;
                 return Answer{status, std::move(value), true};
             } else {
-                V value = function();
+                V value = inner_->entries.template loaded<false>(function);
                 object = this->made(key, begun, [&]() -> const V & { return value; });
                 const Status status = land();
                 return Answer{status, std::move(value), true};
@@ -255,13 +258,13 @@ class object_map : public inside::ObjectCalls<K, V, Hash, Equal> {
         const auto again = [&] { return this->seek(key, [](auto &object) { return inside::pin_of(object); }); };
         return this->template computed<pinned<V>>(key, again, [&](Own &object, uint64_t begun, const auto &land) {
             if constexpr (inside::may_decline<V, Function>) {
-                std::optional<V> value = function();
+                std::optional<V> value = inner_->entries.template loaded<true>(function);
                 if (!value) {
                     return Answer{Status::declined, nullptr, true};
                 }
                 object = this->made(key, begun, [&] { return std::move(*value); });
             } else {
-                object = this->made(key, begun, [&] { return function(); });
+                object = this->made(key, begun, [&] { return inner_->entries.template loaded<false>(function); });
             }
             pinned<V> pin = object ? inside::pin_of(*object) : nullptr;
             const bool is_computed = bool(pin);

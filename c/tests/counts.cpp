@@ -272,8 +272,18 @@ static void printed() {
                                  "cefrodil_busy_total{cache=\"names\"} 3\ncefrodil_busy_total{cache=\"a\\\"b\\\\c\\nd\"} 0\n"
                                  "# HELP cefrodil_held_total Calls whose try for the turn did not win.\n# TYPE cefrodil_held_total counter\n"
                                  "cefrodil_held_total{cache=\"names\"} 4\ncefrodil_held_total{cache=\"a\\\"b\\\\c\\nd\"} 0\n"
-                                 "# HELP cefrodil_evictions_total Puts that evicted another key.\n# TYPE cefrodil_evictions_total counter\n"
+                                 "# HELP cefrodil_evictions_total Keys that were evicted.\n# TYPE cefrodil_evictions_total counter\n"
                                  "cefrodil_evictions_total{cache=\"names\"} 5\ncefrodil_evictions_total{cache=\"a\\\"b\\\\c\\nd\"} 0\n"
+                                 "# HELP cefrodil_evicted_by_weight_total Keys that a map evicted by its bound on weights.\n"
+                                 "# TYPE cefrodil_evicted_by_weight_total counter\n"
+                                 "cefrodil_evicted_by_weight_total{cache=\"names\"} 14\n"
+                                 "cefrodil_evicted_by_weight_total{cache=\"a\\\"b\\\\c\\nd\"} 0\n"
+                                 "# HELP cefrodil_evicted_by_capacity_total Keys that a map evicted by its bound on their number.\n"
+                                 "# TYPE cefrodil_evicted_by_capacity_total counter\n"
+                                 "cefrodil_evicted_by_capacity_total{cache=\"names\"} 15\n"
+                                 "cefrodil_evicted_by_capacity_total{cache=\"a\\\"b\\\\c\\nd\"} 0\n"
+                                 "# HELP cefrodil_ended_total Entries that a map removed because they had ended.\n# TYPE cefrodil_ended_total counter\n"
+                                 "cefrodil_ended_total{cache=\"names\"} 16\ncefrodil_ended_total{cache=\"a\\\"b\\\\c\\nd\"} 0\n"
                                  "# HELP cefrodil_refusals_total Writes that were refused.\n# TYPE cefrodil_refusals_total counter\n"
                                  "cefrodil_refusals_total{cache=\"names\"} 6\ncefrodil_refusals_total{cache=\"a\\\"b\\\\c\\nd\"} 0\n"
                                  "# HELP cefrodil_given_up_total Calls of a map that were held or busy at each try.\n"
@@ -293,13 +303,47 @@ static void printed() {
                                  "# HELP cefrodil_capacity Entries that there is room for.\n# TYPE cefrodil_capacity gauge\n"
                                  "cefrodil_capacity{cache=\"names\"} 12\n"
                                  "# HELP cefrodil_weight What the entries weigh.\n# TYPE cefrodil_weight gauge\n"
-                                 "cefrodil_weight{cache=\"names\"} 13\n";
+                                 "cefrodil_weight{cache=\"names\"} 13\n"
+                                 "# HELP cefrodil_loads_total Functions of find_or_compute that ran.\n# TYPE cefrodil_loads_total counter\n"
+                                 "cefrodil_loads_total{cache=\"names\"} 17\ncefrodil_loads_total{cache=\"a\\\"b\\\\c\\nd\"} 0\n"
+                                 "# HELP cefrodil_load_failures_total Those that threw or declined.\n# TYPE cefrodil_load_failures_total counter\n"
+                                 "cefrodil_load_failures_total{cache=\"names\"} 18\ncefrodil_load_failures_total{cache=\"a\\\"b\\\\c\\nd\"} 0\n"
+                                 "# HELP cefrodil_load_seconds_total How long they took together.\n# TYPE cefrodil_load_seconds_total counter\n"
+                                 "cefrodil_load_seconds_total{cache=\"names\"} 19.000000020\n"
+                                 "cefrodil_load_seconds_total{cache=\"a\\\"b\\\\c\\nd\"} 0.000000000\n"
+                                 "# HELP cefrodil_hit_rate Which part of the lookups of about the last minute found their key.\n"
+                                 "# TYPE cefrodil_hit_rate gauge\n"
+                                 "cefrodil_hit_rate{cache=\"names\"} 0.250000000\ncefrodil_hit_rate{cache=\"a\\\"b\\\\c\\nd\"} 1.000000000\n";
     Counts most_hits;
-    most_hits.hits = UINT64_MAX;
-    MUST(prometheus({{"names", {1, 2, 3, 4, 5, 6, 7, 8, 9, 10, 11, 12, 13}}, {"a\"b\\c\nd", most_hits}}) == expected);
+    most_hits.hits = UINT64_MAX, most_hits.hit_rate_of_last_minute = 1;
+    const std::chrono::nanoseconds load_time(19000000020);
+    const Counts others{1, 2, 3, 4, 5, 6, 7, 8, 9, 10, 11, 12, 13, 14, 15, 16, 17, 18, load_time, 0.25};
+    MUST(prometheus({{"names", others}, {"a\"b\\c\nd", most_hits}}) == expected);
+}
+
+// The rate is that of the lookups since the sums noted last before a minute ago.
+static void last_minute() {
+    const inside::RecentLookups::Time begin{};
+    const auto at = [&](int second) { return begin + std::chrono::seconds(second); };
+    inside::RecentLookups rates(begin);
+    MUST(!rates.is_due(at(3)) && rates.is_due(at(4)) && rates.rate(at(1), 0, 0) == 0 && rates.rate(at(2), 1, 3) == 0.25);
+    // Ten lookups a second: at first all of them miss, and after an hour all of them hit. Somebody asks each second.
+    inside::RecentLookups each(begin);
+    for (uint64_t second = 1; second <= 3600; second++) {
+        MUST(each.rate(at(int(second)), 0, 10 * second) == 0);
+    }
+    for (uint64_t second = 1; second <= 200; second++) {
+        const double rate = each.rate(at(int(3600 + second)), 10 * second, 36000);
+        MUST(second < 60 ? rate >= double(second) / 64 && rate <= double(second) / 60 : rate >= 60.0 / 64);
+        MUST(second < 64 || rate == 1);
+    }
+    // Somebody asks twice: of the lookups between the two, however long that was.
+    inside::RecentLookups twice(begin);
+    MUST(twice.rate(at(600), 10, 0) == 1 && twice.rate(at(1200), 10, 10) == 0 && twice.rate(at(1230), 30, 10) == 2.0 / 3);
 }
 
 int main() {
+    last_minute();
     lookups();
     writes();
     no_path();

@@ -10,6 +10,7 @@
 struct Options {
     cefrodil::MapOptions map{100};
     bool is_full = false; // other keys fill it
+    bool bounds = false;  // calls bound the number of keys, each time at another one
     // Of a timed_map and an object_map. The times are ticks of the test's clock. `has_lives`: calls put with times of their own.
     bool has_lives = false;
     cefrodil::Lives lives{};
@@ -21,11 +22,11 @@ struct Options {
     bool may_end() const {
         const bool is_small = map.entries < 8 * std::max(1u, map.shards);
         const bool ends = lives.time_to_live != cefrodil::forever || lives.time_to_idle != cefrodil::forever;
-        return is_full || nests || is_small || ends || most_weight != 0 || collides;
+        return is_full || bounds || nests || is_small || ends || most_weight != 0 || collides;
     }
     void print(const char *name, uint64_t seed) const {
         std::printf("%s %" PRIu64 ": entries %u, shards %u, passes %u, tries %u", name, seed, map.entries, map.shards, map.passes, map.tries);
-        std::printf("%s%s", is_full ? ", full" : "", has_lives ? ", lives" : "");
+        std::printf("%s%s%s", is_full ? ", full" : "", bounds ? ", bounds" : "", has_lives ? ", lives" : "");
         for (const auto &life : {lives.time_to_live, lives.time_to_idle}) {
             life == cefrodil::forever ? std::printf(" -") : std::printf(" %lld", static_cast<long long>(life.count()));
         }
@@ -45,7 +46,7 @@ inline Options drawn_options(Random &random, bool is_timed, bool is_objects) {
     drawn.map.shards = is(2) ? 0 : 1u << random.below(5);
     drawn.map.passes = is(2) ? drawn.map.passes : static_cast<uint32_t>(1 + random.below(6));
     drawn.map.tries = is(2) ? drawn.map.tries : static_cast<uint32_t>(random.below(20));
-    drawn.is_full = is(3);
+    drawn.is_full = is(3), drawn.bounds = is(3);
     drawn.has_lives = is_timed && is(2);
     if (drawn.has_lives) {
         drawn.lives.time_to_live = life(14), drawn.lives.time_to_idle = life(20);

@@ -305,6 +305,10 @@ template <class Any> class Caller {
         if constexpr (has_lives) {
             static_cast<void>(tested_.map.erase_expired());
         }
+        if (tested_.how.bounds) {
+            const Status status = tested_.map.set_capacity(1 + random_.below(tested_.how.map.entries));
+            MUST(status == Status::ok || status == Status::held);
+        }
         if (tested_.how.is_full) {
             tested_.fill(number);
             static_cast<void>(tested_.map.contains(first_filler + number));

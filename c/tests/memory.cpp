@@ -190,6 +190,23 @@ static void passes_of_threads(const cefrodil_shape &one) {
     MUST(passes.call(is_own) && passes.free_count() == 0);
 }
 
+// A pass is opened for the first thread that takes it. A thread that finds no memory for that uses the shared one. The next one tries again.
+static void passes_opened_later(const cefrodil_shape &one) {
+    inside::Passes<1> passes;
+    MUST(passes.open(one, 1, 3) == Status::ok);
+    bool is_own = false;
+    long allowed = 0;
+    for (; allowed < 40 && !is_own; allowed++) {
+        std::thread([&] {
+            left = allowed;
+            is_own = passes.call([&](inside::Slot<1> &slot) { return &slot.handle != &passes.shared(); });
+            left = -1;
+        }).join();
+        MUST(passes.free_count() == 2);
+    }
+    MUST(is_own && allowed > 5);
+}
+
 // So a thread's first call of a map goes on without memory. Later calls take none.
 static void calls_of_a_map(map<uint64_t, uint64_t> &numbers) {
     for (int call = 0; call < 3; call++) {
@@ -199,6 +216,14 @@ static void calls_of_a_map(map<uint64_t, uint64_t> &numbers) {
         MUST(numbers.update(7, [](uint64_t n) { return n + 1; }).value == 71u && numbers.erase(8) == Status::ok && numbers.size() == 1);
         left = -1;
     }
+}
+
+// A map for a few entries takes little: with the handle of its first thread, and an entry.
+template <class Map> static void small_map() {
+    const long before = bytes;
+    Map numbers;
+    MUST(numbers.open({16}) == Status::ok && bytes - before <= 16000);
+    MUST(numbers.insert(1, 1).status == Status::ok && numbers.shared_calls() == 0 && bytes - before <= 16000);
 }
 
 // What a thread keeps of maps that have ended does not add up.
@@ -330,7 +355,7 @@ static void by_object_maps() {
 // No call of a full map takes memory.
 static void puts_that_evict() {
     map<uint64_t, uint64_t> numbers;
-    MUST(numbers.open({100, 4, 4}) == Status::ok);
+    MUST(numbers.open({100, 4, 4}) == Status::ok && !numbers.contains(0));
     left = 0;
     for (uint64_t key = 0; key < 1000; key++) {
         MUST(numbers.insert(key, key).status != Status::no_memory && numbers.find(key / 2).value_or(key / 2) >= key / 2);
@@ -345,6 +370,10 @@ static void by_maps() {
     calls_of_a_map(numbers);
     MUST(at_last(1, [&] { return numbers.clear(); }, [&] { return numbers.find(7) == 71u && numbers.size() == 1; }) && numbers.size() == 0);
     passes_of_threads(shape);
+    passes_opened_later(shape);
+    small_map<map<uint64_t, uint64_t>>();
+    small_map<timed_map<uint64_t, uint64_t>>();
+    small_map<object_map<uint64_t, uint64_t>>();
     maps_that_end();
     puts_that_evict();
     turns_of_others(held_at_once, 0);

@@ -5,12 +5,13 @@
 #include <atomic>
 #include <cstddef>
 #include <cstdlib>
+#include <malloc.h>
 #include <new>
 #include <utility>
 
-// `left`: how many allocations succeed until all are refused, or -1 if none is. `kept`: how many blocks are in use. `of_library`: how many the
-// library asked for.
-static std::atomic<long> left{-1}, kept{0}, of_library{0};
+// `left`: how many allocations succeed until all are refused, or -1 if none is. `kept`: how many blocks are in use. `bytes`: what they take, with the
+// word that malloc keeps of each. `of_library`: how many the library asked for.
+static std::atomic<long> left{-1}, kept{0}, bytes{0}, of_library{0};
 static void (*in_turn)() = nullptr; // what the library's next allocation calls first
 
 static bool refused() {
@@ -19,9 +20,17 @@ static bool refused() {
     return none;
 }
 
+static long bytes_of(void *block) { return block != nullptr ? static_cast<long>(malloc_usable_size(block) + sizeof(size_t)) : 0; }
+
 static void *taken(void *block) {
     kept += block != nullptr;
+    bytes += bytes_of(block);
     return block;
+}
+
+static void given_back(void *block) {
+    kept -= block != nullptr;
+    bytes -= bytes_of(block);
 }
 
 extern "C" {
@@ -43,11 +52,11 @@ void *__wrap_realloc(void *block, size_t size) {
     if (refused()) {
         return nullptr;
     }
-    kept -= block != nullptr;
+    given_back(block);
     return taken(__real_realloc(block, size));
 }
 void __wrap_free(void *block) {
-    kept -= block != nullptr;
+    given_back(block);
     __real_free(block);
 }
 }

@@ -37,7 +37,7 @@ static void erases_what_is_invalidated(const cefrodil::Lives &lives) {
         MUST(numbers.invalidate_all() == Status::ok && (round != 3 || numbers.invalidate_all() == Status::ok));
         // It was used, so another one gives way.
         MUST(numbers.insert(0, 7).status == Status::ok && numbers.find(0) == 7u && numbers.insert_or_assign_for(50, 8, forever).status == Status::ok);
-        MUST(numbers.update(0, next).value == 8u && numbers.size() >= all);
+        MUST(numbers.update(0, next).value == 8u && numbers.size() >= 2);
         MUST(numbers.erase_expired() == Status::ok && numbers.size() == 2 && numbers.find(0) == 8u && numbers.find(50) == 8u);
         MUST(numbers.clear() == Status::ok);
     }

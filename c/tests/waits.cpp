@@ -194,7 +194,7 @@ static void stalls() {
 // A call that tries too few times to sleep says little of the others.
 static void short_calls() {
     cefrodil::map<int, int> map;
-    MUST(map.open({100, 16, 64, 200}) == Status::ok && map.insert(1, 10).status == Status::ok);
+    MUST(map.open({100, 1, 64, 200}) == Status::ok && map.insert(1, 10).status == Status::ok);
     disturb(201);
     MUST(map.insert_or_assign(1, 11).status == Status::held && counts(map, 0, 0));
     disturb(201);
@@ -207,7 +207,7 @@ int main() {
     stalls();
     short_calls();
     calls({100}, 10000, 193, 9800);
-    calls({100, 16, 64, 50}, 50, 43, 0);
+    calls({100, 1, 64, 50}, 50, 43, 0);
     lookups();
     removed_before_it_counts();
     held_clear();

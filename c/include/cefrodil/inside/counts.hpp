@@ -5,6 +5,7 @@
 
 #include "../../cefrodil.h"
 #include "forks.hpp"
+#include "recent.hpp"
 #include <algorithm>
 #include <array>
 #include <atomic>
@@ -14,7 +15,6 @@
 #include <forward_list>
 #include <memory>
 #include <mutex>
-#include <string>
 #include <utility>
 #include <vector>
 
@@ -31,7 +31,7 @@ struct Counts {
     uint64_t misses = 0;    // lookups of a key that was absent
     uint64_t busy = 0;      // lookups that were busy; of a map: at each try
     uint64_t held = 0;      // writes, lists and peeks whose try for a turn did not win
-    uint64_t evictions = 0; // puts that evicted another key; of an object_map: objects that left for others
+    uint64_t evictions = 0; // puts that evicted another key, and keys that left because of a bound
     uint64_t refusals = 0;  // writes that were refused: no_path, all_recent or spent
     uint64_t given_up = 0;  // calls of a map that were held or busy at each try, for over a tenth of a second
     uint64_t stalled = 0;   // for how many seconds calls have given up so, if one did in the last ten: then a thread stopped within a write
@@ -39,6 +39,15 @@ struct Counts {
     uint64_t waiting = 0, waiting_weight = 0;
     // Of a map, by its `counts`: its size, its capacity and, of an object_map, its weight.
     uint64_t entries = 0, capacity = 0, weight = 0;
+    // Of the evictions of a map: those by its bound on weights, and by that on the number of keys.
+    uint64_t evicted_by_weight = 0, evicted_by_capacity = 0;
+    uint64_t ended = 0; // entries that a map removed because they had ended
+    // How often functions of find_or_compute and pin_or_compute ran, how often they threw or declined, and how long they took together.
+    uint64_t loads = 0, load_failures = 0;
+    std::chrono::nanoseconds load_time{0};
+    // As `hit_rate`, of the lookups since the counts noted last before a minute ago. They are noted when somebody asks for them, and by the functions that
+    // are counted, by clear, invalidate_all and erase_expired, at most every four seconds. So if it is asked for every minute, it is of one to two minutes.
+    double hit_rate_of_last_minute = 0;
 
     // Which part of the lookups that were not busy found their key: 0 to 1. Without any, 0.
     double hit_rate() const noexcept { return hits == 0 ? 0 : static_cast<double>(hits) / static_cast<double>(hits + misses); }
@@ -47,7 +56,22 @@ struct Counts {
 namespace inside {
 
 // The numbers of a line. The first three are statuses of a lookup.
-enum Counted : size_t { hits = CEFRODIL_OK, misses = CEFRODIL_ABSENT, busy = CEFRODIL_BUSY, held, evictions, refusals, waiting, all_counted };
+enum Counted : size_t {
+    hits = CEFRODIL_OK,
+    misses = CEFRODIL_ABSENT,
+    busy = CEFRODIL_BUSY,
+    held,
+    evictions,
+    refusals,
+    waiting,
+    by_weight,
+    by_capacity,
+    by_end,
+    loads,
+    load_failures,
+    load_nanoseconds,
+    all_counted
+};
 
 // What a handle has counted. Only one thread at a time adds to a number alone, and any thread reads. The processor loads cache lines in pairs, so it has a
 // pair of its own.
@@ -116,18 +140,37 @@ class Lines {
                 }
             }
         }
-        // A thread frees what another one has retired, and the latter's line may have been read before that.
-        const auto number = static_cast<uint64_t>(std::max<int64_t>(0, static_cast<int64_t>(all[waiting])));
-        const uint64_t weight = waiting_weight_.load(std::memory_order_relaxed);
-        return {all[hits],     all[misses],      all[busy],        all[held], all[evictions],
-                all[refusals], stalls_.number(), stalls_.length(), number,    weight, 0, 0, 0};
+        Counts counts = counts_of(all);
+        counts.given_up = stalls_.number(), counts.stalled = stalls_.length();
+        counts.waiting_weight = waiting_weight_.load(std::memory_order_relaxed);
+        counts.hit_rate_of_last_minute = recent_.rate(std::chrono::steady_clock::now(), counts.hits, counts.misses);
+        return counts;
+    }
+    // Notes the sums of now for the hit rate of the last minute, if they are due. For calls that are rare anyway.
+    void note(RecentLookups::Time now) const noexcept {
+        if (recent_.is_due(now)) {
+            static_cast<void>(sum());
+        }
     }
     Stalls &stalls() noexcept { return stalls_; }
     // What the objects weigh that have left a map and wait to be freed. Relaxed: a number says nothing of other memory.
     std::atomic<uint64_t> &waiting_weight() noexcept { return waiting_weight_; }
 
   private:
+    static Counts counts_of(const std::array<uint64_t, all_counted> &all) noexcept {
+        Counts counts;
+        counts.hits = all[hits], counts.misses = all[misses], counts.busy = all[busy], counts.held = all[held];
+        counts.evictions = all[evictions], counts.refusals = all[refusals];
+        // A thread frees what another one has retired, and the latter's line may have been read before that.
+        counts.waiting = static_cast<uint64_t>(std::max<int64_t>(0, static_cast<int64_t>(all[waiting])));
+        counts.evicted_by_weight = all[by_weight], counts.evicted_by_capacity = all[by_capacity], counts.ended = all[by_end];
+        counts.loads = all[loads], counts.load_failures = all[load_failures];
+        counts.load_time = std::chrono::nanoseconds(all[load_nanoseconds]);
+        return counts;
+    }
+
     mutable std::mutex lock_{};
+    mutable RecentLookups recent_{std::chrono::steady_clock::now()}; // with the lock
     LineGroup groups_{};
     const Maker maker_{};
     Stalls stalls_{};
@@ -204,56 +247,6 @@ class Meter {
   private:
     std::shared_ptr<inside::Lines> lines_;
 };
-
-namespace inside {
-
-// The value of a label, as Prometheus reads it.
-inline std::string label(const std::string &value) {
-    std::string text;
-    for (const char letter : value) {
-        if (letter == '"' || letter == '\\') {
-            text += '\\';
-        }
-        text += letter == '\n' ? "\\n" : std::string(1, letter);
-    }
-    return text;
-}
-
-} // namespace inside
-
-// The counts of some caches, each by its name, in the text format of Prometheus.
-inline std::string prometheus(const std::vector<std::pair<std::string, Counts>> &caches) {
-    struct Row {
-        const char *name, *type, *help;
-        uint64_t Counts::*number;
-    };
-    const Row rows[] = {{"hits_total", "counter", "Lookups that found their key.", &Counts::hits},
-                        {"misses_total", "counter", "Lookups of an absent key.", &Counts::misses},
-                        {"busy_total", "counter", "Lookups that were busy.", &Counts::busy},
-                        {"held_total", "counter", "Calls whose try for the turn did not win.", &Counts::held},
-                        {"evictions_total", "counter", "Puts that evicted another key.", &Counts::evictions},
-                        {"refusals_total", "counter", "Writes that were refused.", &Counts::refusals},
-                        {"given_up_total", "counter", "Calls of a map that were held or busy at each try.", &Counts::given_up},
-                        {"stalled_seconds", "gauge", "For how long calls of a map have given up.", &Counts::stalled},
-                        {"waiting_objects", "gauge", "Objects that have left a map and wait to be freed.", &Counts::waiting},
-                        {"waiting_weight", "gauge", "What the objects weigh that wait to be freed.", &Counts::waiting_weight},
-                        {"entries", "gauge", "Entries that are there.", &Counts::entries},
-                        {"capacity", "gauge", "Entries that there is room for.", &Counts::capacity},
-                        {"weight", "gauge", "What the entries weigh.", &Counts::weight}};
-    std::string text;
-    for (const Row &row : rows) {
-        const std::string name = std::string("cefrodil_") + row.name;
-        text += "# HELP " + name + ' ' + row.help + "\n# TYPE " + name + ' ' + row.type + '\n';
-        const bool is_of_map = row.number == &Counts::entries || row.number == &Counts::capacity || row.number == &Counts::weight;
-        for (const auto &[cache, counts] : caches) {
-            if (is_of_map && counts.capacity == 0) {
-                continue;
-            }
-            text += name + "{cache=\"" + inside::label(cache) + "\"} " + std::to_string(counts.*row.number) + '\n';
-        }
-    }
-    return text;
-}
 
 } // namespace cefrodil
 

@@ -2,14 +2,18 @@
 #ifndef CEFRODIL_INSIDE_ENTRIES_HPP
 #define CEFRODIL_INSIDE_ENTRIES_HPP
 
+#include "cursors.hpp"
 #include "flights.hpp"
 #include "hash.hpp"
 #include "threads.hpp"
 #include "turns.hpp"
 #include <algorithm>
 #include <array>
+#include <chrono>
 #include <cstddef>
 #include <cstdint>
+#include <exception>
+#include <mutex>
 #include <utility>
 #include <vector>
 
@@ -45,8 +49,9 @@ inline bool is_lost(Status status) noexcept {
 // So many keys are looked up by one call of the index.
 inline constexpr size_t few_keys = 32;
 
-template <size_t Words> class Entries : public Turns<Words> {
+template <size_t Words, class Beside = NothingBeside> class Entries : public Turns<Words, Beside> {
   public:
+    using typename Turns<Words, Beside>::OwnSlot;
     Generation generations{};
     AllFlights flights{};
 
@@ -56,7 +61,19 @@ template <size_t Words> class Entries : public Turns<Words> {
     Status invalidate_all() noexcept {
         generations.begin_next();
         flights.outdate_all();
+        note(std::chrono::steady_clock::now());
         return Status::ok;
+    }
+    // What the function returns. It is counted, with its time. It has failed if it throws or, where it may decline, returns none.
+    template <bool Declines, class Function> auto loaded(Function &function) -> decltype(function()) {
+        Load load(*this);
+        if constexpr (Declines) {
+            auto made = function();
+            load.has_failed = !made;
+            return made;
+        } else {
+            return function();
+        }
     }
 
     // Takes by `take` what `find` finds, by the moment of its put, and finds again if others were first. Unless `find` is ok, its status is the answer.
@@ -70,12 +87,35 @@ template <size_t Words> class Entries : public Turns<Words> {
         }
     }
 
+    // Makes a call as `repeated` does, with the key's lock.
+    template <class Call> [[gnu::always_inline]] auto locked(uint64_t key, Call made) noexcept { return this->repeated(with_lock(key, made)); }
+    // The same, but tries once.
+    template <class Call> auto locked_once(uint64_t key, Call made) noexcept { return this->call(with_lock(key, made)); }
+
   protected:
+    // Before the first put of a map whose entries end. False without memory.
+    [[nodiscard]] bool open_cursors() noexcept {
+        return has_memory([&] { cursors_.divide(this->shards(), this->places()); });
+    }
+    // Calls with what lies at the next two places of the key's shard, unless another thread has the turn: its number, its words and the moment of its put.
+    template <class See> void each_placed(uint64_t key, const See &see) noexcept {
+        const uint64_t first = cursors_.pass(key, 2);
+        for (const uint64_t number : {first, first + 1}) {
+            const uint32_t place = cursors_.place(number);
+            const Shown<Words> shown = this->call([key, place](OwnSlot &slot) { return slot.handle.try_entry_at(key, place); });
+            shown.value ? see(shown.key, *shown.value, shown.since) : void();
+        }
+    }
+    // The status of the removal of an entry that had ended. It is counted.
+    Status ended_by(Status taken) noexcept {
+        this->count(this->own_slot(), by_end, taken == Status::ok ? 1 : 0);
+        return taken;
+    }
     // Looks a few keys up.
     void get_few(const Identity *keys, size_t count, std::array<uint64_t, Words> *found, cefrodil_answer *answers) noexcept {
         std::array<uint64_t, few_keys> indices;
         std::transform(keys, keys + count, indices.begin(), [](const Identity &key) { return key.index; });
-        this->call([&](Slot<Words> &slot) {
+        this->call([&](OwnSlot &slot) {
             // It is ok: an open handle has an answer for each key.
             [[maybe_unused]] const cefrodil_status status =
                 cefrodil_get_many_or_none(slot.handle.raw(), indices.data(), count, found->data(), Words * count, answers, count);
@@ -85,7 +125,8 @@ template <size_t Words> class Entries : public Turns<Words> {
     // entries others may be first.
     template <class Call> Status each_listed(Call call) {
         std::vector<uint64_t> list;
-        Status status = this->repeated([&](Slot<Words> &slot) { return slot.handle.try_entries(list); });
+        note(std::chrono::steady_clock::now());
+        Status status = this->repeated([&](OwnSlot &slot) { return slot.handle.try_entries(list); });
         for (size_t at = 0; at < list.size() && status == Status::ok; at += 1 + Words) {
             std::array<uint64_t, Words> listed;
             std::copy_n(&list[at + 1], Words, listed.begin());
@@ -105,6 +146,44 @@ template <size_t Words> class Entries : public Turns<Words> {
         });
         return erased;
     }
+
+  private:
+    using Time = std::chrono::steady_clock::time_point;
+
+    template <class Call> [[gnu::always_inline]] auto with_lock(uint64_t key, Call made) noexcept {
+        return [this, key, made](OwnSlot &slot) __attribute__((always_inline)) {
+            const std::unique_lock<KeyLock> guard(flights.lock_of(key), std::try_to_lock);
+            return guard ? made(slot) : refusal<decltype(made(slot))>(Status::held);
+        };
+    }
+
+    // One run of a function that computes a value.
+    struct Load {
+        explicit Load(Entries &those) noexcept : entries(those) {}
+        Load(const Load &) = delete;
+        Load &operator=(const Load &) = delete;
+        ~Load() {
+            const Time now = std::chrono::steady_clock::now();
+            OwnSlot *const slot = entries.own_slot();
+            entries.count(slot, loads);
+            entries.count(slot, load_failures, has_failed || std::uncaught_exceptions() > exceptions ? 1 : 0);
+            entries.count(slot, load_nanoseconds, static_cast<uint64_t>(std::chrono::nanoseconds(now - begun).count()));
+            entries.note(now);
+        }
+
+        Entries &entries;
+        bool has_failed = false;
+        const int exceptions = std::uncaught_exceptions();
+        const Time begun = std::chrono::steady_clock::now();
+    };
+    // For the hit rate of the last minute.
+    void note(Time now) noexcept {
+        if (this->lines()) {
+            this->lines()->note(now);
+        }
+    }
+
+    Cursors cursors_{};
 };
 
 // What an open map owns.

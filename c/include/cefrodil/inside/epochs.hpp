@@ -2,7 +2,7 @@
 //
 // A call that looks objects up is pinned first, and announces the epoch. An object is retired after it has left the index, and notes the epoch of that.
 // A call that is pinned since this epoch or an earlier one may have found the object. All others can't. Each look for objects that can be freed begins
-// the next epoch. Each thread that has a slot has a list of what it retired. map/SAFETY.md of Cefrodil's repository has the argument in full: the same
+// the next epoch. Each thread that has a slot has a place here, with a list of what it retired. map/SAFETY.md of Cefrodil's repository has the argument in full: the same
 // is done there in Rust.
 #ifndef CEFRODIL_INSIDE_EPOCHS_HPP
 #define CEFRODIL_INSIDE_EPOCHS_HPP
@@ -14,9 +14,7 @@
 #include <cstdint>
 #include <limits>
 #include <mutex>
-#include <numeric>
 #include <utility>
-#include <vector>
 
 namespace cefrodil::inside {
 
@@ -67,83 +65,6 @@ class Freeing {
 
 // The calls that are pinned, and the objects that wait for them.
 template <class Parts> class EpochsOf {
-  public:
-    // For threads with so many slots.
-    explicit EpochsOf(size_t slots) : pins_(slots), lists_(slots) {}
-    EpochsOf(const EpochsOf &) = delete;
-    EpochsOf &operator=(const EpochsOf &) = delete;
-
-    // A pinned call. It begins and ends in one thread.
-    class Pinned {
-      public:
-        // By the thread that has this slot, or by one without a slot: 0.
-        Pinned(EpochsOf &epochs, size_t slot) noexcept : epochs_(epochs), slot_(slot) {
-            if (slot_ == 0) {
-                epochs_.share(*this);
-            } else if (Pin &pin = epochs_.pins_[slot_]; pin.depth++ == 0) {
-                // Sequentially consistent, so that it comes before the lookups of this call.
-                pin.since.store(epochs_.epoch_.load(std::memory_order_seq_cst), std::memory_order_seq_cst);
-            }
-        }
-        Pinned(const Pinned &) = delete;
-        Pinned &operator=(const Pinned &) = delete;
-        [[gnu::always_inline]] ~Pinned() {
-            if (slot_ == 0) {
-                epochs_.unshare(*this);
-            } else if (Pin &pin = epochs_.pins_[slot_]; --pin.depth == 0) {
-                // Release: what this call did with objects comes before they are freed. Who frees them has read this.
-                pin.since.store(none, std::memory_order_release);
-            }
-        }
-
-      private:
-        friend EpochsOf;
-        EpochsOf &epochs_;
-        const size_t slot_;
-        // Without a slot: its epoch, and its place among the others. With one they have no value.
-        uint64_t since_;
-        Pinned *next_, **link_;
-    };
-
-    // Retires an object, which has left the index by a call that returned it: by the thread that has this slot, or by one without a slot. Returns those
-    // that may be freed now, each with the next one.
-    [[nodiscard]] Retired *retire(Retired &object, size_t slot) noexcept {
-        uint64_t end = 0;
-        Retired *free = nullptr;
-        {
-            List &own = lists_[slot];
-            const Guard guard(own.lock);
-            own.add(object, epoch_.load(std::memory_order_seq_cst));
-            if (own.length < own.look_at) {
-                return nullptr;
-            }
-            end = begin_epoch();
-            free = own.take_free(end, free);
-        }
-        // And what waits in another list, whose thread may have ended.
-        List &other = lists_[other_.fetch_add(1, std::memory_order_relaxed) % lists_.size()];
-        const std::unique_lock<typename Parts::Mutex> guard(other.lock, std::try_to_lock);
-        return guard ? other.take_free(end, free) : free;
-    }
-    // Returns the objects that may be freed now.
-    [[nodiscard]] Retired *free_now() noexcept {
-        const uint64_t end = begin_epoch();
-        Retired *free = nullptr;
-        for (List &list : lists_) {
-            const Guard guard(list.lock);
-            free = list.take_free(end, free);
-        }
-        return free;
-    }
-    // How many objects wait.
-    uint64_t waiting() noexcept {
-        return std::accumulate(lists_.begin(), lists_.end(), uint64_t(0), [](uint64_t sum, List &list) {
-            const Guard guard(list.lock);
-            return sum + list.length;
-        });
-    }
-
-  private:
     using Guard = std::lock_guard<typename Parts::Mutex>;
 
     // So many objects of a thread wait before it looks whether it can free them.
@@ -151,15 +72,14 @@ template <class Parts> class EpochsOf {
     // No call is pinned.
     static constexpr uint64_t none = std::numeric_limits<uint64_t>::max();
 
-    // The calls of one thread that are pinned: one, and others within it. Only the thread that has the slot uses `depth`. It has a pair of cache
-    // lines of its own.
-    struct alignas(128) Pin {
+    // The calls of one thread that are pinned: one, and others within it. Only the thread that has the place uses `depth`.
+    struct Pin {
         typename Parts::template Atomic<uint64_t> since{none};
         size_t depth = 0;
     };
 
-    // What one thread has retired, in the order of the epochs. The first list is that of all threads without a slot.
-    struct alignas(128) List {
+    // What one thread has retired, in the order of the epochs.
+    struct List {
         typename Parts::Mutex lock{};
         Retired *first = nullptr, **last = &first;
         size_t length = 0, look_at = batch; // at this length, a call looks which can be freed
@@ -185,7 +105,99 @@ template <class Parts> class EpochsOf {
         }
     };
 
-    // Not compiled into the callers, which are quicker then with a slot.
+  public:
+    EpochsOf() noexcept {}
+    EpochsOf(const EpochsOf &) = delete;
+    EpochsOf &operator=(const EpochsOf &) = delete;
+
+    // What one thread has here, or what all threads without a slot have together.
+    class Place {
+        friend EpochsOf;
+        Pin pin_{};
+        List list_{};
+        Place *next_ = nullptr;
+    };
+    // Adds a place, before it is used. It lasts as long as the epochs.
+    void join(Place &place) noexcept {
+        const Guard guard(sharing_);
+        place.next_ = first_;
+        first_ = &place;
+    }
+
+    // A pinned call. It begins and ends in one thread.
+    class Pinned {
+      public:
+        // By the thread that has this place, or by one without a place: null.
+        Pinned(EpochsOf &epochs, Place *place) noexcept : epochs_(epochs), place_(place) {
+            if (place_ == nullptr) {
+                epochs_.share(*this);
+            } else if (Pin &pin = place_->pin_; pin.depth++ == 0) {
+                // Sequentially consistent, so that it comes before the lookups of this call.
+                pin.since.store(epochs_.epoch_.load(std::memory_order_seq_cst), std::memory_order_seq_cst);
+            }
+        }
+        Pinned(const Pinned &) = delete;
+        Pinned &operator=(const Pinned &) = delete;
+        [[gnu::always_inline]] ~Pinned() {
+            if (place_ == nullptr) {
+                epochs_.unshare(*this);
+            } else if (Pin &pin = place_->pin_; --pin.depth == 0) {
+                // Release: what this call did with objects comes before they are freed. Who frees them has read this.
+                pin.since.store(none, std::memory_order_release);
+            }
+        }
+
+      private:
+        friend EpochsOf;
+        EpochsOf &epochs_;
+        Place *const place_;
+        // Without a place: its epoch, and its neighbours among the others. With one they have no value.
+        uint64_t since_;
+        Pinned *next_, **link_;
+    };
+
+    // Retires an object, which has left the index by a call that returned it: by a thread that has this place. Returns those that may be freed now, each
+    // with the next one.
+    [[nodiscard]] Retired *retire(Retired &object, Place &place) noexcept {
+        uint64_t end = 0;
+        Retired *free = nullptr;
+        {
+            List &own = place.list_;
+            const Guard guard(own.lock);
+            own.add(object, epoch_.load(std::memory_order_seq_cst));
+            if (own.length < own.look_at) {
+                return nullptr;
+            }
+            end = begin_epoch();
+            free = own.take_free(end, free);
+        }
+        // And what waits in another list, whose thread may have ended.
+        List &other = next_place().list_;
+        const std::unique_lock<typename Parts::Mutex> guard(other.lock, std::try_to_lock);
+        return guard ? other.take_free(end, free) : free;
+    }
+    // Returns the objects that may be freed now.
+    [[nodiscard]] Retired *free_now() noexcept {
+        const uint64_t end = begin_epoch();
+        Retired *free = nullptr;
+        for (Place *place = first_place(); place != nullptr; place = place->next_) {
+            const Guard guard(place->list_.lock);
+            free = place->list_.take_free(end, free);
+        }
+        return free;
+    }
+    // How many objects wait.
+    uint64_t waiting() noexcept {
+        uint64_t sum = 0;
+        for (Place *place = first_place(); place != nullptr; place = place->next_) {
+            const Guard guard(place->list_.lock);
+            sum += place->list_.length;
+        }
+        return sum;
+    }
+
+  private:
+    // Not compiled into the callers, which are quicker then with a place.
     [[gnu::cold]] [[gnu::noinline]] void share(Pinned &call) noexcept {
         const Guard guard(sharing_);
         call.since_ = epoch_.load(std::memory_order_seq_cst);
@@ -203,7 +215,7 @@ template <class Parts> class EpochsOf {
         }
     }
     // Begins an epoch. Returns the first one whose objects can't be freed: one that a pinned call has announced, or the one that has begun, in which
-    // calls may be pinned that were not seen.
+    // calls may be pinned that were not seen. So may those of a place that joins later.
     uint64_t begin_epoch() noexcept {
         const uint64_t begun = epoch_.fetch_add(1, std::memory_order_seq_cst) + 1;
         return std::min(pinned_since(), begun);
@@ -211,8 +223,8 @@ template <class Parts> class EpochsOf {
     // The first epoch that a pinned call has announced.
     uint64_t pinned_since() noexcept {
         uint64_t least = shared_since();
-        for (const Pin &pin : pins_) {
-            least = std::min(least, pin.since.load(std::memory_order_seq_cst));
+        for (const Place *place = first_place(); place != nullptr; place = place->next_) {
+            least = std::min(least, place->pin_.since.load(std::memory_order_seq_cst));
         }
         return least;
     }
@@ -224,13 +236,23 @@ template <class Parts> class EpochsOf {
         }
         return least;
     }
+    // All places that have joined, each with the next one, which stays.
+    Place *first_place() noexcept {
+        const Guard guard(sharing_);
+        return first_;
+    }
+    // The place whose list a thread looks at beside its own. Threads go round together. One has joined.
+    Place &next_place() noexcept {
+        const Guard guard(sharing_);
+        other_ = other_ != nullptr && other_->next_ != nullptr ? other_->next_ : first_;
+        return *other_;
+    }
+
     typename Parts::template Atomic<uint64_t> epoch_{0};
-    // The list that a thread looks at beside its own. Relaxed: a guess.
-    typename Parts::template Atomic<uint64_t> other_{0};
-    std::vector<Pin> pins_;
-    std::vector<List> lists_;
     typename Parts::Mutex sharing_{};
+    // With the lock: the calls without a place, and the places.
     Pinned *shared_ = nullptr;
+    Place *first_ = nullptr, *other_ = nullptr;
 };
 
 using Epochs = EpochsOf<Threads>;

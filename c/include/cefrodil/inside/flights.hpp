@@ -10,8 +10,10 @@
 #include "waits.hpp"
 #include <algorithm>
 #include <array>
+#include <atomic>
 #include <chrono>
 #include <cstddef>
+#include <cstdint>
 #include <mutex>
 
 namespace cefrodil::inside {
@@ -19,7 +21,7 @@ namespace cefrodil::inside {
 template <class Parts> class FlightOf;
 
 // The flights for some keys of a map.
-template <class Parts> class alignas(64) FlightsOf {
+template <class Parts> class FlightsOf {
   public:
     // Call it before a change of this key. Each flight that began before is outdated then, or has put its value.
     //
@@ -59,7 +61,6 @@ template <class Parts> class alignas(64) FlightsOf {
     }
 
     typename Parts::Mutex lock_{};
-    typename Parts::Condition ended_{};
     Flight *first_ = nullptr;
     typename Parts::template Atomic<size_t> count_{0};
 };
@@ -106,7 +107,7 @@ template <class Parts> class FlightOf {
         flights_.count_.fetch_sub(1, std::memory_order_release);
         if (is_awaited_) {
             WaitsOf<Parts>::end(this);
-            flights_.ended_.notify_all();
+            ended_.notify_all();
         }
     }
 
@@ -125,7 +126,7 @@ template <class Parts> class FlightOf {
             return false;
         }
         other.is_awaited_ = true;
-        Parts::wait(flights_.ended_, guard, until, [&wait] { return wait.is_over; });
+        Parts::wait(other.ended_, guard, until, [&wait] { return wait.is_over; });
         if (!wait.is_over) {
             WaitsOf<Parts>::leave(wait);
         }
@@ -136,6 +137,8 @@ template <class Parts> class FlightOf {
     const Identity key_;
     const decltype(Parts::this_thread()) thread_ = Parts::this_thread();
     FlightOf *next_ = nullptr;
+    // Who waits for it is told with the lock, and uses this no more afterwards.
+    typename Parts::Condition ended_{};
     bool has_begun_ = false;
     bool is_alone_ = false;
     bool is_awaited_ = false; // nobody else waits, so its end takes no lock of the process
@@ -145,30 +148,44 @@ template <class Parts> class FlightOf {
 using Flights = FlightsOf<Threads>;
 using Flight = FlightOf<Threads>;
 
-// Those of all keys of a map.
+// The lock of some keys of a map. It is tried, and never waited for. No code of the user runs under one.
+struct KeyLock {
+    bool try_lock() noexcept { return !is_taken.exchange(true, std::memory_order_acquire); }
+    void unlock() noexcept { is_taken.store(false, std::memory_order_release); }
+    std::atomic<bool> is_taken{false};
+};
+
+// The flights of all keys of a map, and their locks. A write needs both, so those of some keys are in one cache line.
 class AllFlights {
   public:
     // Each call waits for others' functions for so long at most. Call it before all others.
     void limit(std::chrono::nanoseconds most_wait) noexcept { most_wait_ = most_wait; }
-    Flights &of(const Identity &key) noexcept { return stripes_[key.index % stripes_.size()]; }
+    // There are so many locks that two threads seldom meet at one.
+    KeyLock &lock_of(uint64_t index) noexcept { return of(index).lock; }
     // The flight of a call, which waits no longer than to this time. The call's first flight sets it, if it is not set.
     Flight begin(const Identity &key, Until &until) {
         if (until == Until()) {
             until = most_wait_ < ages ? std::chrono::steady_clock::now() + most_wait_ : Until::max();
         }
-        return Flight(of(key), key, until);
+        return Flight(of(key.index).flights, key, until);
     }
-    void outdate(const Identity &key) noexcept { of(key).outdate(key); }
+    void outdate(const Identity &key) noexcept { of(key.index).flights.outdate(key); }
     void outdate_all() noexcept {
-        std::for_each(stripes_.begin(), stripes_.end(), [](Flights &some) { some.outdate_all(); });
+        std::for_each(stripes_.begin(), stripes_.end(), [](Stripe &some) { some.flights.outdate_all(); });
     }
 
   private:
+    struct alignas(64) Stripe {
+        Flights flights{};
+        KeyLock lock{};
+    };
     // A clock of nanoseconds can't add much more.
     static constexpr std::chrono::hours ages{24 * 365 * 100};
 
+    Stripe &of(uint64_t index) noexcept { return stripes_[index % stripes_.size()]; }
+
     // map/SETTINGS has this number, and that of Rust's maps.
-    std::array<Flights, 64> stripes_{};
+    std::array<Stripe, 64> stripes_{};
     std::chrono::nanoseconds most_wait_ = forever;
 };
 

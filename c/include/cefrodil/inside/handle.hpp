@@ -4,6 +4,7 @@
 
 #include "../../cefrodil.h"
 #include "counts.hpp"
+#include "prometheus.hpp"
 #include <array>
 #include <cstddef>
 #include <cstdint>
@@ -62,7 +63,9 @@ enum class Status : uint32_t {
     // By object_map::update alone: the function made no new value, and the earlier one stays.
     declined = 1004,
     // By the writes of an object_map that its listener makes, within 16 listeners of the thread: nothing was done.
-    too_deep = 1005
+    too_deep = 1005,
+    // By set_capacity of the maps alone: there is no room for so many entries, or it would be none. Nothing was done.
+    bad_capacity = 1006
 };
 
 namespace inside {
@@ -106,6 +109,7 @@ inline const char *text(Status status) noexcept {
     case Status::too_heavy: return "the entry weighs more than the map may hold";
     case Status::declined: return "the function made no new value";
     case Status::too_deep: return "too many listeners within each other";
+    case Status::bad_capacity: return "a capacity must be from 1 to the room that the map was opened with";
     default: return cefrodil_text(static_cast<uint32_t>(status));
     }
 }

@@ -152,6 +152,11 @@ struct Identity {
     uint64_t check;
 };
 
+// The index takes a key's shard from the bits behind these: a map has it mix none.
+inline constexpr int bits_before_shard = 48;
+// A number whose shard is this one, modulo how many there are.
+inline uint64_t key_of_shard(uint64_t shard) noexcept { return shard << bits_before_shard; }
+
 inline bool is_same(const Identity &one, const Identity &other) noexcept { return one.index == other.index && one.check == other.check; }
 
 // Whether a hash gives both words in one call, or one for each seed.

@@ -38,6 +38,7 @@ template <class K, class V> class ObjectMaker {
     bool has_ended(Each &object, uint64_t generation) const noexcept { return object.generation() < generation || has_expired(object); }
 
   protected:
+    bool has_lives() const noexcept { return clock_.has_lives(); }
     // A call of this generation has found it. Whether it has not ended: then its time to idle begins anew.
     [[gnu::always_inline]] bool is_used(Each &object, uint64_t generation) const noexcept {
         const uint64_t head = object.head.load(std::memory_order_acquire);

@@ -17,7 +17,7 @@
 namespace cefrodil::inside {
 
 // The entries of a map of objects, and what has left them.
-template <class K, class V> class Objects : public Entries<1>, public ObjectMaker<K, V> {
+template <class K, class V> class Objects : public Entries<1, Epochs>, public ObjectMaker<K, V> {
     using Maker = ObjectMaker<K, V>;
     using Maker::rules_;
 
@@ -28,7 +28,7 @@ template <class K, class V> class Objects : public Entries<1>, public ObjectMake
     using typename Maker::Rules;
     using Maker::has_ended;
 
-    Objects(size_t slots, Rules &&its_rules) : Maker(std::move(its_rules)), epochs_(allowed(slots)), weights_(allowed_weight(rules_.most_weight)) {}
+    explicit Objects(Rules &&its_rules) : Maker(std::move(its_rules)), weights_(allowed_weight(rules_.most_weight)) {}
     Objects(const Objects &) = delete;
     Objects &operator=(const Objects &) = delete;
     // No call runs any more. Without memory for a list of the entries, their objects leak.
@@ -41,7 +41,7 @@ template <class K, class V> class Objects : public Entries<1>, public ObjectMake
     [[nodiscard]] Status open(uint32_t entries, uint32_t shards, uint32_t passes, uint32_t tries) noexcept {
         const Status status = Entries::open(entries, shards, passes, tries);
         is_open_ = status == Status::ok;
-        if (is_open_ && !has_memory([&] { weights_.divide(this->shards()); })) {
+        if (is_open_ && !(has_memory([&] { weights_.divide(this->shards()); }) && open_cursors())) {
             return Status::no_memory;
         }
         waiting_weight_ = is_open_ && lines() ? &lines()->waiting_weight() : &uncounted_;
@@ -57,7 +57,7 @@ template <class K, class V> class Objects : public Entries<1>, public ObjectMake
     // The only way to an object: none that is found while this lives is freed before it ends.
     class Pinned {
       public:
-        explicit Pinned(Objects &those) noexcept : objects_(those), slot_(those.own_slot()), own_(those.epochs_, those.place_of(slot_)) {}
+        explicit Pinned(Objects &those) noexcept : objects_(those), slot_(those.own_slot()), own_(those.beside(), slot_ != nullptr ? &slot_->beside : nullptr) {}
         [[gnu::always_inline]] Seen look(uint64_t index, const uint32_t &most, uint64_t generation) const noexcept {
             std::array<uint64_t, 1> word;
             const inside::Seen seen = objects_.get(slot_, index, most, word);
@@ -90,7 +90,7 @@ template <class K, class V> class Objects : public Entries<1>, public ObjectMake
         [[gnu::always_inline]] void count(Status status) const noexcept { objects_.count(slot_, static_cast<Counted>(status)); }
         // The same as `look`, which is no use of the object. It takes the turn at the key's shard, so the status may be held, and never busy.
         Seen peek(uint64_t index, uint64_t generation) const noexcept {
-            const Answer<1> answer = objects_.repeated([&](Slot<1> &slot) { return slot.handle.try_peek(index); });
+            const Answer<1> answer = objects_.repeated([&](OwnSlot &slot) { return slot.handle.try_peek(index); });
             if (!answer.value) {
                 return {answer.status, nullptr, answer.since};
             }
@@ -105,7 +105,7 @@ template <class K, class V> class Objects : public Entries<1>, public ObjectMake
         }
 
         Objects &objects_;
-        Slot<1> *const slot_;
+        OwnSlot *const slot_;
         Epochs::Pinned own_;
     };
 
@@ -126,7 +126,7 @@ template <class K, class V> class Objects : public Entries<1>, public ObjectMake
     // Puts whatever is there. The object gets the generation with the key's lock, so what gives way is of no newer one.
     [[gnu::always_inline]] Status put(uint64_t index, Own &object, Change &change) noexcept {
         const auto is_new = [&] { return !has(index); };
-        return offered(index, object, change, is_new, [&](Slot<1> &slot) {
+        return offered(index, object, change, is_new, [&](OwnSlot &slot) {
             object->end_making(object->kind(), generations.now());
             return counted(slot, slot.handle.try_swap(index, object->word()));
         });
@@ -135,7 +135,7 @@ template <class K, class V> class Objects : public Entries<1>, public ObjectMake
     // computed in a generation that has ended.
     Status put_new(uint64_t index, uint64_t since, Own &object, bool is_computed, Change &change) noexcept {
         const auto is_new = [&] { return since == 0; };
-        return offered(index, object, change, is_new, [&](Slot<1> &slot) {
+        return offered(index, object, change, is_new, [&](OwnSlot &slot) {
             if (!begins(*object, is_computed)) {
                 return refusal<Swapped<1>>(Status::stale);
             }
@@ -146,7 +146,7 @@ template <class K, class V> class Objects : public Entries<1>, public ObjectMake
     // Puts over what was put at that moment, in the generation that the object has.
     Status replace(uint64_t index, uint64_t since, Own &object, Change &change) noexcept {
         const auto is_new = [] { return false; };
-        return offered(index, object, change, is_new, [&](Slot<1> &slot) {
+        return offered(index, object, change, is_new, [&](OwnSlot &slot) {
             object->end_making(object->kind(), object->generation());
             return slot.handle.try_swap_if(index, since, object->word());
         });
@@ -160,14 +160,13 @@ template <class K, class V> class Objects : public Entries<1>, public ObjectMake
     }
     // Removes what was put at that moment.
     Status take(uint64_t index, uint64_t since, Change &change) noexcept {
-        return removed(index, change, [&](Slot<1> &slot) { return slot.handle.try_take_if(index, since); });
+        return removed(index, change, [&](OwnSlot &slot) { return slot.handle.try_take_if(index, since); });
     }
-    // Removes each key that is listed.
     Status clear() noexcept {
         flights.outdate_all();
         return each_listed([this](uint64_t index, const auto &) {
             Change change(*this);
-            return removed(index, change, [&](Slot<1> &slot) { return slot.handle.try_take(index); });
+            return removed(index, change, [&](OwnSlot &slot) { return slot.handle.try_take(index); });
         });
     }
     // Calls with each object that has not ended. What the list has stays, since this is pinned before.
@@ -196,12 +195,12 @@ template <class K, class V> class Objects : public Entries<1>, public ObjectMake
         return each_listed([this](uint64_t index, const auto &) {
             const Seen seen = Pinned(*this).peek(index, generations.now());
             Change change(*this);
-            return seen.status == Status::absent && seen.since != 0 ? take(index, seen.since, change) : seen.status;
+            return seen.status == Status::absent && seen.since != 0 ? ended_by(take(index, seen.since, change)) : seen.status;
         });
     }
-    size_t free_now() noexcept { return free(epochs_.free_now()); }
+    size_t free_now() noexcept { return free(beside().free_now()); }
     // How many objects have left and wait to be freed, and what they weigh.
-    uint64_t waiting() noexcept { return epochs_.waiting(); }
+    uint64_t waiting() noexcept { return beside().waiting(); }
     uint64_t waiting_weight() const noexcept { return waiting_weight_->load(std::memory_order_relaxed); }
     // The weights of all objects that are there, with those that calls are about to put. Without a weigher 0.
     uint64_t weight() const noexcept { return weights_.sum(); }
@@ -215,11 +214,16 @@ template <class K, class V> class Objects : public Entries<1>, public ObjectMake
         shrink(change);
         return weights_.is_over() ? Status::held : Status::ok;
     }
+    // Changes the bound on the number of objects, and evicts what is too much.
+    Status set_capacity(uint64_t most) noexcept {
+        Change change(*this);
+        return is_too_deep() ? Status::too_deep : bound_keys(most, [&](uint64_t near) { return evict(near, by_capacity, change); });
+    }
 
   private:
     static uint64_t allowed_weight(uint64_t most) noexcept { return std::min(most, Rules().most_weight); }
     // Counts a new key, unless another one gave way to it.
-    static Swapped<1> counted(Slot<1> &slot, const Swapped<1> &tried) noexcept {
+    static Swapped<1> counted(OwnSlot &slot, const Swapped<1> &tried) noexcept {
         slot.add(tried.status == Status::ok && !tried.old ? 1 : 0);
         return tried;
     }
@@ -229,15 +233,16 @@ template <class K, class V> class Objects : public Entries<1>, public ObjectMake
         object.end_making(object.kind(), is_computed ? own : now);
         return !is_computed || own == now;
     }
-    template <class Take> Status removed(uint64_t index, Change &change, Take take) noexcept {
+    template <bool Once = false, class Take> Status removed(uint64_t index, Change &change, Take take) noexcept {
         if (is_too_deep()) {
             return Status::too_deep;
         }
-        const Swapped<1> taken = locked(index, [&](Slot<1> &slot) {
+        const auto make = [&](OwnSlot &slot) {
             const Swapped<1> tried = take(slot);
             slot.add(tried.status == Status::ok ? -1 : 0);
             return tried;
-        });
+        };
+        const Swapped<1> taken = Once ? locked_once(index, make) : locked(index, make);
         if (taken.old) {
             change.old = out(index, *taken.old, change);
         }
@@ -259,7 +264,28 @@ template <class K, class V> class Objects : public Entries<1>, public ObjectMake
         if (is_too_deep()) {
             return Status::too_deep;
         }
+        if (this->has_lives()) {
+            sweep(index, change);
+        }
+        if (is_bounded()) {
+            make_room_for(index, change, is_new);
+        }
         return rules_.weigher ? offered_weighed(index, object, change, is_new, make) : ended(index, object, change, locked(index, make));
+    }
+    // Removes what has ended at two places of the key's shard, so that no other object leaves for a new one.
+    [[gnu::noinline]] void sweep(uint64_t key, Change &change) noexcept {
+        const Pinned pinned(*this);
+        each_placed(key, [&](uint64_t index, const auto &word, uint64_t since) {
+            if (has_ended(*Each::at(word[0]), generations.now())) {
+                ended_by(removed<true>(index, change, [&](OwnSlot &slot) { return slot.handle.try_take_if(index, since); }));
+                change.old = nullptr;
+            }
+        });
+    }
+    template <class IsNew> [[gnu::cold]] [[gnu::noinline]] void make_room_for(uint64_t index, Change &change, const IsNew &is_new) noexcept {
+        if (is_new()) {
+            make_room(index, [&](uint64_t near) { return evict(near, by_capacity, change); });
+        }
     }
     // Others leave for a new key before it is put, so that it is not itself what gives way.
     template <class IsNew, class Make>
@@ -279,17 +305,11 @@ template <class K, class V> class Objects : public Entries<1>, public ObjectMake
         shrink(change);
         return status;
     }
-    // Whether the index has an object for the key.
-    bool has(uint64_t index) noexcept {
-        std::array<uint64_t, 1> word;
-        return get(own_slot(), index, looks(), word).status == Status::ok;
-    }
-    // Evicts objects until the others are within the bound, if they are not: each from the shard that has the most of a few. What calls are about to put
-    // counts, so there may be no object in that shard: then it goes round all shards. It gives up if it finds none there, or if other threads keep it from
-    // so many tries: then a later put goes on.
+    // Evicts objects until the others are within the bound: each from the shard that has the most of a few. What calls are about to put counts, so that
+    // shard may have none: then it goes round all shards. It gives up if it finds none, or after so many tries: then a later put goes on.
     void shrink(Change &change) noexcept {
         for (uint32_t looked = 0, held = 0; weights_.is_over() && looked <= shards() && held <= tries();) {
-            switch (evict(looked == 0 ? weights_.fullest() : weights_.next(), change)) {
+            switch (evict(looked == 0 ? weights_.fullest() : weights_.next(), by_weight, change)) {
             case Status::ok: looked = 0; break;
             case Status::absent: looked++; break;
             default: wait_before(held++);
@@ -297,14 +317,8 @@ template <class K, class V> class Objects : public Entries<1>, public ObjectMake
         }
     }
     // Evicts an object of the shard that has this key.
-    Status evict(uint64_t near, Change &change) noexcept {
-        const Swapped<1> taken = call([&](Slot<1> &slot) {
-            const Swapped<1> tried = slot.handle.try_evict(near);
-            const bool is_done = tried.status == Status::ok;
-            slot.add(is_done ? -1 : 0);
-            slot.count(evictions, is_done ? 1 : 0);
-            return tried;
-        });
+    Status evict(uint64_t near, Counted cause, Change &change) noexcept {
+        const Swapped<1> taken = call([near, cause](OwnSlot &slot) { return slot.evict(near, cause); });
         if (taken.old) {
             static_cast<void>(out(near, *taken.old, change));
             change.evicted = true;
@@ -313,8 +327,8 @@ template <class K, class V> class Objects : public Entries<1>, public ObjectMake
     }
     void end(Change &change) noexcept {
         for (Retired *next = change.first; next != nullptr;) {
-            Each *const object = static_cast<Each *>(std::exchange(next, next->next));
-            retire(*object, object == change.old ? change.why : Left::evicted);
+            Each &object = *static_cast<Each *>(std::exchange(next, next->next));
+            retire(object, &object == change.old ? change.why : Left::evicted);
         }
         free_much();
     }
@@ -324,12 +338,11 @@ template <class K, class V> class Objects : public Entries<1>, public ObjectMake
             rules_.listener(object.key, object.value, has_ended(object, generations.now()) ? Left::expired : why);
             listeners()--;
         }
-        Slot<1> *const slot = own_slot();
+        OwnSlot *const slot = own_slot();
         count_waiting(slot, object, 1);
-        static_cast<void>(free(epochs_.retire(object, place_of(slot))));
+        static_cast<void>(free(beside().retire(object, place_of(slot))));
     }
-    // Counts one object more or less.
-    void count_waiting(Slot<1> *slot, Each &object, int64_t more) noexcept {
+    void count_waiting(OwnSlot *slot, Each &object, int64_t more) noexcept {
         count(slot, inside::waiting, static_cast<uint64_t>(more));
         if (rules_.weigher) {
             waiting_weight_->fetch_add(static_cast<uint64_t>(more) * Heavy::of(object).weight, std::memory_order_relaxed);
@@ -375,7 +388,6 @@ template <class K, class V> class Objects : public Entries<1>, public ObjectMake
     bool is_too_deep() const noexcept { return rules_.listener && listeners() >= most_listeners; }
 
     bool is_open_ = false;
-    Epochs epochs_;
     Weights weights_;
     // That of what has left and waits to be freed. All puts of a map with a weigher share a sum, so they may share this.
     std::atomic<uint64_t> uncounted_{0}, *waiting_weight_ = &uncounted_;

@@ -1,5 +1,5 @@
 // Handles of the index that threads take by themselves (passes), for cefrodil_map.hpp. A thread takes one at its first call, and gives it back at its
-// end. A thread that finds none shares one with others, behind a lock. turns.hpp repeats calls by them.
+// end. It is opened for the first thread that takes it. A thread that finds none shares one with others, behind a lock. turns.hpp repeats calls by them.
 #ifndef CEFRODIL_INSIDE_PASSES_HPP
 #define CEFRODIL_INSIDE_PASSES_HPP
 
@@ -140,8 +140,10 @@ class Claims {
 };
 
 // The passes of an index. All but opening and ending may be called by any thread.
-template <size_t Words> class Passes {
+template <size_t Words, class Beside = NothingBeside> class Passes {
   public:
+    using OwnSlot = Slot<Words, Beside>;
+
     Passes() noexcept {}
     Passes(const Passes &) = delete;
     Passes &operator=(const Passes &) = delete;
@@ -149,31 +151,31 @@ template <size_t Words> class Passes {
         if (free_) {
             free_->end();
         }
+        std::for_each(slots_.begin(), slots_.end(), [](const std::atomic<OwnSlot *> &slot) { delete slot.load(std::memory_order_relaxed); });
     }
 
-    // Statuses are those of cefrodil::open. Unless ok, nothing is open.
-    [[nodiscard]] Status open(const cefrodil_shape &shape, uint32_t shards, size_t count) noexcept {
+    // Statuses are those of cefrodil::open. Unless ok, nothing is open. The handles that the index can't open later are opened now.
+    [[nodiscard]] Status open(const cefrodil_shape &shape, uint32_t shards, size_t asked) noexcept {
         std::vector<Handle<Words>> handles;
-        const Status status = cefrodil::open(shape, shards, count, handles);
+        const size_t count = allowed(asked), later = std::min(count - std::min<size_t>(count, 1), spare_handles);
+        const Status status = cefrodil::open(shape, shards, count - later, handles);
         if (status != Status::ok) {
             return status;
         }
         const auto grow = [&] {
-            slots_ = std::make_unique<Slot<Words>[]>(count);
+            slots_ = std::vector<std::atomic<OwnSlot *>>(count);
             free_ = std::make_shared<FreePasses>(count);
+            for (size_t pass = count - 1; pass > later; pass--) {
+                add_slot(pass, std::move(handles[pass - later]));
+            }
         };
-        if (!has_memory(grow)) {
-            return Status::no_memory;
-        }
-        for (size_t i = 0; i < count; i++) {
-            slots_[i].handle = std::move(handles[i]);
-        }
-        count_ = count;
-        return Status::ok;
+        shared_slot_.handle = std::move(handles[0]);
+        beside_.join(shared_slot_.beside);
+        return has_memory(grow) ? Status::ok : Status::no_memory;
     }
 
     // The slot of this thread. Null: it uses the shared one.
-    Slot<Words> *own_slot() noexcept {
+    OwnSlot *own_slot() noexcept {
         const RecentSlots::Place &last = recent_slots().last;
         if (__builtin_expect(last.passes != free_.get(), false)) {
             return find_slot();
@@ -181,76 +183,107 @@ template <size_t Words> class Passes {
         if (last.slot == nullptr) {
             __builtin_unreachable(); // These passes have a slot there.
         }
-        return static_cast<Slot<Words> *>(last.slot);
+        return static_cast<OwnSlot *>(last.slot);
     }
     // Makes one call with the slot of this thread, or with the shared one. The call must run no code of the user, since that might call, too.
     template <class Call> auto call(Call made) noexcept { return call_by(own_slot(), made); }
     // The same with this slot, which `own_slot` returned.
-    template <class Call> auto call_by(Slot<Words> *slot, Call made) noexcept { return slot != nullptr ? made(*slot) : call_shared(made); }
+    template <class Call> auto call_by(OwnSlot *slot, Call made) noexcept { return slot != nullptr ? made(*slot) : call_shared(made); }
     // Counts by such a slot. No call of the index counts this, too: with the lock, which this doesn't take.
-    [[gnu::always_inline]] void count(Slot<Words> *slot, Counted what, uint64_t number = 1) noexcept {
-        slot != nullptr ? slot->count(what, number) : Counting::counter(slots_[0].handle).add_shared(what, number);
+    [[gnu::always_inline]] void count(OwnSlot *slot, Counted what, uint64_t number = 1) noexcept {
+        slot != nullptr ? slot->count(what, number) : Counting::counter(shared_slot_.handle).add_shared(what, number);
     }
     // Counts what calls of the index count, too.
-    void count_beside_calls(Slot<Words> *slot, Counted what) noexcept {
+    void count_beside_calls(OwnSlot *slot, Counted what) noexcept {
         if (slot != nullptr) {
             slot->count(what, 1);
             return;
         }
         const std::lock_guard<std::mutex> guard(sharing_);
-        slots_[0].count(what, 1);
+        shared_slot_.count(what, 1);
     }
 
     // How many keys all calls added, less those that they removed. Calls that run meanwhile count or not.
     uint64_t keys() const noexcept {
-        int64_t sum = 0;
-        for (size_t i = 0; i < count_; i++) {
-            sum += slots_[i].keys.load(std::memory_order_relaxed);
+        int64_t sum = shared_slot_.keys.load(std::memory_order_relaxed);
+        for (const std::atomic<OwnSlot *> &slot : slots_) {
+            const OwnSlot *const own = slot.load(std::memory_order_acquire);
+            sum += own != nullptr ? own->keys.load(std::memory_order_relaxed) : 0;
         }
         return static_cast<uint64_t>(std::max<int64_t>(0, sum));
     }
     size_t free_count() const noexcept { return free_->count(); }
-    // The number of such a slot, or 0 if it is the shared one.
-    size_t place_of(const Slot<Words> *slot) const noexcept { return slot != nullptr ? static_cast<size_t>(slot - slots_.get()) : 0; }
     // How many calls the shared pass made.
     uint64_t shared_calls() const noexcept { return shared_calls_.load(std::memory_order_relaxed); }
-    const Handle<Words> &shared() const noexcept { return slots_[0].handle; }
+    const Handle<Words> &shared() const noexcept { return shared_slot_.handle; }
     Meter meter() const noexcept { return shared().meter(); }
     // What the meter reads. Null: nothing is counted.
     const std::shared_ptr<Lines> &lines() const noexcept { return Counting::lines(shared()); }
 
+  protected:
+    Beside &beside() noexcept { return beside_; }
+    // What such a slot has beside its handle.
+    typename Beside::Place &place_of(OwnSlot *slot) noexcept { return slot != nullptr ? slot->beside : shared_slot_.beside; }
+
   private:
+    // So many handles of an index can be opened later (cefrodil_more).
+    static constexpr size_t spare_handles = 64;
+
     template <class Call> [[gnu::cold]] [[gnu::noinline]] auto call_shared(Call made) noexcept {
         const std::lock_guard<std::mutex> guard(sharing_);
         // Relaxed: a number says nothing of other memory.
         shared_calls_.fetch_add(1, std::memory_order_relaxed);
-        return made(slots_[0]);
+        return made(shared_slot_);
     }
-    [[gnu::noinline]] Slot<Words> *find_slot() noexcept {
+    [[gnu::noinline]] OwnSlot *find_slot() noexcept {
         RecentSlots &recent = recent_slots();
         const RecentSlots::Place &place = recent.places[place_];
         if (place.passes != free_.get()) {
             return claim_slot();
         }
-        recent.last = place;
-        return static_cast<Slot<Words> *>(place.slot);
+        if (place.slot != nullptr) {
+            recent.last = place;
+        }
+        return static_cast<OwnSlot *>(place.slot);
     }
-    [[gnu::cold]] [[gnu::noinline]] Slot<Words> *claim_slot() noexcept {
+    // A thread whose pass can't be opened uses the shared one, and doesn't try again.
+    [[gnu::cold]] [[gnu::noinline]] OwnSlot *claim_slot() noexcept {
         Claims *const claims = Claims::of_thread();
         const size_t pass = claims != nullptr ? claims->pass_of(free_) : 0;
         if (pass == 0) {
             return nullptr;
         }
-        recent_slots().places[place_] = {free_.get(), &slots_[pass]};
-        return &slots_[pass];
+        OwnSlot *const slot = slot_of(pass);
+        recent_slots().places[place_] = {free_.get(), slot};
+        return slot;
+    }
+    // The slot of a pass that this thread has taken. It is made if no thread had the pass before. Null without memory.
+    OwnSlot *slot_of(size_t pass) noexcept {
+        // The thread that made it has given the pass back, and the lock of that orders what it did.
+        if (OwnSlot *const slot = slots_[pass].load(std::memory_order_relaxed)) {
+            return slot;
+        }
+        std::vector<Handle<Words>> opened;
+        const std::lock_guard<std::mutex> guard(sharing_);
+        const bool is_open = shared_slot_.handle.more(1, opened) == Status::ok && has_memory([&] { add_slot(pass, std::move(opened[0])); });
+        return is_open ? slots_[pass].load(std::memory_order_relaxed) : nullptr;
+    }
+    void add_slot(size_t pass, Handle<Words> &&handle) {
+        auto slot = std::make_unique<OwnSlot>();
+        slot->handle = std::move(handle);
+        beside_.join(slot->beside);
+        // Release: who counts its keys finds it made.
+        slots_[pass].store(slot.release(), std::memory_order_release);
     }
 
-    std::unique_ptr<Slot<Words>[]> slots_{};
-    size_t count_ = 0;
+    OwnSlot shared_slot_{};
+    // Those of the passes that threads have had, from 1 on.
+    std::vector<std::atomic<OwnSlot *>> slots_{};
     std::shared_ptr<FreePasses> free_{};
     const uint8_t place_ = next_place();
     std::mutex sharing_{};
     std::atomic<uint64_t> shared_calls_{0};
+    Beside beside_{};
 };
 
 } // namespace cefrodil::inside

@@ -21,13 +21,20 @@ struct Stored {
 
 namespace inside {
 
+// What a map keeps for each of its threads beside a handle: a Place, which joins the others when it is made. A map of values keeps nothing.
+struct NothingBeside {
+    struct Place {};
+    void join(Place &) noexcept {}
+};
+
 // A handle with what its thread alone writes, in pairs of cache lines of its own.
-template <size_t Words> struct alignas(128) Slot {
+template <size_t Words, class Beside = NothingBeside> struct alignas(128) Slot {
     using Value = std::array<uint64_t, Words>;
 
     Handle<Words> handle{};
     // How many keys its calls added, less those that they removed. It is only added up, so its steps need no order.
     std::atomic<int64_t> keys{0};
+    typename Beside::Place beside{};
 
     void add(int64_t more) noexcept { keys.store(keys.load(std::memory_order_relaxed) + more, std::memory_order_relaxed); }
     // Counts so many more. Other threads may count by the shared slot, so call this only if the slot is the thread's own, or is locked.
@@ -51,6 +58,15 @@ template <size_t Words> struct alignas(128) Slot {
     }
     Status remove(uint64_t key) noexcept { return removed(handle.try_remove(key).status); }
     Status take_if(uint64_t key, uint64_t since) noexcept { return removed(handle.try_take_if(key, since).status); }
+    // Evicts a key of this one's shard. It is counted, and why.
+    Swapped<Words> evict(uint64_t near, Counted why) noexcept {
+        const Swapped<Words> tried = handle.try_evict(near);
+        if (removed(tried.status) == Status::ok) {
+            count(evictions, 1);
+            count(why, 1);
+        }
+        return tried;
+    }
 
   private:
     [[gnu::always_inline]] Stored stored(cefrodil_status status, const cefrodil_reply &reply) noexcept {

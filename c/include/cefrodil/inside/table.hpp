@@ -86,6 +86,11 @@ class Table : public Entries<Packing<V, Times::moments>::words>, private Packing
     Table() = default;
     explicit Table(const Times &times) : Times(times) {}
 
+    [[nodiscard]] Status open(uint32_t entries, uint32_t shards, uint32_t passes, uint32_t tries) noexcept {
+        const Status status = All::open(entries, shards, passes, tries);
+        return status == Status::ok && Times::moments != 0 && !this->open_cursors() ? Status::no_memory : status;
+    }
+
     // A lookup for the words of its entry, which are set if the status is ok. If it stays busy, that is a miss. It is counted. The key is passed in
     // registers: the index would wait for it in memory.
     Status find(Identity key, Words &packed) noexcept {
@@ -151,29 +156,30 @@ class Table : public Entries<Packing<V, Times::moments>::words>, private Packing
     }
     // Puts whatever is there. The generation is read with the key's lock, so what gives way is of no newer one.
     Stored put(const Identity &key, const V &value, const Life &life = {}) noexcept {
+        sweep(key.index);
         const Ends ends = Times::ends(life);
-        return this->locked(key.index, [this, key, ends, &value](Slot<words> &slot) {
+        const bool has_evicted = this->is_bounded() && make_room_for(key.index);
+        Stored put = this->locked(key.index, [this, key, ends, &value](Slot<words> &slot) {
             return slot.put(key.index, pack_in(generations.now(), key, ends, value));
         });
+        put.evicted = put.evicted || has_evicted;
+        return put;
     }
     // Puts if the key is absent. An entry of an older generation gives way, and so does another key's entry under the same number.
     Stored put_if_absent(const Identity &key, const V &value, const Life &life = {}) noexcept {
-        const Ends ends = Times::ends(life);
-        for (;;) {
-            const Stored put = put_new(key, value, ends, [this] { return generations.now(); });
-            if (put.status != Status::stale) {
-                return put;
-            }
-        }
+        sweep(key.index);
+        return put_absent(key, value, life);
     }
     // The same, as an entry of this generation. stale: a newer one has begun.
     Stored put_if_absent_in(uint64_t generation, const Identity &key, const V &value) noexcept {
+        sweep(key.index);
         return put_new(key, value, Times::ends({}), [generation] { return generation; });
     }
 
     // Puts what the function makes of the key's value, if it makes one. If the key is absent, puts `first`, or nothing if that is null. The new entry has the generation in
     // which the old one was found.
     template <class Function> Found<V> update(const Identity &key, const V *first, const Function &function, const Life &life = {}) {
+        sweep(key.index);
         for (uint32_t repeat = 0;; repeat++) {
             const Identity known = now(key);
             const Entry entry = look(known);
@@ -181,7 +187,7 @@ class Table : public Entries<Packing<V, Times::moments>::words>, private Packing
                 return {entry.status, std::nullopt};
             }
             const Found<V> tried =
-                entry.value ? renew(known, entry, function, life) : Found<V>{put_if_absent(key, *first).status, *first};
+                entry.value ? renew(known, entry, function, life) : Found<V>{put_absent(key, *first).status, *first};
             if (tried.status == Status::ok) {
                 return tried;
             }
@@ -233,7 +239,18 @@ class Table : public Entries<Packing<V, Times::moments>::words>, private Packing
         return each_listed([this](uint64_t index, const Words &listed) { return has_ended(listed) ? take_ended(index) : Status::ok; });
     }
 
+    // Changes the bound on the number of entries, and evicts what is too much.
+    Status set_capacity(uint64_t most) noexcept {
+        return this->bound_keys(most, [this](uint64_t near) { return evict(near); });
+    }
+
   private:
+    Status evict(uint64_t near) noexcept {
+        return this->call([near](Slot<words> &slot) { return slot.evict(near, by_capacity).status; });
+    }
+    [[gnu::cold]] [[gnu::noinline]] bool make_room_for(uint64_t index) noexcept {
+        return !this->has(index) && this->make_room(index, [this](uint64_t near) { return evict(near); });
+    }
     // The key as its entries of the present generation have it.
     Identity now(const Identity &key) const noexcept { return in_generation(key, generations.now()); }
     bool is_there(const Identity &known, const Words &packed) const noexcept {
@@ -279,13 +296,32 @@ class Table : public Entries<Packing<V, Times::moments>::words>, private Packing
     bool has_ended(const Words &packed) const noexcept {
         return Times::have_passed(ends_of(packed)) || !Times::are_of(ends_of(packed), generations.now());
     }
+    // Before a put. Removes what has ended at two places of the key's shard, so that no other entry gives way for it.
+    void sweep([[maybe_unused]] uint64_t key) noexcept {
+        if constexpr (Times::moments != 0) {
+            this->each_placed(key, [this](uint64_t index, const Words &packed, uint64_t since) {
+                if (has_ended(packed)) {
+                    this->ended_by(this->locked_once(index, [index, since](Slot<words> &slot) { return slot.take_if(index, since); }));
+                }
+            });
+        }
+    }
     Status take_ended(uint64_t index) noexcept {
         Words packed;
         const Seen seen = this->get(this->own_slot(), index, this->tries(), packed);
-        return seen.status == Status::ok && has_ended(packed) ? take_if(index, seen.since) : seen.status;
+        return seen.status == Status::ok && has_ended(packed) ? this->ended_by(take_if(index, seen.since)) : seen.status;
     }
     Words pack_in(uint64_t generation, const Identity &key, const Ends &ends, const V &value) const noexcept {
         return pack(in_generation(key, generation), Times::in_generation(ends, generation), value);
+    }
+    Stored put_absent(const Identity &key, const V &value, const Life &life = {}) noexcept {
+        const Ends ends = Times::ends(life);
+        for (;;) {
+            const Stored put = put_new(key, value, ends, [this] { return generations.now(); });
+            if (put.status != Status::stale) {
+                return put;
+            }
+        }
     }
     // Puts if the key is absent, as an entry of the generation that `begun()` says at each try. stale: that has ended.
     template <class Begun> Stored put_new(const Identity &key, const V &value, const Ends &ends, const Begun &begun) noexcept {
@@ -294,9 +330,11 @@ class Table : public Entries<Packing<V, Times::moments>::words>, private Packing
             const bool goes_on = generation == generations.now();
             return goes_on ? slot.put_if_absent(key.index, pack_in(generation, key, ends, value)) : refusal<Stored>(Status::stale);
         };
+        const bool has_evicted = this->is_bounded() && make_room_for(key.index);
         for (uint32_t repeat = 0;; repeat++) {
-            const Stored put = this->locked(key.index, make);
+            Stored put = this->locked(key.index, make);
             if (put.status != Status::present) {
+                put.evicted = put.evicted || has_evicted;
                 return put;
             }
             const uint64_t generation = begun();

@@ -2,12 +2,12 @@
 #ifndef CEFRODIL_INSIDE_TURNS_HPP
 #define CEFRODIL_INSIDE_TURNS_HPP
 
+#include "hash.hpp"
 #include "passes.hpp"
 #include <algorithm>
 #include <array>
 #include <atomic>
 #include <chrono>
-#include <mutex>
 #include <thread>
 #include <type_traits>
 
@@ -61,8 +61,9 @@ struct Seen {
     uint64_t since;
 };
 
-// By default a shard has so many entries or more, and there are so many shards at most.
-inline constexpr uint32_t most_shards = 16, entries_of_a_shard = 64;
+// By default a shard has so many entries or more, and there are so many shards at most. So the room for keys that come
+// together in a shard is about a tenth.
+inline constexpr uint32_t most_shards = 16, entries_of_a_shard = 2500;
 inline uint32_t shards_for(uint32_t entries) noexcept {
     uint32_t shards = 1;
     while (shards < most_shards && shards * 2 <= entries / entries_of_a_shard) {
@@ -71,21 +72,15 @@ inline uint32_t shards_for(uint32_t entries) noexcept {
     return shards;
 }
 
-// The lock of some keys of a map. It is tried, and never waited for. No code of the user runs under one.
-struct alignas(64) KeyLock {
-    bool try_lock() noexcept { return !is_taken.exchange(true, std::memory_order_acquire); }
-    void unlock() noexcept { is_taken.store(false, std::memory_order_release); }
-    std::atomic<bool> is_taken{false};
-};
-
 // Calls by the passes of an index. A call that other threads keep from its turn is repeated.
-template <size_t Words> class Turns : public Passes<Words> {
-    using Base = Passes<Words>;
+template <size_t Words, class Beside = NothingBeside> class Turns : public Passes<Words, Beside> {
+    using Base = Passes<Words, Beside>;
 
   public:
     using Base::lines;
+    using typename Base::OwnSlot;
 
-    // 0 shards: as many as these entries ask for.
+    // 0 shards: as many as these entries ask for. More have room for more than a tenth more entries, so they get a bound there.
     [[nodiscard]] Status open(uint32_t entries, uint32_t asked_shards, uint32_t passes, uint32_t tries) noexcept {
         if (!same_version()) {
             return Status::other_version;
@@ -101,15 +96,17 @@ template <size_t Words> class Turns : public Passes<Words> {
         tries_ = tries;
         looks_ = std::min(tries, most_looks);
         shards_ = shards;
-        capacity_ = uint64_t(shape.items) * shards;
+        room_ = uint64_t(shape.items) * shards;
+        const bool is_loose = shards > 1 && entries / shards < entries_of_a_shard;
+        bound_.store(is_loose ? uint64_t(entries) + entries / 10 : 0, std::memory_order_relaxed);
         return Base::open(shape, shards, passes);
     }
 
     // Looks a key up by a slot that `own_slot` returned: ok, absent, or busy if it was that once and then so often. A value that is found is written. By
     // `get_or_turn`, whose export is shorter. It isn't counted. How often is only read when it was busy.
-    Seen get(Slot<Words> *own, uint64_t key, const uint32_t &most, std::array<uint64_t, Words> &value) noexcept {
+    Seen get(OwnSlot *own, uint64_t key, const uint32_t &most, std::array<uint64_t, Words> &value) noexcept {
         cefrodil_reply reply;
-        const Status status = this->call_by(own, [&](Slot<Words> &slot) { return slot.look(key, value, reply); });
+        const Status status = this->call_by(own, [&](OwnSlot &slot) { return slot.look(key, value, reply); });
         return status == Status::busy ? get_again(key, most, value) : Seen{status, reply.since};
     }
 
@@ -119,21 +116,61 @@ template <size_t Words> class Turns : public Passes<Words> {
         const auto answer = this->call(made);
         return is_disturbed(status_of(answer)) ? again(made, answer) : answer;
     }
-    // The same with the key's lock.
-    template <class Call> [[gnu::always_inline]] auto locked(uint64_t key, Call made) noexcept {
-        return repeated([this, key, made](Slot<Words> &slot) __attribute__((always_inline)) {
-            const std::unique_lock<KeyLock> guard(locks_[key % locks_.size()], std::try_to_lock);
-            return guard ? made(slot) : refusal<decltype(made(slot))>(Status::held);
-        });
-    }
-
     const uint32_t &tries() const noexcept { return tries_; }
     // How often a lookup is repeated that is a miss if it stays busy.
     const uint32_t &looks() const noexcept { return looks_; }
     uint32_t shards() const noexcept { return shards_; }
-    uint64_t capacity() const noexcept { return capacity_; }
+    // How many keys a shard has room for.
+    uint32_t places() const noexcept { return static_cast<uint32_t>(room_ / shards_); }
+    // Whether the number of keys has a bound below the room. Relaxed: a put and a count of the keys are in an order by the turn of the key's shard. If the
+    // put is the later one, it sees the bound that was set before the count.
+    bool is_bounded() const noexcept { return bound_.load(std::memory_order_relaxed) != 0; }
+    uint64_t capacity() const noexcept {
+        const uint64_t bound = bound_.load(std::memory_order_relaxed);
+        return bound != 0 ? bound : room_;
+    }
+
+  protected:
+    // Sets the bound, and evicts keys until the others are within it: by `evict`, which takes a key of the shard. bad_capacity: it is 0, or above the room.
+    // held: some are left to evict.
+    template <class Evict> Status bound_keys(uint64_t most, const Evict &evict) noexcept {
+        if (most == 0 || most > room_) {
+            return Status::bad_capacity;
+        }
+        bound_.store(most == room_ ? 0 : most, std::memory_order_relaxed);
+        uint64_t number = 0;
+        for (uint32_t held = 0; held <= tries_;) {
+            const Status status = repeated([&number](OwnSlot &slot) { return slot.handle.try_len(number); });
+            if (status != Status::ok || number <= most) {
+                return status;
+            }
+            evict_some(0, number - most, evict) != 0 ? void(held = 0) : wait_before(held++);
+        }
+        return Status::held;
+    }
+    // Before a put of a new key. If there are as many keys as the bound allows, evicts others first, so that it is not itself what gives way: in its shard,
+    // or in the next ones. If other threads have a turn then, it leaves that to the next put. Whether it has evicted.
+    template <class Evict> bool make_room(uint64_t key, const Evict &evict) noexcept {
+        uint64_t number = 0;
+        const Status status = this->call([&number](OwnSlot &slot) { return slot.handle.try_len(number); });
+        const uint64_t most = capacity();
+        return status == Status::ok && number >= most && evict_some(key, number - most + 1, evict) != 0;
+    }
+    // Whether the index has the key. It tries once: if other threads keep it from that, the key counts as a new one.
+    bool has(uint64_t key) noexcept {
+        std::array<uint64_t, Words> value;
+        return get(this->own_slot(), key, 0, value).status == Status::ok;
+    }
 
   private:
+    // Evicts so many keys, or fewer: one in the shard of this key, and each later one in the next shard. Returns how many.
+    template <class Evict> uint64_t evict_some(uint64_t near, uint64_t count, const Evict &evict) noexcept {
+        uint64_t evicted = 0;
+        for (uint64_t shard = 0; evicted < count && shard < count + shards_; shard++) {
+            evicted += evict(near + key_of_shard(shard)) == Status::ok ? 1 : 0;
+        }
+        return evicted;
+    }
     // The tries after the first one.
     template <class Call, class Answer> [[gnu::cold]] [[gnu::noinline]] Answer again(Call made, Answer answer) noexcept {
         for (uint32_t repeat = 0; is_disturbed(status_of(answer)); repeat++) {
@@ -157,7 +194,7 @@ template <size_t Words> class Turns : public Passes<Words> {
         Status status = Status::busy;
         for (uint32_t repeat = 0; repeat < most && status == Status::busy; repeat++) {
             wait_before(repeat);
-            status = this->call([&](Slot<Words> &slot) { return slot.look(key, value, reply); });
+            status = this->call([&](OwnSlot &slot) { return slot.look(key, value, reply); });
         }
         if (status == Status::busy) {
             give_up(most);
@@ -169,10 +206,10 @@ template <size_t Words> class Turns : public Passes<Words> {
     // would leave less room for entries in the processor's caches.
     static constexpr uint32_t all_stripes = 4096, stripes_of_a_shard = 64;
 
-    // There are so many that two threads seldom meet at one.
-    std::array<KeyLock, 64> locks_{};
     uint32_t tries_ = 0, looks_ = 0, shards_ = 0;
-    uint64_t capacity_ = 0;
+    // How many keys there is room for. The bound on their number, or 0: none below the room.
+    uint64_t room_ = 0;
+    std::atomic<uint64_t> bound_{0};
 };
 
 } // namespace cefrodil::inside

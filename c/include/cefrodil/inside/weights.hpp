@@ -3,6 +3,7 @@
 #ifndef CEFRODIL_INSIDE_WEIGHTS_HPP
 #define CEFRODIL_INSIDE_WEIGHTS_HPP
 
+#include "hash.hpp"
 #include "threads.hpp"
 #include <atomic>
 #include <cstdint>
@@ -32,13 +33,13 @@ template <class Parts> class WeightsOf {
         sum_.fetch_add(0, std::memory_order_release);
     }
     // A key of the next shard. Threads go round together.
-    uint64_t next() noexcept { return next_.fetch_add(1, std::memory_order_relaxed) << bits_before; }
+    uint64_t next() noexcept { return key_of_shard(next_.fetch_add(1, std::memory_order_relaxed)); }
     // A key of that one of the next shards which has the most objects.
     uint64_t fullest() noexcept {
         const uint64_t first = next();
         uint64_t found = first;
         for (uint64_t more = 1; more < compared; more++) {
-            const uint64_t key = first + (more << bits_before);
+            const uint64_t key = first + key_of_shard(more);
             found = of(key).load(std::memory_order_relaxed) > of(found).load(std::memory_order_relaxed) ? key : found;
         }
         return found;
@@ -51,9 +52,7 @@ template <class Parts> class WeightsOf {
     };
     // So many shards are compared at an eviction. That keeps all nearly alike, and takes no longer where there are many.
     static constexpr uint64_t compared = 8;
-    // The index takes a key's shard from the bits behind these: the map has it mix none.
-    static constexpr int bits_before = 48;
-    Atomic &of(uint64_t key) noexcept { return numbers_[key >> bits_before & (numbers_.size() - 1)].objects; }
+    Atomic &of(uint64_t key) noexcept { return numbers_[key >> bits_before_shard & (numbers_.size() - 1)].objects; }
     void change(uint64_t key, uint64_t weight, uint64_t objects) noexcept {
         sum_.fetch_add(weight, std::memory_order_acquire);
         of(key).fetch_add(objects, std::memory_order_relaxed);

@@ -1,0 +1,171 @@
+// How many entries maps have room for, and the bound on their number: it holds after each call, and changes while the map runs.
+// Argument: by how much less to do.
+#include "cefrodil_object_map.hpp"
+#include "in_threads.hpp"
+#include "must.h"
+#include <cstdlib>
+#include <map>
+
+using cefrodil::Left;
+using cefrodil::Status;
+using Numbers = cefrodil::map<uint64_t, uint64_t>;
+using Sessions = cefrodil::timed_map<uint64_t, uint64_t>;
+using Objects = cefrodil::object_map<uint64_t, uint64_t>;
+
+template <class Map> static void fill(Map &map, uint64_t first, uint64_t count) {
+    for (uint64_t key = first; key < first + count; key++) {
+        MUST(map.insert(key, uint64_t(key)).status == Status::ok);
+    }
+}
+
+// A map has room for what was asked for, and for a tenth more at most: by the shards of the default, which may have a few more, and by others.
+template <class Map> static void sizes() {
+    for (const cefrodil::MapOptions &options : {cefrodil::MapOptions{500}, {500, 1}, {500, 4}, {500, 16}, {10000}, {10000, 8}, {40000}}) {
+        Map map;
+        const uint64_t tenth = options.entries / 10 + (options.shards == 0 ? options.entries / 400 : 0);
+        MUST(map.open(options) == Status::ok && map.capacity() >= options.entries && map.capacity() <= options.entries + tenth);
+        fill(map, 0, options.entries);
+        MUST(map.size() == options.entries && map.counts().evictions == 0);
+        fill(map, options.entries, 4 * options.entries);
+        MUST(map.size() >= options.entries && map.size() <= map.capacity() && map.counts().capacity == map.capacity());
+    }
+}
+
+// What set_capacity says, and what stays.
+template <class Map> static void changed(uint32_t shards) {
+    Map map;
+    MUST(map.set_capacity(1) == Status::closed && map.open({1000, shards}) == Status::ok);
+    const uint64_t before = map.capacity();
+    fill(map, 0, 1000);
+    MUST(map.set_capacity(0) == Status::bad_capacity && map.set_capacity(10000) == Status::bad_capacity && map.capacity() == before && map.size() == 1000);
+    MUST(map.set_capacity(400) == Status::ok && map.capacity() == 400 && map.size() == 400 && map.counts().evictions == 600);
+    uint64_t there = 0;
+    for (uint64_t key = 0; key < 1000; key++) {
+        there += map.peek(key).value == key ? 1 : 0;
+    }
+    MUST(there == 400 && map.set_capacity(400) == Status::ok && map.counts().evictions == 600);
+    // A new key takes the place of another one. A value that is there does not.
+    for (uint64_t key = 2000; key < 3000; key++) {
+        MUST(map.insert_or_assign(key, uint64_t(key)).evicted && map.size() == 400);
+        const auto stored = map.insert_or_assign(key, uint64_t(key));
+        MUST(stored.status == Status::ok && stored.renewed && !stored.evicted && map.size() == 400);
+    }
+    MUST(map.find_or_compute(3000, [] { return 1; }).computed && map.insert(3001, 1).evicted && map.size() == 400);
+    MUST(map.set_capacity(before) == Status::ok && map.capacity() == before);
+    const uint64_t evicted = map.counts().evictions;
+    fill(map, 4000, 400);
+    MUST(map.size() == 800 && map.counts().evictions == evicted);
+    // A bound that nothing is above evicts nothing.
+    MUST(map.set_capacity(900) == Status::ok && map.size() == 800 && map.counts().evictions == evicted);
+    fill(map, 5000, 100);
+    MUST(map.size() == 900 && map.counts().evictions == evicted && map.insert(6000, 1).evicted && map.size() == 900);
+}
+
+// Down to one entry, and an update that inserts.
+static void small() {
+    Numbers numbers;
+    MUST(numbers.open({100}) == Status::ok);
+    fill(numbers, 0, 100);
+    MUST(numbers.set_capacity(1) == Status::ok && numbers.size() == 1);
+    const auto twice = [](uint64_t old) { return 2 * old; };
+    MUST(numbers.update_or_insert(200, 5, twice).value == 5u && numbers.size() == 1 && numbers.clear() == Status::ok);
+    MUST(numbers.insert(1, 1).status == Status::ok && !numbers.insert(1, 1).evicted && numbers.find(1) == 1u && numbers.size() == 1);
+    MUST(std::string(cefrodil::text(Status::bad_capacity)) == "a capacity must be from 1 to the room that the map was opened with");
+}
+
+// Those that nobody asked for leave first.
+static void used_keys_stay() {
+    Numbers numbers;
+    MUST(numbers.open({1000, 1}) == Status::ok);
+    fill(numbers, 0, 1000);
+    for (uint64_t key = 0; key < 100; key++) {
+        MUST(numbers.find(key) == key);
+    }
+    MUST(numbers.set_capacity(300) == Status::ok && numbers.size() == 300);
+    for (uint64_t key = 0; key < 100; key++) {
+        MUST(numbers.find(key) == key);
+    }
+}
+
+// A new key is there after its put, however few others its shard has, and however often those were used.
+template <class Map> static void new_keys_come_in(const cefrodil::MapOptions &options, uint64_t most) {
+    Map map;
+    MUST(map.open(options) == Status::ok && map.set_capacity(most) == Status::ok);
+    for (uint64_t key = 0; key < 1000; key++) {
+        MUST(map.insert(key, uint64_t(key)).evicted == (key >= most) && map.peek(key).value == key && map.size() == std::min(key + 1, most));
+        for (uint64_t other = key; other > 0 && key - other < 20; other--) {
+            static_cast<void>(map.contains(other - 1));
+        }
+    }
+}
+
+// The listener hears of each object that the bound makes leave, and may call the map.
+static void listeners() {
+    std::map<uint64_t, Left> left;
+    Objects objects;
+    Objects::Rules rules;
+    rules.listener = [&](uint64_t key, uint64_t, Left why) {
+        left[key] = why;
+        MUST(!objects.contains(key));
+    };
+    MUST(objects.open({100}, rules) == Status::ok);
+    fill(objects, 0, 100);
+    MUST(objects.set_capacity(60) == Status::ok && left.size() == 40 && objects.size() == 60);
+    fill(objects, 100, 10);
+    MUST(left.size() == 50 && objects.size() == 60 && objects.free_unused() != 0 && objects.waiting() == 0);
+    for (const auto &[key, why] : left) {
+        MUST(why == Left::evicted && !objects.contains(key));
+    }
+}
+
+// A bound on weights and one on the number hold both.
+static void weights() {
+    Objects objects;
+    Objects::Rules rules;
+    rules.weigher = [](uint64_t, uint64_t value) { return value; };
+    rules.most_weight = 1000;
+    MUST(objects.open({100, 4}, rules) == Status::ok && objects.set_capacity(50) == Status::ok);
+    for (uint64_t n = 0; n < 5000; n++) {
+        MUST(objects.insert_or_assign(n * 7 % 300, n % 41).status == Status::ok && objects.size() <= 50 && objects.weight() <= 1000);
+    }
+    MUST(objects.clear() == Status::ok && objects.weight() == 0 && objects.size() == 0);
+}
+
+// Threads put while another one changes the bound. Each may have put one key above it, and the next put makes it right.
+template <class Map> static void threads(uint64_t puts) {
+    Map map;
+    MUST(map.open({1000, 4}) == Status::ok);
+    in_threads(4, [&](uint64_t thread) {
+        for (uint64_t n = 0; n < puts; n++) {
+            MUST(map.insert_or_assign(n * 4 + thread, uint64_t(n)).status == Status::ok);
+            if (thread == 0 && n % 64 == 0) {
+                const Status status = map.set_capacity(100 + n % 512);
+                MUST(status == Status::ok || status == Status::held);
+            }
+        }
+    });
+    MUST(map.set_capacity(200) == Status::ok && map.size() <= 200 && map.insert(UINT64_MAX, 1).status == Status::ok && map.size() <= 200);
+}
+
+int main(int argc, char **argv) {
+    const uint64_t less = argc > 1 ? std::strtoull(argv[1], nullptr, 10) : 1;
+    sizes<Numbers>();
+    sizes<Objects>();
+    for (const uint32_t shards : {0, 1, 4}) {
+        changed<Numbers>(shards);
+        changed<Sessions>(shards);
+        changed<Objects>(shards);
+    }
+    small();
+    used_keys_stay();
+    for (const cefrodil::MapOptions &options : {cefrodil::MapOptions{100, 1}, {100, 16}}) {
+        new_keys_come_in<Numbers>(options, 1);
+        new_keys_come_in<Objects>(options, 3);
+        new_keys_come_in<Objects>(options, 20);
+    }
+    listeners();
+    weights();
+    threads<Numbers>(20000 / less);
+    threads<Objects>(20000 / less);
+    return outcome("bounds");
+}
