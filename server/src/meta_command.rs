@@ -139,7 +139,9 @@ fn tell_item(store: &Store, meta: &Meta, Hit { item, token, now }: Hit, made: Op
     } else {
         answer(meta, "HD", &facts, out);
     }
-    item.note_fetched(now);
+    if !meta.is_no_use {
+        item.note_fetched(now);
+    }
 }
 
 /// What a client is told beside what it asks for: that another one fetches the value anew, that it is stale, and that this client is to fetch it.
