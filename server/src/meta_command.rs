@@ -139,7 +139,7 @@ fn tell_item(store: &Store, meta: &Meta, Hit { item, token, now }: Hit, made: Op
     } else {
         answer(meta, "HD", &facts, out);
     }
-    if !meta.is_no_use {
+    if !meta.counts_no_use {
         item.note_fetched(now);
     }
 }

@@ -177,7 +177,7 @@ def certificates_of_clients(program, folder):
 
 def ends_of_the_server(program, folder):
     """What clients have sent is answered before it ends, and they see that nothing is cut off."""
-    with running(program, *options(folder), '-c', '2') as (server, port):
+    with running(program, *options(folder), '-c', '2', stderr=subprocess.DEVNULL) as (server, port):
         with secured(context_of(folder), port) as client, secured(context_of(folder), port) as other:
             assert ask(client, b'mn\r\n') == ask(other, b'mn\r\n') == b'MN\r\n'
             with connect(port) as third:
