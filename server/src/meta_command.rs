@@ -88,7 +88,7 @@ fn get(store: &Store, meta: &Meta, out: &mut Output) {
 fn win(store: &Store, meta: &Meta, deadline: Option<u64>, is_made: bool, out: &mut Output) {
     let (_lock, mut made) = (store.lock(meta.order.key), None);
     if let Some(expiry) = meta.vivified.filter(|_| is_made) {
-        let order = Order { how: How::Add, expiry, marks: meta.order.marks | WON, ..meta.order };
+        let order = Order { how: How::Add, compare: None, expiry, marks: meta.order.marks | WON, ..meta.order };
         match store.store(&order, b"") {
             Ok(Answer::Done(token)) => made = Some(token),
             Ok(_) => {}
