@@ -37,6 +37,8 @@ pub struct Meta<'a> {
     pub vivified: Option<i64>,
     /// `R`: with less time to live the item is to be fetched anew.
     pub recached: Option<i64>,
+    /// `u` of `mg`: whether the item stays as it was used before.
+    pub counts_no_use: bool,
     /// `I` of `md`: whether the item becomes stale, and stays.
     pub invalidates: bool,
     /// `M` of `ma`: whether it subtracts.
@@ -140,6 +142,7 @@ impl<'a> Meta<'a> {
             }
             (b'C', _) => self.order.compare = Some(number::unsigned(token).ok_or(self.bad_token())?),
             (b'h' | b'l', Verb::Get) => {}
+            (b'u', Verb::Get) => self.counts_no_use = true,
             (b'N', Verb::Get) => self.vivified = Some(number::integer(token).ok_or(self.bad_token())?),
             (b'R', Verb::Get) => self.recached = Some(number::integer(token).ok_or(self.bad_token())?),
             (b'I', Verb::Set) => self.order.may_be_stale = true,

@@ -88,7 +88,7 @@ fn get(store: &Store, meta: &Meta, out: &mut Output) {
 fn win(store: &Store, meta: &Meta, deadline: Option<u64>, is_made: bool, out: &mut Output) {
     let (_lock, mut made) = (store.lock(meta.order.key), None);
     if let Some(expiry) = meta.vivified.filter(|_| is_made) {
-        let order = Order { how: How::Add, expiry, marks: meta.order.marks | WON, ..meta.order };
+        let order = Order { how: How::Add, compare: None, expiry, marks: meta.order.marks | WON, ..meta.order };
         match store.store(&order, b"") {
             Ok(Answer::Done(token)) => made = Some(token),
             Ok(_) => {}
@@ -139,7 +139,9 @@ fn tell_item(store: &Store, meta: &Meta, Hit { item, token, now }: Hit, made: Op
     } else {
         answer(meta, "HD", &facts, out);
     }
-    item.note_fetched(now);
+    if !meta.counts_no_use {
+        item.note_fetched(now);
+    }
 }
 
 /// What a client is told beside what it asks for: that another one fetches the value anew, that it is stale, and that this client is to fetch it.

@@ -101,7 +101,7 @@ def meta(draw, key, counter, value):
     flags = [b'k', b'O%d' % draw.randrange(99), b'q', b'c', b'f', b's', b't', b'v', b'T%s' % draw.choice([b'0', b'100'])]
     verb = draw.choice([b'mg', b'ms', b'md', b'ma'])
     if verb == b'mg':
-        flags += [b'h', b'l', b'N%s' % draw.choice([b'0', b'60']), b'R%s' % draw.choice([b'0', b'30', b'200', b'-1'])]
+        flags += [b'h', b'l', b'u', b'N%s' % draw.choice([b'0', b'60']), b'R%s' % draw.choice([b'0', b'30', b'200', b'-1'])]
     if verb == b'md':
         flags += [b'I', b'T60']
     if verb == b'ms' and draw.random() < 0.2:

@@ -50,6 +50,7 @@ fn lookups_and_new_times_to_live() {
         ("mg n\n", "cmd_get cmd_meta get_hits"),
         ("mg none q\n", "cmd_get cmd_meta get_misses"),
         ("mg none N30\n", "cmd_get cmd_set cmd_meta get_misses total_items"),
+        ("mg none N30 C9\n", "cmd_get cmd_set cmd_meta get_misses total_items"),
         ("md n I\nmg n\nmg n\n", "2*cmd_get 3*cmd_meta 2*get_hits"),
         ("me n\nme none\nme gone\n", "3*cmd_meta"),
         ("mg n T0\n", "cmd_get cmd_touch cmd_meta get_hits touch_hits"),

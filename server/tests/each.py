@@ -32,7 +32,7 @@ FLAGS = [number for number in NUMBERS if number not in ['9223372036854775807', '
 TIMES = ['100', '+100'] + [number for number in FLAGS if number not in ['1', '+1', '4294967295']]
 STORING = ['set', 'add', 'replace', 'append', 'prepend']
 # Flags that memcached takes and cefrodild refuses: some it lacks, and others belong to another meta command.
-REFUSED = {'mg': 'uNRDFIJM', 'ms': 'INhluDJR', 'md': 'IhluDFJMNR', 'ma': 'hluFIR'}
+REFUSED = {'mg': 'NRDFIJM', 'ms': 'INhluDJR', 'md': 'IhluDFJMNR', 'ma': 'hluFIR'}
 
 
 def flags():
@@ -105,7 +105,7 @@ def base64_keys():
         yield f'{line}\r\nmg {text} b k v\r\n{store}{line}\r\nmg {text} k b v h\r\nme {text} b', None
     for text, more in itertools.product(texts + KEYS, ['', ' b', ' bx', ' q b', ' b b', ' x']):
         yield f'me {text}{more}', None
-    for line in ['me', 'me ', 'me n\r\nget n\r\nme n', 'me t\r\nmg t T100 l h\r\nme t', 'touch n 100\r\nme n', f'me {LONG}', 'md n I\r\nme n\r\nmg n h l']:
+    for line in ['me', 'me ', 'me n\r\nget n\r\nme n', 'me t\r\nmg t T100 l h\r\nme t', 'touch n 100\r\nme n', f'me {LONG}', 'md n I\r\nme n\r\nmg n h l', 'mg n u h\r\nmg n h\r\nmg n u h\r\nme n', 'mg none N0 u h\r\nmg none h', 'mg t T100 u h\r\nme t']:
         yield line, None
 
 

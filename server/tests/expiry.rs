@@ -229,7 +229,7 @@ fn what_counts_as_a_use_of_an_item() {
         ("incr e 1\n", "e", true),
     ];
     let others = [
-        ("me f\n", "f", false),
+        ("me f\nmg f u l\n", "f", false),
         ("md g I\n", "g", false),
         ("lru_crawler metadump all\n", "h", false),
         ("add i 0 0 1\n5\n", "i", false),

@@ -167,7 +167,7 @@ const META: [&str; 4] = ["mg k", "ms k 1", "md k", "ma k"];
 
 #[test]
 fn the_flags_of_each_meta_command() {
-    let (all, more) = ("bqvkcfstOTCPL", ["hlNR", "FMI", "I", "MDJN"]);
+    let (all, more) = ("bqvkcfstOTCPL", ["hluNR", "FMI", "I", "MDJN"]);
     // The key is base64.
     for (line, more) in META.map(|line| line.replace('k', "Zm9v")).iter().zip(more) {
         for flag in (b'!'..=b'~').map(char::from) {

@@ -93,6 +93,7 @@ fn a_first_hit_is_told() {
         ("get none\nmg k h\n", "END\nHD h0\n"),
         ("gat 0 k\nmg k h\n", "VALUE k 0 2\n61\nEND\nHD h1\n"),
         ("ms k 1\n5\ntouch k 0\nmg k h\n", "HD\nTOUCHED\nHD h1\n"),
+        ("ms k 1\n5\nmg k u h\nmg k u T60 h\nmg k h\nmg k u h\n", "HD\nHD h0\nHD h0\nHD h0\nHD h1\n"),
         // What becomes stale was hit as before.
         ("md k I\nmg k h\n", "HD\nHD h1 X W\n"),
         ("ms k 1\n5\nmd k I\nmg k h\nmg k h\n", "HD\nHD\nHD h0 X W\nHD h1 Z X\n"),

@@ -144,6 +144,18 @@ def wrong(folder, port):
         assert stats(beside)['curr_connections'] <= 4 and is_served(context, port)
 
 
+def leaves(folder, port):
+    """A client that leaves without a word of TLS is no news, and what it has sent is done."""
+    client = secured(context_of(folder), port)
+    assert ask(client, b'set left 0 0 1\r\n5\r\nmn\r\n', b'MN\r\n') == b'STORED\r\nMN\r\n'
+    with socket.socket(fileno=client.detach()) as plain:
+        plain.settimeout(TIMEOUT)
+        plain.shutdown(socket.SHUT_WR)
+        rest(plain)
+    with secured(context_of(folder), port) as client:
+        assert ask(client, b'get left\r\n', b'END\r\n') == b'VALUE left 0 1\r\n5\r\nEND\r\n'
+
+
 def silent(folder, port):
     """Clients that stop within the handshake keep nobody waiting."""
     with contextlib.ExitStack() as stack:
@@ -165,7 +177,7 @@ def certificates_of_clients(program, folder):
 
 def ends_of_the_server(program, folder):
     """What clients have sent is answered before it ends, and they see that nothing is cut off."""
-    with running(program, *options(folder), '-c', '2') as (server, port):
+    with running(program, *options(folder), '-c', '2', stderr=subprocess.DEVNULL) as (server, port):
         with secured(context_of(folder), port) as client, secured(context_of(folder), port) as other:
             assert ask(client, b'mn\r\n') == ask(other, b'mn\r\n') == b'MN\r\n'
             with connect(port) as third:
@@ -198,10 +210,11 @@ def main():
             resumed(context_of(folder), port)
             subprocess.run(['/usr/bin/python3', '-c', PYMEMCACHE, f'{folder}/first.pem', str(port)], check=True, timeout=60)
             wrong(folder, port)
+            leaves(folder, port)
             silent(folder, port)
             server.terminate()
             said = server.stderr.read()
-            assert server.wait(TIMEOUT) == 0 and 'is cut off: ' in said and 'http request' in said, said
+            assert server.wait(TIMEOUT) == 0 and 'is cut off: ' in said and 'http request' in said and 'eof' not in said, said
         certificates_of_clients(program, folder)
         ends_of_the_server(program, folder)
     print('tls: openssl, Python and pymemcache are served, and those that are wrong are cut off')
