@@ -83,7 +83,7 @@ struct RustEpochs : rl::test_suite<RustEpochs, 3> {
         }
     }
     void retire(size_t word) {
-        const Guard guard(list_lock);                                  //| let mut waiting = lock(&self.lists[slot.unwrap_or(self.pins.len())].0);
+        const Guard guard(list_lock);                                  //| let mut waiting = lock(&slot.and_then(|index| self.list(index)).unwrap_or(&self.rest).0);
         explored::fence_unless("fence of a retirement");
         const size_t number = epoch.load(std::memory_order_acquire);
         waiting.emplace_back(number, word);                            //| waiting.objects.push_back((self.epoch.load(SeqCst), word));
@@ -91,7 +91,7 @@ struct RustEpochs : rl::test_suite<RustEpochs, 3> {
     }
     void free_now() {
         const size_t end = begin_epoch();                              //| let end = self.begin_epoch();
-        const Guard guard(list_lock);                                  //| self.lists.iter().flat_map(|list| lock(&list.0).take_free(end)).collect()
+        const Guard guard(list_lock);                                  //| self.each_list().flat_map(|mut waiting| waiting.take_free(end)).collect()
         free_before(end);
     }
     void remove() {

@@ -123,7 +123,7 @@ struct RustFlights : rl::test_suite<RustFlights, 3> {
         if (const int value = find(); value != none) {    //| if let Some(value) = self.find(print, tries.min(LOOKS)) {
             return value;
         }
-        const int made = store.load(std::memory_order_acquire); //| let value = make()?;
+        const int made = store.load(std::memory_order_acquire); //| let value = self.core.load(make)?;
         return end(own, made, [&]() -> std::optional<int> {     //| Ok(leader.end(value, || self.fill(print, generation, value, None, tries)).value())
             const bool is_put = entry.compare_exchange(none, made, std::memory_order_acq_rel);
             return is_put ? std::nullopt : std::optional<int>(find());

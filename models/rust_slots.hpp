@@ -40,7 +40,7 @@ struct RustSlots : rl::test_suite<RustSlots, 2> {
         void give_back(size_t index) {
             const explored::Mutex::Off off("lock of give_back");
             const Guard guard(lock);                                      //| let mut free = lock(&self.free);
-            free.push_back(index);                                        //| free.push(index);
+            free.push_back(index);                                        //| free.push(index as u16);
             free_count.store(free.size(), std::memory_order_relaxed);     //| self.free_count.store(free.len(), Relaxed);
         }
     };
@@ -63,17 +63,17 @@ struct RustSlots : rl::test_suite<RustSlots, 2> {
         bool has_ended = false;
 
         std::optional<size_t> index_of(Slots &slots) {
-            if (last.id == slots.id) {                                    //| if last.id == self.id {
-                return last.index;                                        //| Some(last.index)
+            if (last.id == slots.id) {                                    //| let slot = if last.id == self.id { last.slot } else { self.find()? };
+                return last.index;
             }
             const Recent seen = recent[slots.id % 2];                     //| let recent = RECENT.with(|recent| recent[place_of(self.id)].get());
             if (seen.id == slots.id) {                                    //| if recent.id != self.id {
                 last = seen;                                              //| LAST.set(recent);
-                return seen.index;                                        //| Some(recent.index)
+                return seen.index;                                        //| Some(recent.slot)
             }
             const std::optional<size_t> found = find(slots);
             if (found) {
-                recent[slots.id % 2] = {slots.id, *found};                //| RECENT.with(|recent| recent[place_of(self.id)].set(Recent { id: self.id, index }));
+                recent[slots.id % 2] = {slots.id, *found};                //| RECENT.with(|recent| recent[place_of(self.id)].set(Recent { id: self.id, slot }));
             }
             return found;
         }
@@ -86,7 +86,7 @@ struct RustSlots : rl::test_suite<RustSlots, 2> {
                     return claim.index;                                   //| return Some(claim.index);
                 }
             }
-            const std::optional<size_t> taken = slots.take_free();        //| let index = slots.take_free()?;
+            const std::optional<size_t> taken = slots.take_free();        //| let index = slots.make(slots.take_free()?)?.index;
             if (taken) {
                 claims.push_back({&slots, *taken});                       //| claims.insert(slots.id, Claim { index, slots: home });
             }

@@ -42,15 +42,16 @@ impl<K: ?Sized, V> Builder<K, V> {
 
 impl<K: ?Sized, V, S> Builder<K, V, S> {
     /// How many shards: a power of two, 1 to 256. Threads that write to different shards don't wait for each other. Each shard evicts for
-    /// itself, and several shards together have more room than was asked for. The default is one for each 64 entries, 16 at most: then it is at most
-    /// twice as much. One shard has just what was asked for.
+    /// itself, and several shards together have more room than was asked for. The default is one for each 2,500 entries, 16 at most: then it is some
+    /// 10 % more at most. One shard has just what was asked for. If you name more shards, so that it would be more than a tenth more, the map holds what
+    /// was asked for, as by [`set_capacity`](Map::set_capacity).
     pub fn shards(mut self, shards: u32) -> Self {
         self.settings.shards = Some(shards);
         self
     }
 
     /// How many threads at a time have a handle of their own, at most 1,023. A thread keeps its handle from its first call to its end. Further
-    /// threads share one more handle, and wait for each other. The default is 64.
+    /// threads share one more handle, and wait for each other. So does a thread for whose handle there is no memory. The default is 64.
     pub fn threads(mut self, threads: usize) -> Self {
         self.settings.threads = threads;
         self
@@ -69,6 +70,8 @@ impl<K: ?Sized, V, S> Builder<K, V, S> {
     ///
     /// The clock is that of [`Instant`](std::time::Instant), which is monotonic. It stops while the machine is suspended, so an entry then
     /// lives longer by that time.
+    ///
+    /// A put first looks at two places of its key's shard, and removes what has expired there. [`remove_expired`](Map::remove_expired) looks at all.
     ///
     /// | what is called | the deadline |
     /// |---|---|
@@ -128,16 +131,19 @@ impl<K: ?Sized, V: Copy + Send + Sync + 'static, S: BuildHasher> Builder<K, V, S
     /// The first [`OpenError`] that applies.
     pub fn open(self) -> Result<Map<K, V, S>, OpenError> {
         let (shape, shards) = self.settings.shape()?;
-        self.open_shaped(&shape, shards, TRIES)
+        let bound = self.settings.bound(&shape, shards);
+        let map = self.open_shaped(&shape, shards, TRIES)?;
+        map.inner.core.bound.set(bound);
+        Ok(map)
     }
 
     /// Opens the map with shards of this shape, and calls that try so often.
     pub(crate) fn open_shaped(self, shape: &Shape, shards: u32, tries: u32) -> Result<Map<K, V, S>, OpenError> {
         const { assert!(Layout::Plain.width::<V>() <= MOST, "a value has at most 56 bytes") };
         let layout = Layout::of(self.settings.life, self.settings.idle);
-        let mut handles = AnyHandle::open(layout.width::<V>(), shape, shards, self.settings.handles()).map_err(OpenError::of)?;
-        let capacity = handles[0].capacity();
-        let core = Core::new(handles, capacity, &self.settings, tries);
+        let count = self.settings.handles()?;
+        let handles = AnyHandle::open(layout.width::<V>(), shape, shards, count).map_err(OpenError::of)?;
+        let core = Core::new(handles, shards, &self.settings, tries);
         let Settings { hasher, once, .. } = self.settings;
         let printer = if once { Printer::once(hasher) } else { Printer::twice(hasher) };
         Ok(Map { inner: Arc::new(Inner { core, printer, layout }) })

@@ -1,6 +1,6 @@
 //! The end of all entries: by one step, or by a removal of each.
 use crate::error::ClearError;
-use crate::handle::AnyHandle;
+use crate::handle::Index;
 use crate::key::Key;
 use crate::map::Map;
 use crate::stats::Kind;
@@ -53,7 +53,7 @@ impl<K: Key + ?Sized, V: Copy, S> Map<K, V, S> {
         let core = &self.inner.core;
         core.flights.detach_all();
         let remove_all = || -> Result<(), ClearError> {
-            for key in core.list(tries, AnyHandle::keys)? {
+            for key in core.list(tries, Index::keys)? {
                 let removed = core.slots.in_turn(tries, || core.in_lock(key, |handle| handle.remove(key)));
                 if let Removal::Removed { .. } = removed.map_err(ClearError::of_removal)? {
                     core.slots.count(Kind::Removed);

@@ -91,7 +91,7 @@ impl<K: Key + ?Sized, V: Copy, S: BuildHasher> Inner<K, V, S> {
         tries: u32,
         make: impl FnOnce() -> Result<V, E>,
     ) -> Result<V, E> {
-        let Some(leader) = leader else { return make() };
+        let Some(leader) = leader else { return self.core.load(make) };
         // After the begin of the flight: an invalidation has detached it, or ended this generation.
         let generation = self.core.generation.now();
         // An earlier flight may have ended since this thread looked the key up. What is found is not for those that wait: it may have been
@@ -99,7 +99,7 @@ impl<K: Key + ?Sized, V: Copy, S: BuildHasher> Inner<K, V, S> {
         if let Some(value) = self.find(print, tries.min(LOOKS)) {
             return Ok(value);
         }
-        let value = make()?;
+        let value = self.core.load(make)?;
         Ok(leader.end(value, || self.fill(print, generation, value, None, tries)).value())
     }
 

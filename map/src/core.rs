@@ -1,13 +1,17 @@
 //! What a map of values and a map of objects have in common: access to the index, flights, the generation, deadlines and locks of keys.
+use crate::bound::Bound;
 use crate::clock::Clock;
+use crate::ended::Cursors;
 use crate::error::{ClearError, GetError};
 use crate::flight::{Boarding, Flights, Leader};
 use crate::generation::Generation;
+use crate::handle::Index;
 use crate::key_locks::KeyLocks;
+use crate::minute::Minute;
 use crate::print::Print;
 use crate::settings::Settings;
 use crate::slots::Slots;
-use crate::stats::Kind;
+use crate::stats::{Kind, Stats};
 use crate::wait::LOOKS;
 use cefrodil::{ListError, PutIfAbsentError, PutIfError, TurnError};
 use std::sync::Arc;
@@ -25,15 +29,19 @@ pub(crate) struct Core<H, V> {
     /// How long an entry lives that is not used.
     pub idle: Option<Duration>,
     most_wait: Duration,
-    pub capacity: usize,
+    pub bound: Bound,
+    /// If entries may end by their time.
+    pub cursors: Option<Cursors>,
+    minute: Minute,
     /// How often a call tries.
     pub tries: u32,
 }
 
-impl<H: 'static, V: Copy> Core<H, V> {
-    pub fn new<S>(handles: Vec<H>, capacity: usize, settings: &Settings<S>, tries: u32) -> Core<H, V> {
+impl<H: Index + 'static, V: Copy> Core<H, V> {
+    pub fn new<S>(mut handles: Vec<H>, shards: u32, settings: &Settings<S>, tries: u32) -> Core<H, V> {
+        let room = handles[0].capacity();
         Core {
-            slots: Arc::new(Slots::new(handles)),
+            slots: Arc::new(Slots::new(handles, settings.threads)),
             flights: Flights::new(),
             generation: Generation::new(),
             clock: Clock::new(),
@@ -41,7 +49,9 @@ impl<H: 'static, V: Copy> Core<H, V> {
             life: settings.life,
             idle: settings.idle,
             most_wait: settings.most_wait,
-            capacity,
+            bound: Bound::new(room, shards),
+            cursors: settings.life.or(settings.idle).map(|_| Cursors::new(room, shards)),
+            minute: Minute::new(),
             tries,
         }
     }
@@ -85,30 +95,38 @@ impl<H: 'static, V: Copy> Core<H, V> {
 
     /// Ends all entries, and detaches what is being computed.
     pub fn invalidate_all(&self) {
+        self.note_sums();
         self.generation.end();
         self.flights.detach_all();
     }
 }
 
-impl<H: 'static, V> Core<H, V> {
+impl<H: Index + 'static, V> Core<H, V> {
     /// How often a lookup tries that is a miss if it stays busy.
     #[inline]
     pub fn looks(&self) -> u32 {
         self.tries.min(LOOKS)
     }
 
+    /// What the calls of all threads came to, in a map that weighs so much.
+    pub fn stats(&self, weight: u64) -> Stats {
+        let stats = self.slots.stats();
+        let (hits_of_last_minute, misses_of_last_minute) = self.minute.note(stats.hits, stats.misses);
+        let (entries, capacity) = (stats.left(), self.bound.most() as u64);
+        Stats { entries, capacity, weight, hits_of_last_minute, misses_of_last_minute, ..stats }
+    }
+
+    /// Notes the sums of lookups, if they are due. Calls that are rare do this.
+    pub fn note_sums(&self) {
+        if self.minute.is_due() {
+            self.stats(0);
+        }
+    }
+
     /// Counts a write that failed.
     pub fn refused<E>(&self, why: E) -> E {
         self.slots.count(Kind::Refused);
         why
-    }
-
-    /// Counts a lookup that found nothing, of this kind.
-    pub fn missed(&self, kind: Kind) {
-        self.slots.count(Kind::Miss);
-        if !matches!(kind, Kind::Miss) {
-            self.slots.count(kind);
-        }
     }
 
     /// Makes a call while no other thread makes one for the same key so.
@@ -167,6 +185,7 @@ impl<H: 'static, V> Core<H, V> {
 
     /// Makes a list of the entries by this call of the index.
     pub fn list<T>(&self, tries: u32, list: impl Fn(&mut H) -> Result<T, TurnError<ListError>>) -> Result<T, ClearError> {
+        self.note_sums();
         self.slots.in_turn(tries, || self.slots.call(&list)).map_err(ClearError::of_list)
     }
 

@@ -1,10 +1,11 @@
 //! Calls for all entries of a map: of one that can give its keys back, but for `remove_expired`.
 use crate::error::ClearError;
 use crate::generation::check_in;
-use crate::handle::AnyHandle;
+use crate::handle::{AnyHandle, Index};
 use crate::inner::{Found, Inner};
 use crate::key::{Key, Number};
 use crate::map::Map;
+use crate::stats::Kind;
 use crate::words::{check, Entry, Seen};
 use std::hash::BuildHasher;
 
@@ -62,7 +63,7 @@ impl<K: Key + ?Sized, V: Copy + Send + Sync + 'static, S: BuildHasher> Map<K, V,
     {
         let inner = &self.inner;
         inner.core.flights.detach_all();
-        inner.remove_those(|hash, words| {
+        inner.remove_those(Kind::Removed, |hash, words| {
             let entry = inner.entry(inner.core.generation.now(), hash, words);
             entry.is_some_and(|(key, value)| !keeps(&key, &value))
         })
@@ -85,7 +86,7 @@ impl<K: Key + ?Sized, V: Copy + Send + Sync + 'static, S: BuildHasher> Map<K, V,
     ///
     /// [`ClearError`]: expired entries may be left.
     pub fn remove_expired(&self) -> Result<usize, ClearError> {
-        self.inner.remove_those(|_, words| self.inner.has_expired(&Entry::of(words, self.inner.layout)))
+        self.inner.remove_those(Kind::Ended, |_, words| self.inner.has_expired(&Entry::of(words, self.inner.layout)))
     }
 }
 
@@ -105,15 +106,15 @@ impl<K: Number, V: Copy, S: BuildHasher> Inner<K, V, S> {
 }
 
 impl<K: Key + ?Sized, V: Copy, S: BuildHasher> Inner<K, V, S> {
-    // Removes the entries for whose hash and words `leaves` returns true, and returns how many.
-    fn remove_those(&self, mut leaves: impl FnMut(u64, &mut [u64]) -> bool) -> Result<usize, ClearError> {
+    // Removes the entries for whose hash and words `leaves` returns true, for this cause, and returns how many.
+    fn remove_those(&self, cause: Kind, mut leaves: impl FnMut(u64, &mut [u64]) -> bool) -> Result<usize, ClearError> {
         let look = |hash| match Seen::of(&mut self.core.slots.call(|handle| handle.peek(hash))) {
             Seen::Entry(words, since) => Some(leaves(hash, words).then_some(since)),
             Seen::Absent => Some(None),
             Seen::Busy => None,
         };
-        let take = |hash, since| self.take_if(hash, since, self.core.tries);
-        let listed = self.core.list(self.core.tries, AnyHandle::keys);
+        let take = |hash, since| self.take_if(hash, since, self.core.tries, cause);
+        let listed = self.core.list(self.core.tries, Index::keys);
         listed.and_then(|hashes| self.core.take_those(hashes, look, take)).map_err(|why| self.core.refused(why))
     }
 }

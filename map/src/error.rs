@@ -88,6 +88,16 @@ pub enum ClearError {
     Spent,
 }
 
+/// Why `set_capacity` failed.
+#[derive(Clone, Copy, Debug, PartialEq, Eq, Hash)]
+#[non_exhaustive]
+pub enum CapacityError {
+    /// The capacity must be at least 1, and at most the room with which the map was opened. It stays as it was.
+    Range,
+    /// The capacity is the new one, but there are still more entries. The next puts of new keys evict them.
+    Evict(RemoveError),
+}
+
 impl OpenError {
     pub(crate) fn of(why: cefrodil::OpenError) -> OpenError {
         match why {
@@ -202,6 +212,11 @@ texts! { UpdateError:
     UpdateError::Busy => BUSY,
     UpdateError::Contended => CONTENDED,
     UpdateError::Insert(why) => why,
+}
+
+texts! { CapacityError:
+    CapacityError::Range => "the capacity must be at least 1, and at most the room with which the map was opened",
+    CapacityError::Evict(why) => why,
 }
 
 texts! { ClearError:

@@ -1,12 +1,35 @@
 //! A handle of the index, whose entries have any width, 1 to 8 words. The width is chosen at opening.
 use crate::words::{Layout, Seen, Words, MOST};
 use cefrodil::{
-    Cache, Handle, ListError, OpenError, Put, PutError, PutIfAbsentError, PutIfError, Removal, Reply, Shape, Spent, TurnError,
+    Cache, Entry, Evict, EvictError, Handle, Held, ListError, OpenError, Put, PutError, PutIfAbsentError, PutIfError, Removal,
+    Reply, Shape, Spent, TurnError,
 };
 use std::ops::DerefMut;
 
 /// How many keys one call looks up at most.
 pub(crate) const MANY: usize = 32;
+
+/// What both kinds of maps do by a handle, whatever the width of its entries is.
+pub(crate) trait Index: Sized {
+    /// One more handle of the same index, if there is memory for it.
+    fn more(&mut self) -> Option<Self>;
+
+    fn capacity(&mut self) -> usize;
+
+    fn len(&mut self) -> Result<usize, Held>;
+
+    /// Whether the key is there. That is a use of it.
+    fn has(&mut self, key: u64) -> bool;
+
+    /// The keys of all entries, in a turn at each shard.
+    fn keys(&mut self) -> Result<Vec<u64>, TurnError<ListError>>;
+
+    /// The entry at this place of the shard of this key, if there is one, and if the try wins the turn.
+    fn entry_at(&mut self, near: u64, item: u32) -> Option<Entry<MOST>>;
+
+    /// Evicts an entry in the shard of this key. Returns the moment, and the first word of the value. `None`: the shard is empty.
+    fn evict(&mut self, near: u64) -> Result<Option<(u64, u64)>, TurnError<EvictError>>;
+}
 
 /// A handle by the width of its entries.
 pub(crate) enum AnyHandle {
@@ -53,6 +76,77 @@ macro_rules! of_width {
     };
 }
 
+impl<const WIDTH: usize> Index for Handle<WIDTH> {
+    fn more(&mut self) -> Option<Self> {
+        Handle::more(self, 1).ok()?.pop()
+    }
+
+    fn capacity(&mut self) -> usize {
+        Handle::capacity(self)
+    }
+
+    fn len(&mut self) -> Result<usize, Held> {
+        self.try_len()
+    }
+
+    fn has(&mut self, key: u64) -> bool {
+        matches!(self.get_or_turn(key), Reply::Found { .. })
+    }
+
+    fn keys(&mut self) -> Result<Vec<u64>, TurnError<ListError>> {
+        Ok(self.try_entries()?.into_iter().map(|(key, _)| key).collect())
+    }
+
+    fn entry_at(&mut self, near: u64, item: u32) -> Option<Entry<MOST>> {
+        let Entry { key, value, since } = self.try_entry_at(near, item).ok()??;
+        Some(Entry { key, value: wide(&value), since })
+    }
+
+    fn evict(&mut self, near: u64) -> Result<Option<(u64, u64)>, TurnError<EvictError>> {
+        Ok(match self.try_evict(near)? {
+            Evict::Evicted { at, old } => Some((at, old.value[0])),
+            Evict::Empty { .. } => None,
+        })
+    }
+}
+
+impl Index for AnyHandle {
+    fn more(&mut self) -> Option<Self> {
+        macro_rules! more {
+            ($($width:ident)*) => {
+                match self {
+                    $(AnyHandle::$width(handle) => AnyHandle::$width(Index::more(handle)?),)*
+                }
+            };
+        }
+        Some(more!(One Two Three Four Five Six Seven Eight))
+    }
+
+    fn capacity(&mut self) -> usize {
+        any!(self, handle => handle.capacity())
+    }
+
+    fn len(&mut self) -> Result<usize, Held> {
+        any!(self, handle => Index::len(handle))
+    }
+
+    fn has(&mut self, key: u64) -> bool {
+        any!(self, handle => handle.has(key))
+    }
+
+    fn keys(&mut self) -> Result<Vec<u64>, TurnError<ListError>> {
+        any!(self, handle => handle.keys())
+    }
+
+    fn entry_at(&mut self, near: u64, item: u32) -> Option<Entry<MOST>> {
+        any!(self, handle => handle.entry_at(near, item))
+    }
+
+    fn evict(&mut self, near: u64) -> Result<Option<(u64, u64)>, TurnError<EvictError>> {
+        any!(self, handle => handle.evict(near))
+    }
+}
+
 impl AnyHandle {
     /// Opens an index whose entries have this width.
     pub fn open(width: usize, shape: &Shape, shards: u32, handles: usize) -> Result<Vec<AnyHandle>, OpenError> {
@@ -71,10 +165,6 @@ impl AnyHandle {
             7 => open!(Seven),
             _ => open!(Eight),
         })
-    }
-
-    pub fn capacity(&mut self) -> usize {
-        any!(self, handle => handle.capacity())
     }
 
     /// Looks the key up by `get_or_turn` of a handle of a map of such values, with this layout. Gives the handle back, and then calls `then`. The words
@@ -143,11 +233,6 @@ impl AnyHandle {
     /// All entries, in a turn at each shard.
     pub fn entries(&mut self) -> Result<Vec<(u64, Words)>, TurnError<ListError>> {
         any!(self, handle => Ok(handle.try_entries()?.into_iter().map(|(key, value)| (key, wide(&value))).collect()))
-    }
-
-    /// The keys of all entries, in a turn at each shard.
-    pub fn keys(&mut self) -> Result<Vec<u64>, TurnError<ListError>> {
-        any!(self, handle => Ok(handle.try_entries()?.into_iter().map(|(key, _)| key).collect()))
     }
 }
 

@@ -132,11 +132,11 @@ impl<K: Key + ?Sized, V: Copy, S: BuildHasher> Inner<K, V, S> {
         let layout = Layout::laid::<TIMED>();
         match seen {
             Seen::Entry(words, _) if check(words) == print.check && !self.core.clock.has_passed(deadline(words, layout)) => {
-                counts.add_alone(Kind::Hit);
+                counts.add_alone(Kind::Hit, 1);
                 told(Ok(Some(Entry::of(words, layout).value)))
             }
             Seen::Absent => {
-                counts.add_alone(Kind::Miss);
+                counts.add_alone(Kind::Miss, 1);
                 told(Ok(None))
             }
             other => told(self.get_again(print, other, tries)),
@@ -213,9 +213,9 @@ impl<K: Key + ?Sized, V: Copy, S: BuildHasher> Inner<K, V, S> {
                 self.core.slots.count(Kind::Hit);
                 return Ok(Some(entry.value));
             }
-            Some(Found::Absent) => self.core.missed(Kind::Miss),
-            Some(Found::Expired(_)) => self.core.missed(Kind::Expired),
-            Some(Found::Other(_)) => self.core.missed(Kind::Collided),
+            Some(Found::Absent) => self.core.slots.count(Kind::Miss),
+            Some(Found::Expired(_)) => self.core.slots.count_for(Kind::Miss, Kind::Expired),
+            Some(Found::Other(_)) => self.core.slots.count_for(Kind::Miss, Kind::Collided),
             None => {
                 self.core.slots.count(Kind::Busy);
                 return Err(GetError::Busy);
@@ -234,6 +234,8 @@ impl<K: Key + ?Sized, V: Copy, S: BuildHasher> Inner<K, V, S> {
         let print = self.print(key);
         let mut words = self.words(print, value, self.deadline(life));
         self.core.flights.detach(print);
+        self.take_ended(print.key);
+        let has_evicted = self.makes_room(print.key, tries);
         let put = self.core.slots.in_turn(tries, || {
             self.core.in_lock(print.key, |handle| {
                 // By who has the lock: so nothing that was put in a later generation gives way to this.
@@ -244,10 +246,33 @@ impl<K: Key + ?Sized, V: Copy, S: BuildHasher> Inner<K, V, S> {
         match put.map(Inserted::of) {
             Ok(did) => {
                 self.core.slots.count_put(did);
-                Ok(did)
+                Ok(if has_evicted && did == Inserted::New { Inserted::Evicted } else { did })
             }
             Err(why) => Err(self.core.refused(InsertError::of(why))),
         }
+    }
+
+    /// Before a put under this key of the index: takes out what has expired at a few places, if the map has times.
+    #[inline]
+    pub fn take_ended(&self, hash: u64) {
+        if self.core.has_times() {
+            self.take_expired_near(hash);
+        }
+    }
+
+    #[inline(never)]
+    fn take_expired_near(&self, hash: u64) {
+        self.core.look_for_ended(hash, |mut there| {
+            if self.has_expired(&Entry::of(&mut there.value, self.layout)) {
+                let _ = self.take_if(there.key, there.since, 1, Kind::Ended);
+            }
+        });
+    }
+
+    /// Before a put under this key of the index: whether it evicts what is too much.
+    #[inline]
+    pub fn makes_room(&self, hash: u64, tries: u32) -> bool {
+        self.core.bound.is_below_room() && self.core.make_room(hash, tries, drop)
     }
 
     pub fn remove<Q: Key + ?Sized>(&self, key: &Q, tries: u32) -> Result<Option<V>, RemoveError> {
@@ -260,7 +285,7 @@ impl<K: Key + ?Sized, V: Copy, S: BuildHasher> Inner<K, V, S> {
                 Some(Found::Other(_) | Found::Absent) => return Ok(None),
                 None => return Err(self.core.refused(RemoveError::Busy)),
             };
-            match self.take_if(print.key, since, tries) {
+            match self.take_if(print.key, since, tries, Kind::Removed) {
                 Ok(()) => return Ok(value),
                 Err(TurnError::Call(PutIfError::NotThere { .. })) => return Ok(None),
                 Err(TurnError::Call(PutIfError::Changed { .. })) => {}
@@ -271,10 +296,10 @@ impl<K: Key + ?Sized, V: Copy, S: BuildHasher> Inner<K, V, S> {
         Err(self.core.refused(RemoveError::Contended))
     }
 
-    /// Removes the entry under this key of the index if it was put at the moment `since`.
-    pub fn take_if(&self, hash: u64, since: u64, tries: u32) -> Result<(), TurnError<PutIfError>> {
+    /// Removes the entry under this key of the index if it was put at the moment `since`. Counts it, and by its cause: `Removed` is none.
+    pub fn take_if(&self, hash: u64, since: u64, tries: u32, cause: Kind) -> Result<(), TurnError<PutIfError>> {
         self.core.slots.in_turn(tries, || self.core.in_lock(hash, |handle| handle.take_if(hash, since)))?;
-        self.core.slots.count(Kind::Removed);
+        self.core.slots.count_for(Kind::Removed, cause);
         Ok(())
     }
 }

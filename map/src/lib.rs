@@ -2,6 +2,7 @@
 #![deny(missing_docs, missing_debug_implementations, unsafe_op_in_unsafe_fn)]
 
 mod board;
+mod bound;
 mod builder;
 mod clear;
 mod clock;
@@ -9,6 +10,7 @@ mod compute;
 mod core;
 mod deadlocks;
 mod each;
+mod ended;
 mod error;
 mod extend;
 mod flight;
@@ -20,10 +22,13 @@ mod iter;
 mod key;
 mod key_locks;
 mod load;
+mod loading;
 mod map;
+mod minute;
 #[cfg(feature = "objects")]
 mod objects;
 mod print;
+mod prometheus;
 mod published;
 mod settings;
 mod sip;
@@ -41,7 +46,7 @@ mod inside;
 
 pub use board::{Board, Lead, Wait};
 pub use builder::Builder;
-pub use error::{ClearError, GetError, InsertError, OpenError, RemoveError, UpdateError};
+pub use error::{CapacityError, ClearError, GetError, InsertError, OpenError, RemoveError, UpdateError};
 pub use key::{Hashed, Key, Number};
 pub use map::{Inserted, Map};
 #[cfg(feature = "objects")]
@@ -49,5 +54,6 @@ pub use objects::{
     AbsentError, Block, Bytes, BytesBuilder, BytesMap, Head, IfError, Look, ObjectBuilder, ObjectLead, ObjectMap, ObjectWait,
     Pinned, Put, Reason, Refused,
 };
+pub use prometheus::prometheus;
 pub use published::Published;
-pub use stats::{prometheus, Stats};
+pub use stats::Stats;

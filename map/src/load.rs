@@ -36,7 +36,7 @@ impl<K: Key + ?Sized, V: Copy + Send + Sync + 'static, S: BuildHasher> Map<K, V,
         loop {
             match self.try_board(key) {
                 Board::Found(value) => return Ok(value),
-                Board::Lead(lead) => return Ok(lead.publish(load.await?)),
+                Board::Lead(lead) => return Ok(lead.publish(self.inner.core.load_async(load).await?)),
                 Board::Wait(wait) => {
                     if let Some(value) = wait.await {
                         return Ok(value);

@@ -1,5 +1,5 @@
 //! The map and its plain calls.
-use crate::error::{GetError, InsertError, OpenError, RemoveError};
+use crate::error::{CapacityError, GetError, InsertError, OpenError, RemoveError};
 use crate::handle::MANY;
 use crate::inner::Inner;
 use crate::key::Key;
@@ -243,10 +243,34 @@ impl<K: Key + ?Sized, V: Copy + Send + Sync + 'static, S: BuildHasher> Map<K, V,
 }
 
 impl<K: ?Sized, V, S> Map<K, V, S> {
-    /// The most entries that the map holds: what was asked for, or more. Shards fill unevenly, so it may evict before it has so many.
+    /// The most entries that the map holds: what was asked for, or more, or what [`set_capacity`](Map::set_capacity) has chosen. Shards fill unevenly, so
+    /// it may evict before it has so many.
     #[must_use]
     pub fn capacity(&self) -> usize {
-        self.inner.core.capacity
+        self.inner.core.bound.most()
+    }
+
+    /// Changes how many entries the map holds at most, and evicts until it has no more: those that would give way to new keys in a full map. `most` is at
+    /// most the room with which the map was opened: its first capacity at least. The memory stays the same.
+    ///
+    /// While the capacity is below the room of the index, a put of a new key first looks at the number of entries of all shards, and evicts what is too
+    /// much. If other threads have turns that it needs for that, the next put does. So the map may have some more entries while several threads put.
+    ///
+    /// ```
+    /// let squares = cefrodil_map::Map::<u64, u64>::new(1_000)?;
+    /// (0..1_000).try_for_each(|number| squares.insert(&number, number * number).map(drop))?;
+    /// squares.set_capacity(300)?;
+    /// assert_eq!((squares.len(), squares.capacity()), (300, 300));
+    /// squares.insert(&1_000, 1_000_000)?;
+    /// assert_eq!((squares.len(), squares.stats().evicted_by_capacity), (300, 701));
+    /// # Ok::<(), Box<dyn std::error::Error>>(())
+    /// ```
+    ///
+    /// # Errors
+    ///
+    /// [`CapacityError`].
+    pub fn set_capacity(&self, most: usize) -> Result<(), CapacityError> {
+        self.inner.core.set_capacity(most, drop)
     }
 
     /// How many entries the map has, expired ones included. While other threads write it is an estimate.
@@ -264,7 +288,15 @@ impl<K: ?Sized, V, S> Map<K, V, S> {
     /// What the calls of all threads came to.
     #[must_use]
     pub fn stats(&self) -> Stats {
-        self.inner.core.slots.stats().of_map(self.capacity(), 0)
+        self.inner.core.stats(0)
+    }
+
+    /// Which part of the lookups of about the last minute found a value, as [`Stats::hit_rate`]: of those since the sums of lookups that were noted last
+    /// before a minute ago. Calls of this and of [`stats`](Map::stats) note the sums, as do those that compute values, list all entries or invalidate them:
+    /// at most once in five seconds. So a program that calls this every minute gets the rate of the last one to two minutes.
+    #[must_use]
+    pub fn hit_rate_of_last_minute(&self) -> f64 {
+        self.stats().hit_rate_of_last_minute()
     }
 }
 

@@ -30,6 +30,12 @@ impl Print {
     }
 }
 
+/// Spreads what a hasher of the user's may have spread badly, so that a hash says which shard its key has: the finalizer of `MurmurHash3`.
+pub(crate) fn mix(hash: u64) -> u64 {
+    let fold = |hash: u64| hash ^ (hash >> 33);
+    fold(fold(fold(hash).wrapping_mul(0xff51_afd7_ed55_8ccd)).wrapping_mul(0xc4ce_b9fe_1a85_ec53))
+}
+
 /// How keys of the type `K` are hashed.
 pub(crate) struct Printer<K: ?Sized, S> {
     hasher: S,
@@ -65,7 +71,7 @@ impl<K: ?Sized, S: BuildHasher> Printer<K, S> {
                 return self.number_print(number);
             }
             let hash_after = |word| self.hasher.hash_one(After(word, key));
-            return Print { key: hash_after(KEY), check: hash_after(CHECK) };
+            return Print { key: mix(hash_after(KEY)), check: hash_after(CHECK) };
         };
         let mut state = PrintHasher::new(secret);
         key.write(&mut state);
@@ -79,7 +85,7 @@ impl<K: ?Sized, S: BuildHasher> Printer<K, S> {
     // By the hasher. Out of line: a map with a secret pays for nothing of it.
     #[inline(never)]
     fn number_print(&self, number: u64) -> Print {
-        Print { key: self.hasher.hash_one((KEY, number)), check: number }
+        Print { key: mix(self.hasher.hash_one((KEY, number))), check: number }
     }
 }
 

@@ -8,8 +8,12 @@ use std::time::Duration;
 /// How many threads have a handle of their own, by default.
 const THREADS: usize = 64;
 
+/// The most threads that can have one, and how many handles can be opened after the opening.
+const MOST_THREADS: usize = 1023;
+const SPARE_HANDLES: usize = 64;
+
 /// How many entries a shard has at least, and how many shards there are at most, by default.
-const ENTRIES_OF_A_SHARD: usize = 64;
+const ENTRIES_OF_A_SHARD: usize = 2500;
 const MOST_SHARDS: usize = 16;
 
 /// The most stripes that all shards have together, but each may have `STRIPES_OF_A_SHARD`. Each stripe has a version of 8 bytes, and more of
@@ -49,14 +53,28 @@ impl<S> Settings<S> {
         let capacity = u32::try_from(self.capacity).unwrap_or(u32::MAX);
         let mut shape = Shape::for_items(capacity, shards).map_err(OpenError::of)?;
         shape.stripes = shape.stripes.min((STRIPES / shards).max(STRIPES_OF_A_SHARD));
-        // The index hashes what a hasher of the user's may have spread badly.
-        shape.mix = if self.once { Mix::None } else { Mix::Full };
+        // The map mixes what a hasher of the user's may have spread badly.
+        shape.mix = Mix::None;
         Ok((shape, shards))
     }
 
-    /// How many handles to open: one for each thread, and one that all others share.
-    pub fn handles(&self) -> usize {
-        self.threads.saturating_add(1)
+    /// The bound on the number of entries with which the map begins: their room, or what was asked for if the shards that were named have more than a tenth
+    /// more.
+    pub fn bound(&self, shape: &Shape, shards: u32) -> usize {
+        let room = shape.items as usize * shards as usize;
+        if self.shards.is_some() && room > self.capacity + self.capacity / 10 {
+            self.capacity
+        } else {
+            room
+        }
+    }
+
+    /// How many handles to open: one that threads share, and one for each thread whose handle can't be opened when it comes.
+    pub fn handles(&self) -> Result<usize, OpenError> {
+        match self.threads {
+            0..=MOST_THREADS => Ok(1 + self.threads.saturating_sub(SPARE_HANDLES)),
+            _ => Err(OpenError::Threads),
+        }
     }
 
     /// Writes the builder of this name.

@@ -1,8 +1,9 @@
 //! A handle for each thread, from its first call to its end.
 //!
-//! A thread claims a slot, and keeps its index until it ends. If all slots are claimed, a thread uses the shared handle, under a mutex, and
-//! tries to claim a slot again at its next call.
+//! A thread claims a slot, and keeps it until it ends. The handle of a slot is opened for the first thread that claims it. If all slots are claimed, a
+//! thread uses the shared handle, under a mutex, and tries to claim a slot again at its next call.
 use crate::forks::{count_forks, this_process};
+use crate::handle::Index;
 use crate::map::Inserted;
 use crate::stalls::Stalls;
 use crate::stats::{Counts, Kind, Stats};
@@ -11,18 +12,19 @@ use cefrodil::TurnError;
 use std::cell::{Cell, RefCell, RefMut};
 use std::collections::HashMap;
 use std::hash::{BuildHasherDefault, Hasher};
-use std::iter::once;
+use std::iter::{once, repeat_with};
 use std::panic::RefUnwindSafe;
+use std::ptr;
 use std::sync::atomic::{AtomicU64, AtomicUsize, Ordering::Relaxed};
-use std::sync::{Arc, Mutex, MutexGuard, PoisonError, Weak};
+use std::sync::{Arc, Mutex, MutexGuard, OnceLock, PoisonError, Weak};
 
 /// The handles of a map.
 pub(crate) struct Slots<H> {
     // No two maps of a process have the same one.
     id: u64,
-    slots: Box<[Slot<H>]>,
+    slots: Box<[OnceLock<Boxed<Slot<H>>>]>,
     // The indices of slots that no thread has claimed, and how many they are.
-    free: Mutex<Vec<usize>>,
+    free: Mutex<Vec<u16>>,
     free_count: AtomicUsize,
     shared: Mutex<H>,
     shared_counts: Counts,
@@ -36,9 +38,27 @@ pub(crate) struct Slots<H> {
 struct Slot<H> {
     handle: RefCell<H>,
     counts: Counts,
+    index: usize,
 }
 
-// SAFETY: `counts` is `Sync`, so this is about `handle`. Only `Slots::own` touches it, and only in the slot that the calling thread has
+impl<H> Slot<H> {
+    fn new(index: usize, handle: H) -> Slot<H> {
+        Slot { handle: RefCell::new(handle), counts: Counts::default(), index }
+    }
+}
+
+/// A box that is made by `boxed`.
+pub(crate) type Boxed<T> = Box<[T; 1]>;
+
+/// Boxes this, unless there is no memory: then `Box::new` would end the process.
+pub(crate) fn boxed<T>(value: T) -> Option<Boxed<T>> {
+    let mut list = Vec::new();
+    list.try_reserve_exact(1).ok()?;
+    list.push(value);
+    list.into_boxed_slice().try_into().ok()
+}
+
+// SAFETY: all but `handle` is `Sync`, so this is about that. Only `Slots::own` touches it, and only in the slot that the calling thread has
 // claimed (`mine`). A `RefMut` stays in its thread, and each call of the map drops its own before it returns. At most one thread has
 // claimed a slot: its index begins in `free`, `take_free` takes it out for the thread that claims it, and it goes back at that thread's
 // end (`Claims::drop`). The thread doesn't use it again: by then `LAST` and `RECENT` are reset, and `CLAIMS` can not be reached any more. Neither
@@ -54,20 +74,19 @@ pub(crate) fn lock<T>(mutex: &Mutex<T>) -> MutexGuard<'_, T> {
     mutex.lock().unwrap_or_else(PoisonError::into_inner)
 }
 
-impl<H: 'static> Slots<H> {
-    /// The last handle is the shared one; each other is in a slot. There must be one at least.
-    pub fn new(mut handles: Vec<H>) -> Slots<H> {
+impl<H: Index + 'static> Slots<H> {
+    /// For so many threads. The last handle is the shared one; each other is in a slot. There must be one at least.
+    pub fn new(mut handles: Vec<H>, threads: usize) -> Slots<H> {
         static NEXT: AtomicU64 = AtomicU64::new(1);
         let shared = handles.pop().expect("opening makes one handle at least");
         count_forks();
-        let slot = |handle| Slot { handle: RefCell::new(handle), counts: Counts::default() };
-        let slots: Box<[Slot<H>]> = handles.into_iter().map(slot).collect();
+        let made = handles.into_iter().enumerate().map(|(index, handle)| OnceLock::from(Box::new([Slot::new(index, handle)])));
         Slots {
             // Relaxed: it is enough that no two numbers are the same.
             id: NEXT.fetch_add(1, Relaxed),
-            free: Mutex::new((0..slots.len()).rev().collect()),
-            free_count: AtomicUsize::new(slots.len()),
-            slots,
+            slots: made.chain(repeat_with(OnceLock::new)).take(threads).collect(),
+            free: Mutex::new((0..threads as u16).rev().collect()),
+            free_count: AtomicUsize::new(threads),
             shared: Mutex::new(shared),
             shared_counts: Counts::default(),
             stalls: Stalls::new(),
@@ -95,15 +114,29 @@ impl<H: 'static> Slots<H> {
 
     #[cold]
     fn call_shared<T>(&self, call: impl FnOnce(&mut H) -> T) -> T {
-        self.shared_counts.add(Kind::Shared);
+        self.shared_counts.add(Kind::Shared, 1);
         call(&mut lock(&self.shared))
     }
 
     #[inline]
     pub fn count(self: &Arc<Self>, kind: Kind) {
+        self.add(kind, 1);
+    }
+
+    /// Counts so many more.
+    #[inline]
+    pub fn add(self: &Arc<Self>, kind: Kind, number: u64) {
         match self.mine() {
-            Some(slot) => slot.counts.add_alone(kind),
-            None => self.shared_counts.add(kind),
+            Some(slot) => slot.counts.add_alone(kind, number),
+            None => self.shared_counts.add(kind, number),
+        }
+    }
+
+    /// Counts one of a kind that has parts: of `part`, too, unless it is the same.
+    pub fn count_for(self: &Arc<Self>, whole: Kind, part: Kind) {
+        self.count(whole);
+        if part != whole {
+            self.count(part);
         }
     }
 
@@ -117,7 +150,7 @@ impl<H: 'static> Slots<H> {
     }
 
     pub fn stats(&self) -> Stats {
-        let counts = self.slots.iter().map(|slot| &slot.counts).chain(once(&self.shared_counts));
+        let counts = self.slots.iter().filter_map(OnceLock::get).map(|slot| &slot[0].counts).chain(once(&self.shared_counts));
         Stats { given_up: self.stalls.number(), stalled: self.stalls.length(), ..Stats::sum(counts) }
     }
 
@@ -143,36 +176,48 @@ impl<H: 'static> Slots<H> {
     /// The slot that this thread has claimed, or claims now.
     #[inline]
     fn mine(self: &Arc<Self>) -> Option<&Slot<H>> {
-        self.slots.get(self.index()?)
+        let last = LAST.get();
+        let slot = if last.id == self.id { last.slot } else { self.find()? };
+        // SAFETY: `claim` made it of a slot of the map with this id, which is this one, so its type is right. A slot stays where it is until the map
+        // is dropped.
+        Some(unsafe { &*slot.cast() })
     }
 
     /// The index of that slot. No two threads have the same one at a time.
+    #[cfg(feature = "objects")]
     #[inline]
     pub fn index(self: &Arc<Self>) -> Option<usize> {
-        let last = LAST.get();
-        if last.id == self.id {
-            Some(last.index)
-        } else {
-            self.find()
-        }
+        Some(self.mine()?.index)
     }
 
     #[inline(never)]
-    fn find(self: &Arc<Self>) -> Option<usize> {
+    fn find(self: &Arc<Self>) -> Option<*const ()> {
         let recent = RECENT.with(|recent| recent[place_of(self.id)].get());
         if recent.id != self.id {
             return self.claim();
         }
         LAST.set(recent);
-        Some(recent.index)
+        Some(recent.slot)
     }
 
     #[cold]
-    fn claim(self: &Arc<Self>) -> Option<usize> {
+    fn claim(self: &Arc<Self>) -> Option<*const ()> {
         // An error: the thread is ending, and has given its slots back.
         let index = CLAIMS.try_with(|claims| claims.find(self)).ok()??;
-        RECENT.with(|recent| recent[place_of(self.id)].set(Recent { id: self.id, index }));
-        Some(index)
+        let slot = ptr::from_ref(&self.slots[index].get()?[0]).cast();
+        RECENT.with(|recent| recent[place_of(self.id)].set(Recent { id: self.id, slot }));
+        Some(slot)
+    }
+
+    // Opens the handle of a slot that the thread has taken, if none has had it before. `None`: there was no memory, and no thread takes that slot again.
+    fn make(&self, index: usize) -> Option<&Slot<H>> {
+        let slot = &self.slots[index];
+        if slot.get().is_none() {
+            // No call by this handle claims a slot.
+            let handle = lock(&self.shared).more()?;
+            let _ = slot.set(boxed(Slot::new(index, handle))?);
+        }
+        Some(&slot.get()?[0])
     }
 }
 
@@ -196,7 +241,7 @@ impl<H> Slots<H> {
         let mut free = lock(&self.free);
         let index = free.pop();
         self.free_count.store(free.len(), Relaxed);
-        index
+        index.map(usize::from)
     }
 }
 
@@ -211,21 +256,21 @@ impl<H> Home for Slots<H> {
             return;
         }
         let mut free = lock(&self.free);
-        free.push(index);
+        free.push(index as u16);
         self.free_count.store(free.len(), Relaxed);
     }
 }
 
-/// A map, and the index of the slot there that the thread has claimed.
+/// A map, and the slot there that the thread has claimed.
 #[derive(Clone, Copy)]
 struct Recent {
     id: u64,
-    index: usize,
+    slot: *const (),
 }
 
 impl Recent {
     /// No map has this id.
-    const NONE: Recent = Recent { id: 0, index: 0 };
+    const NONE: Recent = Recent { id: 0, slot: ptr::null() };
 }
 
 /// Maps that are opened one after the other have different places, up to so many.
@@ -277,12 +322,12 @@ thread_local! {
 
 impl Claims {
     #[inline]
-    fn find<H: 'static>(&self, slots: &Arc<Slots<H>>) -> Option<usize> {
+    fn find<H: Index + 'static>(&self, slots: &Arc<Slots<H>>) -> Option<usize> {
         let mut claims = self.0.try_borrow_mut().ok()?;
         if let Some(claim) = claims.get(&slots.id) {
             return Some(claim.index);
         }
-        let index = slots.take_free()?;
+        let index = slots.make(slots.take_free()?)?.index;
         // Claims of maps that are gone.
         claims.retain(|_, claim| claim.slots.strong_count() > 0);
         // In two steps, since only a `Weak` of a known type becomes one of any type.

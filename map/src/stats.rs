@@ -1,5 +1,4 @@
 //! What the calls of a map came to.
-use std::fmt::Write;
 use std::sync::atomic::{AtomicU64, Ordering::Relaxed};
 use std::time::Duration;
 
@@ -26,8 +25,20 @@ pub struct Stats {
     pub renewed: u64,
     /// Entries that gave way to a new key, or to the bound on weights. If there are many, take a larger capacity or bound.
     pub evicted: u64,
+    /// Those of them that gave way to the bound on weights.
+    pub evicted_by_weight: u64,
+    /// Those of them that gave way to a capacity below the room for entries: see [`set_capacity`](crate::Map::set_capacity).
+    pub evicted_by_capacity: u64,
     /// Entries that were removed.
     pub removed: u64,
+    /// Those of them that had ended: their time was over, or `invalidate_all` had ended them.
+    pub ended: u64,
+    /// Functions that ran to compute a value, of `get_or_insert_with` and its other forms. A load by `try_board` is not counted.
+    pub loads: u64,
+    /// Those of them that failed, panicked or were cancelled.
+    pub load_failures: u64,
+    /// How long they took together.
+    pub load_time: Duration,
     /// Writes that failed.
     pub refused: u64,
     /// Calls that gave up, since other threads kept them from each try, for over a tenth of a second. The forms with `try_` don't count.
@@ -47,10 +58,14 @@ pub struct Stats {
     pub capacity: u64,
     /// As `weight` of an `ObjectMap`.
     pub weight: u64,
+    /// Hits since the sums that were noted last before a minute ago: see [`hit_rate_of_last_minute`](crate::Map::hit_rate_of_last_minute).
+    pub hits_of_last_minute: u64,
+    /// Misses since then.
+    pub misses_of_last_minute: u64,
 }
 
-/// What is counted. The order is that of `NUMBERS`.
-#[derive(Clone, Copy)]
+/// What is counted.
+#[derive(Clone, Copy, PartialEq, Eq)]
 pub(crate) enum Kind {
     Hit,
     Miss,
@@ -60,12 +75,19 @@ pub(crate) enum Kind {
     Added,
     Renewed,
     Evicted,
+    #[cfg_attr(not(feature = "objects"), allow(dead_code))]
+    EvictedByWeight,
+    EvictedByCapacity,
     Removed,
+    Ended,
     Refused,
     Shared,
+    Load,
+    LoadFailure,
+    LoadNanoseconds,
 }
 
-const NUMBERS: usize = Kind::Shared as usize + 1;
+const NUMBERS: usize = Kind::LoadNanoseconds as usize + 1;
 
 /// The counts of one thread, or of those that share a handle.
 #[derive(Default)]
@@ -73,17 +95,23 @@ pub(crate) struct Counts([AtomicU64; NUMBERS]);
 
 // Relaxed: a number says nothing of other memory.
 impl Counts {
-    /// Counts one more. Only one thread at a time may call it.
+    /// Counts so many more. Only one thread at a time may call it.
     #[inline]
-    pub fn add_alone(&self, kind: Kind) {
+    pub fn add_alone(&self, kind: Kind, number: u64) {
         let count = &self.0[kind as usize];
-        count.store(count.load(Relaxed) + 1, Relaxed);
+        count.store(count.load(Relaxed) + number, Relaxed);
     }
 
-    /// Counts one more.
-    pub fn add(&self, kind: Kind) {
-        self.0[kind as usize].fetch_add(1, Relaxed);
+    /// Counts so many more.
+    pub fn add(&self, kind: Kind, number: u64) {
+        self.0[kind as usize].fetch_add(number, Relaxed);
     }
+}
+
+fn rate(hits: u64, misses: u64) -> f64 {
+    let mut counts = cefrodil::Counts::default();
+    (counts.hits, counts.misses) = (hits, misses);
+    counts.hit_rate()
 }
 
 impl Stats {
@@ -98,9 +126,13 @@ impl Stats {
     /// ```
     #[must_use]
     pub fn hit_rate(&self) -> f64 {
-        let mut counts = cefrodil::Counts::default();
-        (counts.hits, counts.misses) = (self.hits, self.misses);
-        counts.hit_rate()
+        rate(self.hits, self.misses)
+    }
+
+    /// As [`hit_rate_of_last_minute`](crate::Map::hit_rate_of_last_minute) of the map, when these numbers were asked for.
+    #[must_use]
+    pub fn hit_rate_of_last_minute(&self) -> f64 {
+        rate(self.hits_of_last_minute, self.misses_of_last_minute)
     }
 
     pub(crate) fn sum<'a>(all: impl Iterator<Item = &'a Counts>) -> Stats {
@@ -108,62 +140,31 @@ impl Stats {
         for counts in all {
             sums.iter_mut().zip(&counts.0).for_each(|(sum, count)| *sum += count.load(Relaxed));
         }
-        let [hits, misses, busy, expired, collided, added, renewed, evicted, removed, refused, shared] = sums;
-        Stats { hits, misses, busy, expired, collided, added, renewed, evicted, removed, refused, shared, ..Stats::default() }
+        let of = |kind: Kind| sums[kind as usize];
+        Stats {
+            hits: of(Kind::Hit),
+            misses: of(Kind::Miss),
+            busy: of(Kind::Busy),
+            expired: of(Kind::Expired),
+            collided: of(Kind::Collided),
+            added: of(Kind::Added),
+            renewed: of(Kind::Renewed),
+            evicted: of(Kind::Evicted),
+            evicted_by_weight: of(Kind::EvictedByWeight),
+            evicted_by_capacity: of(Kind::EvictedByCapacity),
+            removed: of(Kind::Removed),
+            ended: of(Kind::Ended),
+            refused: of(Kind::Refused),
+            shared: of(Kind::Shared),
+            loads: of(Kind::Load),
+            load_failures: of(Kind::LoadFailure),
+            load_time: Duration::from_nanos(of(Kind::LoadNanoseconds)),
+            ..Stats::default()
+        }
     }
 
     /// How many entries these numbers leave.
     pub(crate) fn left(&self) -> u64 {
         self.added.saturating_sub(self.evicted + self.removed)
     }
-
-    /// Those of a map that has room for so many entries, and weighs so much.
-    pub(crate) fn of_map(self, capacity: usize, weight: u64) -> Stats {
-        Stats { entries: self.left(), capacity: capacity as u64, weight, ..self }
-    }
-}
-
-/// The numbers of some maps, each by its name, in the text format of Prometheus.
-///
-/// ```
-/// use cefrodil_map::{prometheus, Map};
-///
-/// let ages = Map::<str, u64>::builder(100).shards(1).open()?;
-/// ages.insert("ann", 41)?;
-/// assert_eq!(ages.get("ann"), Some(41));
-/// let text = prometheus(&[("ages", ages.stats())]);
-/// assert!(text.contains("\ncefrodil_map_hits_total{cache=\"ages\"} 1\n") && text.contains("\ncefrodil_map_capacity{cache=\"ages\"} 100\n"));
-/// # Ok::<(), Box<dyn std::error::Error>>(())
-/// ```
-#[must_use]
-pub fn prometheus(maps: &[(&str, Stats)]) -> String {
-    type Number = fn(&Stats) -> u64;
-    let rows: [(&str, &str, &str, Number); 17] = [
-        ("hits_total", "counter", "Lookups that found a value.", |stats| stats.hits),
-        ("misses_total", "counter", "Lookups that found none.", |stats| stats.misses),
-        ("expired_total", "counter", "Misses whose value had expired.", |stats| stats.expired),
-        ("collided_total", "counter", "Misses that found another key's entry.", |stats| stats.collided),
-        ("busy_total", "counter", "Lookups that were busy.", |stats| stats.busy),
-        ("added_total", "counter", "Keys that were put and are new.", |stats| stats.added),
-        ("renewed_total", "counter", "Entries that were overwritten.", |stats| stats.renewed),
-        ("evictions_total", "counter", "Entries that gave way.", |stats| stats.evicted),
-        ("removed_total", "counter", "Entries that were removed.", |stats| stats.removed),
-        ("refusals_total", "counter", "Writes that failed.", |stats| stats.refused),
-        ("given_up_total", "counter", "Calls that were held or busy at each try.", |stats| stats.given_up),
-        ("stalled_seconds", "gauge", "For how long calls have given up.", |stats| stats.stalled.as_secs()),
-        ("waiting_objects", "gauge", "Objects that have left and wait to be freed.", |stats| stats.waiting),
-        ("waiting_weight", "gauge", "What the objects weigh that wait to be freed.", |stats| stats.waiting_weight),
-        ("entries", "gauge", "Entries that are there.", |stats| stats.entries),
-        ("capacity", "gauge", "Entries that there is room for.", |stats| stats.capacity),
-        ("weight", "gauge", "What the entries weigh.", |stats| stats.weight),
-    ];
-    let mut text = String::new();
-    for (name, kind, help, number) in rows {
-        let _ = write!(text, "# HELP cefrodil_map_{name} {help}\n# TYPE cefrodil_map_{name} {kind}\n");
-        for (map, stats) in maps {
-            let label = map.replace('\\', "\\\\").replace('"', "\\\"").replace('\n', "\\n");
-            let _ = writeln!(text, "cefrodil_map_{name}{{cache=\"{label}\"}} {}", number(stats));
-        }
-    }
-    text
 }

@@ -164,6 +164,7 @@ impl<K: Key + ?Sized, V: Copy, S: BuildHasher> Inner<K, V, S> {
                 _ => self.deadline(anew.or(self.core.life)),
             };
             let words = self.words(print, new, deadline);
+            self.take_ended(print.key);
             let is_put = match since {
                 Some(since) => self.put_over(print, since, &words, tries),
                 None => self.put_absent(print, generation, &words, tries),
@@ -190,6 +191,7 @@ impl<K: Key + ?Sized, V: Copy, S: BuildHasher> Inner<K, V, S> {
 
     // Puts the words if the key is absent, and this generation has not ended before that was so. `false`: it is not so.
     fn put_absent(&self, print: Print, generation: u64, words: &Words, tries: u32) -> Result<bool, InsertError> {
+        self.makes_room(print.key, tries);
         let put = |handle: &mut AnyHandle| handle.put_if_absent(print.key, words);
         match self.core.slots.in_turn(tries, || self.core.in_generation(print.key, generation, put)) {
             Ok(put) => {

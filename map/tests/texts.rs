@@ -22,7 +22,7 @@ fn what_can_not_be_opened_says_why() {
     assert_eq!(open(builder(100).threads(1_024)), Err(OpenError::Threads));
     assert_eq!(open(builder(100).threads(usize::MAX)), Err(OpenError::Threads));
     assert_eq!(open(builder(100).threads(1_023)), Ok(100));
-    assert!(open(builder(100).shards(256)).unwrap() > 100);
+    assert_eq!(open(builder(100).shards(256)), Ok(100));
 }
 
 #[test]
@@ -97,13 +97,17 @@ fn a_builder_shows_what_it_was_told() {
 
 #[test]
 fn each_number_is_printed_under_its_name() {
-    let names = "hits_total misses_total expired_total collided_total busy_total added_total renewed_total evictions_total removed_total \
-                 refusals_total given_up_total stalled_seconds waiting_objects waiting_weight entries capacity weight";
+    let names = "hits_total misses_total expired_total collided_total busy_total added_total renewed_total evictions_total \
+                 evictions_by_weight_total evictions_by_capacity_total removed_total ended_total loads_total load_failures_total \
+                 load_seconds_total refusals_total given_up_total stalled_seconds waiting_objects waiting_weight entries capacity weight";
     let mut stats = Stats::default();
     (stats.hits, stats.misses, stats.expired, stats.collided, stats.busy) = (1, 2, 3, 4, 5);
-    (stats.added, stats.renewed, stats.evicted, stats.removed, stats.refused, stats.given_up) = (6, 7, 8, 9, 10, 11);
-    (stats.stalled, stats.waiting, stats.waiting_weight) = (Duration::from_secs(12), 13, 14);
-    (stats.entries, stats.capacity, stats.weight) = (15, 16, 17);
+    (stats.added, stats.renewed, stats.evicted, stats.evicted_by_weight, stats.evicted_by_capacity) = (6, 7, 8, 9, 10);
+    (stats.removed, stats.ended, stats.loads, stats.load_failures) = (11, 12, 13, 14);
+    (stats.load_time, stats.refused, stats.given_up) = (Duration::from_secs(15), 16, 17);
+    (stats.stalled, stats.waiting, stats.waiting_weight) = (Duration::from_secs(18), 19, 20);
+    (stats.entries, stats.capacity, stats.weight) = (21, 22, 23);
+    (stats.hits_of_last_minute, stats.misses_of_last_minute) = (3, 1);
     let text = prometheus(&[("names", stats), ("a\"b\\c\nd", Stats::default())]);
     let lines: Vec<&str> = text.lines().collect();
     for ((name, number), lines) in names.split(' ').zip(1..).zip(lines.chunks(4)) {
@@ -113,5 +117,9 @@ fn each_number_is_printed_under_its_name() {
         assert_eq!(lines[2], format!("cefrodil_map_{name}{{cache=\"names\"}} {number}"));
         assert_eq!(lines[3], format!(r#"cefrodil_map_{name}{{cache="a\"b\\c\nd"}} 0"#));
     }
-    assert_eq!(lines.len(), 17 * 4);
+    assert_eq!(lines.len(), 24 * 4);
+    assert_eq!(
+        lines[23 * 4 + 2..],
+        [r#"cefrodil_map_hit_rate{cache="names"} 0.75"#, r#"cefrodil_map_hit_rate{cache="a\"b\\c\nd"} 0"#]
+    );
 }

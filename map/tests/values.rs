@@ -80,7 +80,7 @@ fn a_map_is_filled_from_an_iterator() {
     let kept = (0..200).filter(|key| map.get(key) == Some(key + 1)).count() as u64;
     assert_eq!((kept + map.stats().evicted, map.stats().refused, map.capacity() >= 200), (200, 0, true));
     map.extend([(3, 30), (3, 31)]);
-    assert_eq!((map.get(&3), Map::<u64, u64>::from_iter([]).len()), (Some(31), 0));
+    assert_eq!((map.get(&3), Map::<u64, u64>::from_iter([(0_u64, 0); 0]).len()), (Some(31), 0));
 }
 
 #[test]

@@ -8,7 +8,7 @@ use crate::core::Core;
 use crate::error::OpenError;
 use crate::settings::Settings;
 use crate::wait::TRIES;
-use cefrodil::{Cache, Mix, Shape};
+use cefrodil::{Cache, Shape};
 use std::collections::hash_map::RandomState;
 use std::fmt::{self, Debug, Formatter};
 use std::hash::{BuildHasher, Hash};
@@ -100,7 +100,8 @@ impl<K, V, S> ObjectBuilder<K, V, S> {
     /// How long a value lives, unless it is put with another time. `Duration::MAX` never ends, and `Duration::ZERO` is over at once. By
     /// default a value lives for ever. The clock is as [`Builder::time_to_live`](crate::Builder::time_to_live) says.
     ///
-    /// A put begins the time anew. [`update`](ObjectMap::update) and [`modify`](ObjectMap::modify) of a value don't.
+    /// A put begins the time anew. [`update`](ObjectMap::update) and [`modify`](ObjectMap::modify) of a value don't. A put first looks at two places of its
+    /// key's shard, and removes what has expired or was invalidated there.
     pub fn time_to_live(mut self, life: Duration) -> Self {
         self.settings.life = Some(life);
         self
@@ -181,7 +182,10 @@ where
     /// The first [`OpenError`] that applies.
     pub fn open(self) -> Result<ObjectMap<K, V, S>, OpenError> {
         let (shape, shards) = self.settings.shape()?;
-        self.open_shaped(&shape, shards, TRIES)
+        let bound = self.settings.bound(&shape, shards);
+        let map = self.open_shaped(&shape, shards, TRIES)?;
+        map.inner.core.bound.set(bound);
+        Ok(map)
     }
 
     /// Opens the map with shards of this shape, and calls that try so often.
@@ -198,13 +202,10 @@ impl<O: Held, S> ObjectInner<O, S> {
         tries: u32,
         hears: Hears<O>,
     ) -> Result<ObjectInner<O, S>, OpenError> {
-        let count = settings.handles();
-        // `ObjectInner::hash` mixes what the hasher does not spread, so that a hash says which shard its key has.
-        let shape = Shape { mix: Mix::None, ..*shape };
-        let mut handles = Cache::open(&shape, shards, count).map_err(OpenError::of)?;
+        let count = settings.handles()?;
+        let handles = Cache::open(shape, shards, count).map_err(OpenError::of)?;
         let Hears { listener, freed, weigher } = hears;
-        let capacity = handles[0].capacity();
-        let core = Core::new(handles, capacity, &settings, tries);
+        let core = Core::new(handles, shards, &settings, tries);
         let Settings { hasher, once, threads, .. } = settings;
         Ok(ObjectInner {
             core,

@@ -7,7 +7,7 @@ use super::look::Look;
 use super::put::Put;
 use crate::error::{GetError, InsertError, OpenError, RemoveError};
 use crate::settings::Settings;
-use crate::stats::Stats;
+use crate::stats::{Kind, Stats};
 use crate::wait::TRIES;
 use cefrodil::Reply;
 use std::collections::hash_map::RandomState;
@@ -88,7 +88,7 @@ impl<H: Head, S> BytesMap<H, S> {
     /// As [`ObjectMap::capacity`](crate::ObjectMap::capacity).
     #[must_use]
     pub fn capacity(&self) -> usize {
-        self.inner.core.capacity
+        self.inner.core.bound.most()
     }
 
     /// As [`ObjectMap::len`](crate::ObjectMap::len).
@@ -130,7 +130,7 @@ impl<H: Head, S> BytesMap<H, S> {
     ///
     /// [`RemoveError`]: nothing was evicted.
     pub fn evict<R>(&self, see: impl FnOnce(&Bytes<H>, u64) -> R) -> Result<Option<R>, RemoveError> {
-        self.inner.evict(self.inner.core.tries, see)
+        self.inner.evict(self.inner.core.tries, Kind::Evicted, see)
     }
 
     /// As [`ObjectMap::remove_stamped`](crate::ObjectMap::remove_stamped). The listener hears this reason.

@@ -114,14 +114,14 @@ impl<K: Eq, V: Clone, S> ObjectInner<Object<K, V>, S> {
         K: Borrow<Q>,
         Q: Eq + ToOwned<Owned = K> + ?Sized,
     {
-        let Some(leader) = leader else { return make() };
+        let Some(leader) = leader else { return self.core.load(make) };
         // After the begin of the flight: an invalidation has detached it, or ended this generation.
         let generation = self.core.generation.now();
         // An earlier flight may have ended since this thread looked the key up.
         if let Some(value) = self.find(hash, key, tries.min(LOOKS)) {
             return Ok(value);
         }
-        let value = make()?;
+        let value = self.core.load(make)?;
         let object = self.object(key.to_owned(), value.clone(), None, generation);
         Ok(self.fill(hash, object, value, leader, tries).value())
     }

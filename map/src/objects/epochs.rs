@@ -4,12 +4,13 @@
 //! that. A call that is pinned since this epoch or an earlier one may have found the object. All others can't. Each look for objects that can be
 //! freed begins the next epoch. Each thread that has a slot has a list of what it retired, so writes of several threads share only the epoch, which
 //! moves once for each `BATCH` objects of a thread.
-use crate::slots::lock;
+use crate::slots::{boxed, lock, Boxed};
 use std::collections::VecDeque;
+use std::iter::{once, repeat_with};
 use std::marker::PhantomData;
 use std::mem;
 use std::sync::atomic::{AtomicU64, AtomicUsize, Ordering::Relaxed, Ordering::Release, Ordering::SeqCst};
-use std::sync::Mutex;
+use std::sync::{Mutex, MutexGuard, OnceLock};
 
 /// So many objects of a thread wait before it looks whether it can free them.
 pub(crate) const BATCH: usize = 32;
@@ -24,8 +25,10 @@ pub(crate) struct Epochs {
     pins: Box<[Pin]>,
     // Of the calls by other threads.
     shared: Mutex<Vec<u64>>,
-    // Of the threads that have a slot, by its index, and of all others.
-    lists: Box<[List]>,
+    // Of the threads that have a slot, by its index. Each is made by the first call that retires an object there.
+    lists: Box<[OnceLock<Boxed<List>>]>,
+    // Of all other threads, and of those for whose lists there is no memory.
+    rest: List,
     // The list that a thread looks at beside its own. Relaxed: a guess.
     other: AtomicUsize,
 }
@@ -40,6 +43,7 @@ struct Pin {
 
 /// What threads have retired. The alignment is that of a slot.
 #[repr(align(128))]
+#[derive(Default)]
 struct List(Mutex<Waiting>);
 
 /// Retired objects with their epochs, in the order of these.
@@ -47,6 +51,12 @@ struct Waiting {
     objects: VecDeque<(u64, u64)>,
     // At this length, a call looks which can be freed.
     look_at: usize,
+}
+
+impl Default for Waiting {
+    fn default() -> Waiting {
+        Waiting { objects: VecDeque::new(), look_at: BATCH }
+    }
 }
 
 /// A pinned call. It stays in its thread.
@@ -65,12 +75,12 @@ impl Epochs {
     /// For threads with so many slots.
     pub fn new(slots: usize) -> Epochs {
         let pin = |_| Pin { since: AtomicU64::new(NONE), depth: AtomicUsize::new(0) };
-        let list = |_| List(Mutex::new(Waiting { objects: VecDeque::new(), look_at: BATCH }));
         Epochs {
             epoch: AtomicU64::new(0),
             pins: (0..slots).map(pin).collect(),
             shared: Mutex::default(),
-            lists: (0..=slots).map(list).collect(),
+            lists: repeat_with(OnceLock::new).take(slots).collect(),
+            rest: List::default(),
             other: AtomicUsize::new(0),
         }
     }
@@ -113,7 +123,7 @@ impl Epochs {
     /// Retires an object, which has left the index by a call that returned it. The thread has claimed this slot, or has none. Returns the objects
     /// that may be freed now.
     pub fn retire(&self, slot: Option<usize>, word: u64) -> Vec<u64> {
-        let mut waiting = lock(&self.lists[slot.unwrap_or(self.pins.len())].0);
+        let mut waiting = lock(&slot.and_then(|index| self.list(index)).unwrap_or(&self.rest).0);
         waiting.objects.push_back((self.epoch.load(SeqCst), word));
         if waiting.objects.len() < waiting.look_at {
             return Vec::new();
@@ -127,16 +137,32 @@ impl Epochs {
 
     // What waits in another list, whose thread may have ended.
     fn take_others(&self, end: u64, free: &mut Vec<u64>) {
-        let other = self.other.fetch_add(1, Relaxed) % self.lists.len();
-        if let Ok(mut waiting) = self.lists[other].0.try_lock() {
+        let other = self.other.fetch_add(1, Relaxed) % (self.lists.len() + 1);
+        let list = self.lists.get(other).map_or(Some(&self.rest), |list| Some(&list.get()?[0]));
+        if let Some(Ok(mut waiting)) = list.map(|list| list.0.try_lock()) {
             free.extend(waiting.take_free(end));
         }
+    }
+
+    // That of the thread with this slot, if there is memory for it.
+    fn list(&self, slot: usize) -> Option<&List> {
+        let list = &self.lists[slot];
+        if list.get().is_none() {
+            let _ = list.set(boxed(List::default())?);
+        }
+        Some(&list.get()?[0])
+    }
+
+    // What waits in each list, one after the other.
+    fn each_list(&self) -> impl Iterator<Item = MutexGuard<'_, Waiting>> {
+        let lists = self.lists.iter().filter_map(OnceLock::get).map(|list| &list[0]);
+        lists.chain(once(&self.rest)).map(|list| lock(&list.0))
     }
 
     /// Returns the objects that may be freed now.
     pub fn free_now(&self) -> Vec<u64> {
         let end = self.begin_epoch();
-        self.lists.iter().flat_map(|list| lock(&list.0).take_free(end)).collect()
+        self.each_list().flat_map(|mut waiting| waiting.take_free(end)).collect()
     }
 
     // Begins an epoch. Returns the first one whose objects can't be freed: one that a pinned call has announced, or the one that has begun, in which
@@ -154,23 +180,23 @@ impl Epochs {
 
     /// In a forked child: leaves the lists as they are. A thread of the parent may have stopped while it changed one.
     pub fn forget(&mut self) {
-        mem::forget((mem::take(&mut self.lists), mem::take(&mut self.shared)));
+        mem::forget((mem::take(&mut self.lists), mem::take(&mut self.rest), mem::take(&mut self.shared)));
     }
 
     /// How many objects wait.
     pub fn waiting(&self) -> usize {
-        self.lists.iter().map(|list| lock(&list.0).objects.len()).sum()
+        self.each_list().map(|waiting| waiting.objects.len()).sum()
     }
 
     /// Calls `see` with each object that waits. Meanwhile it goes on waiting.
     pub fn each_waiting(&self, mut see: impl FnMut(u64)) {
-        self.lists.iter().for_each(|list| lock(&list.0).objects.iter().for_each(|(_, word)| see(*word)));
+        self.each_list().for_each(|waiting| waiting.objects.iter().for_each(|(_, word)| see(*word)));
     }
 
     /// Whether those of each list wait in the order of their epochs.
     #[cfg(test)]
     pub fn are_in_order(&self) -> bool {
-        self.lists.iter().all(|list| lock(&list.0).objects.iter().is_sorted_by_key(|(epoch, _)| *epoch))
+        self.each_list().all(|waiting| waiting.objects.iter().is_sorted_by_key(|(epoch, _)| *epoch))
     }
 }
 

@@ -1,38 +1,31 @@
-//! Objects that give way without a put of the index: to a bound on weights, or when the program asks for it.
+//! Objects that give way without a put of the index: to a bound, or when the program asks for it.
 use super::builder::Reason;
 use super::inner::ObjectInner;
 use super::object::Held;
 use super::weights::Weights;
-use crate::error::{InsertError, RemoveError};
+use crate::bound::Evicted;
+use crate::error::{CapacityError, InsertError, RemoveError};
+use crate::handle::Index;
 use crate::stats::Kind;
-use cefrodil::{Evict, EvictError, Reply, TurnError};
 
 impl<O: Held, S> ObjectInner<O, S> {
     /// Evicts the object that would give way next in a shard with many objects, so that each keeps its share. If other threads are only about to
     /// put these, another shard evicts. Calls `see` with the object before it is retired, and with the moment. `None`: there is none.
-    pub fn evict<R>(&self, tries: u32, see: impl FnOnce(&O, u64) -> R) -> Result<Option<R>, RemoveError> {
-        for hash in self.weights.iter().flat_map(Weights::fullest_first) {
-            if let Evict::Evicted { at, old } = self.evict_in_shard(hash, tries)? {
-                self.core.slots.count(Kind::Evicted);
-                let left = self.leaving(hash, old.value[0]);
-                let seen = see(left.object(), at);
-                left.tell(Reason::Evicted);
-                return Ok(Some(seen));
-            }
-        }
-        Ok(None)
+    pub fn evict<R>(&self, tries: u32, cause: Kind, see: impl FnOnce(&O, u64) -> R) -> Result<Option<R>, RemoveError> {
+        let shards = self.weights.iter().flat_map(Weights::fullest_first);
+        Ok(self.core.evict(shards, tries, cause)?.map(|evicted| self.end_eviction(evicted, see)))
     }
 
-    fn evict_in_shard(&self, near: u64, tries: u32) -> Result<Evict<1>, RemoveError> {
-        let evicted = self.core.slots.in_turn(tries, || match self.core.slots.call(|handle| handle.try_evict(near)) {
-            // Lookups used all objects meanwhile. The next try may be quicker than they are.
-            Err(TurnError::Call(EvictError::AllRecent)) => Err(TurnError::Held),
-            evicted => evicted,
-        });
-        evicted.map_err(|why| match why {
-            TurnError::Held => RemoveError::Held,
-            TurnError::Call(_) => RemoveError::Spent,
-        })
+    fn end_eviction<R>(&self, Evicted { near, at, word }: Evicted, see: impl FnOnce(&O, u64) -> R) -> R {
+        let left = self.leaving(near, word);
+        let seen = see(left.object(), at);
+        left.tell(Reason::Evicted);
+        seen
+    }
+
+    /// Changes how many objects there may be, and evicts what is too much.
+    pub fn set_capacity(&self, most: usize) -> Result<(), CapacityError> {
+        self.core.set_capacity(most, |evicted| self.end_eviction(evicted, |_, _| ()))
     }
 
     /// Whether objects must give way to the bound on weights.
@@ -51,13 +44,15 @@ impl<O: Held, S> ObjectInner<O, S> {
     /// leave, and `evict_to_bound` comes after the put. Returns whether objects were evicted.
     #[inline(never)]
     pub fn make_room(&self, hash: u64, tries: u32) -> Result<bool, InsertError> {
-        match self.core.slots.call(|handle| handle.get_or_turn(hash)) {
-            Reply::Found { .. } => Ok(false),
-            Reply::Absent { .. } | Reply::Busy => self.evict_to_bound(tries).map_err(|why| match why {
-                RemoveError::Spent => InsertError::Spent,
-                _ => InsertError::Held,
-            }),
+        if self.core.slots.call(|handle| handle.has(hash)) {
+            return Ok(false);
         }
+        let has_evicted = self.evict_to_bound(tries).map_err(|why| match why {
+            RemoveError::Spent => InsertError::Spent,
+            _ => InsertError::Held,
+        })?;
+        let makes_room = self.core.bound.is_below_room();
+        Ok(makes_room && self.core.make_room(hash, tries, |evicted| self.end_eviction(evicted, |_, _| ())) || has_evicted)
     }
 
     /// Evicts objects until the others weigh no more than they may. Returns whether it evicted some.
@@ -65,7 +60,7 @@ impl<O: Held, S> ObjectInner<O, S> {
     pub fn evict_to_bound(&self, tries: u32) -> Result<bool, RemoveError> {
         let mut has_evicted = false;
         // If there is none, other threads are about to put what weighs too much. They come here, too, after their puts.
-        while self.is_too_heavy() && self.evict(tries, |_, _| ())?.is_some() {
+        while self.is_too_heavy() && self.evict(tries, Kind::EvictedByWeight, |_, _| ())?.is_some() {
             has_evicted = true;
         }
         Ok(has_evicted)

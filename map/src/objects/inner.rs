@@ -5,7 +5,7 @@ use super::object::{pointer, Held, Object};
 use super::weights::Weights;
 use crate::clock::{FAR, NEVER};
 use crate::core::Core;
-use crate::print::Print;
+use crate::print::{mix, Print};
 use crate::stats::Stats;
 use cefrodil::Handle;
 use std::cell::Cell;
@@ -93,7 +93,7 @@ impl<O: Held, S> ObjectInner<O, S> {
 
     /// What the calls of all threads came to, and what waits to be freed.
     pub fn stats(&self) -> Stats {
-        let mut stats = self.core.slots.stats().of_map(self.core.capacity, self.weights.as_ref().map_or(0, Weights::sum));
+        let mut stats = self.core.stats(self.weights.as_ref().map_or(0, Weights::sum));
         self.epochs.each_waiting(|word| {
             // SAFETY: the word was in this map's index, so it is one of `into_word` of these types. It waits, so no owner is made of it.
             let object = unsafe { &*pointer::<O>(word) };
@@ -174,12 +174,6 @@ impl<O: Held, S: BuildHasher> ObjectInner<O, S> {
             hash
         }
     }
-}
-
-/// Spreads a hash: the finalizer of `MurmurHash3`.
-fn mix(hash: u64) -> u64 {
-    let fold = |hash: u64| hash ^ (hash >> 33);
-    fold(fold(fold(hash).wrapping_mul(0xff51_afd7_ed55_8ccd)).wrapping_mul(0xc4ce_b9fe_1a85_ec53))
 }
 
 /// An object that has left the index. It is retired when this is dropped, also by a panic.

@@ -37,7 +37,7 @@ where
         loop {
             match self.try_board(key) {
                 Board::Found(value) => return Ok(value),
-                Board::Lead(lead) => return Ok(lead.publish(load.await?)),
+                Board::Lead(lead) => return Ok(lead.publish(self.inner.core.load_async(load).await?)),
                 Board::Wait(wait) => wait.await,
             }
         }

@@ -281,9 +281,9 @@ impl<O: Held, S> ObjectInner<O, S> {
         match state {
             Some(State::Live(_)) => self.core.slots.count(Kind::Hit),
             None => self.core.slots.count(Kind::Busy),
-            Some(State::Expired(_)) => self.core.missed(Kind::Expired),
-            Some(State::Other(_)) => self.core.missed(Kind::Collided),
-            Some(State::Absent { .. }) => self.core.missed(Kind::Miss),
+            Some(State::Expired(_)) => self.core.slots.count_for(Kind::Miss, Kind::Expired),
+            Some(State::Other(_)) => self.core.slots.count_for(Kind::Miss, Kind::Collided),
+            Some(State::Absent { .. }) => self.core.slots.count(Kind::Miss),
         }
     }
 }

@@ -3,7 +3,7 @@ use super::builder::ObjectBuilder;
 use super::inner::ObjectInner;
 use super::object::Object;
 use super::weights::Weights;
-use crate::error::{OpenError, RemoveError};
+use crate::error::{CapacityError, OpenError, RemoveError};
 use crate::stats::Stats;
 use std::borrow::Borrow;
 use std::collections::hash_map::RandomState;
@@ -55,10 +55,19 @@ where
 }
 
 impl<K, V, S> ObjectMap<K, V, S> {
-    /// The most entries that the map holds: what was asked for, or more. Shards fill unevenly, so it may evict before it has so many.
+    /// As [`Map::capacity`](crate::Map::capacity).
     #[must_use]
     pub fn capacity(&self) -> usize {
-        self.inner.core.capacity
+        self.inner.core.bound.most()
+    }
+
+    /// As [`Map::set_capacity`](crate::Map::set_capacity). The listener hears of each object that gives way.
+    ///
+    /// # Errors
+    ///
+    /// [`CapacityError`].
+    pub fn set_capacity(&self, most: usize) -> Result<(), CapacityError> {
+        self.inner.set_capacity(most)
     }
 
     /// How many entries the map has, expired ones included. While other threads write it is an estimate.
@@ -77,6 +86,12 @@ impl<K, V, S> ObjectMap<K, V, S> {
     #[must_use]
     pub fn stats(&self) -> Stats {
         self.inner.stats()
+    }
+
+    /// As [`Map::hit_rate_of_last_minute`](crate::Map::hit_rate_of_last_minute).
+    #[must_use]
+    pub fn hit_rate_of_last_minute(&self) -> f64 {
+        self.inner.core.stats(0).hit_rate_of_last_minute()
     }
 
     /// The sum of what the entries weigh, by the weigher of [`ObjectBuilder::max_weight`]; 0 without one. It counts what is about to be put.

@@ -233,8 +233,11 @@ impl<O: Held, S> ObjectInner<O, S> {
         if self.listener.is_some() && HEARING.get() >= MOST_HEARING {
             return Err(InsertError::TooDeep);
         }
+        if self.core.has_times() {
+            self.take_ended(hash);
+        }
         let claim = Claim::of(self.weights.as_ref(), hash, object.weight()).ok_or(InsertError::TooHeavy)?;
-        let has_evicted = self.is_too_heavy() && self.make_room(hash, tries)?;
+        let has_evicted = (self.is_too_heavy() || self.core.bound.is_below_room()) && self.make_room(hash, tries)?;
         Ok((claim, has_evicted))
     }
 

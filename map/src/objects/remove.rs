@@ -112,9 +112,20 @@ impl<O: Held, S> ObjectInner<O, S> {
             Reason::Expired => self.core.in_lock(hash, take),
             _ => self.core.slots.call(take),
         })?;
-        self.core.slots.count(Kind::Removed);
+        self.core.slots.count_for(Kind::Removed, if reason == Reason::Expired { Kind::Ended } else { Kind::Removed });
         self.leaving(hash, taken.old.value[0]).tell(reason);
         Ok(taken.at)
+    }
+
+    /// Before a put under this hash: takes out what has ended at a few places.
+    #[inline(never)]
+    pub fn take_ended(&self, hash: u64) {
+        let pinned = self.pin();
+        self.core.look_for_ended(hash, |there| {
+            if !self.is_live(pinned.object(there.value[0])) {
+                let _ = self.take_if(there.key, there.since, Reason::Expired, 1);
+            }
+        });
     }
 
     pub fn remove_stamped(&self, hash: u64, since: u64, reason: Reason) -> Result<u64, IfError> {

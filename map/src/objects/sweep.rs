@@ -4,6 +4,7 @@ use super::inner::ObjectInner;
 use super::map::ObjectMap;
 use super::object::Held;
 use crate::error::ClearError;
+use crate::handle::Index;
 use crate::stats::Kind;
 use cefrodil::{Handle, Reply, Take};
 
@@ -101,7 +102,7 @@ impl<K, V, S> ObjectMap<K, V, S> {
     fn clear_all(&self) -> Result<(), ClearError> {
         let inner = &self.inner;
         inner.core.flights.detach_all();
-        for (hash, _) in inner.list()? {
+        for hash in inner.core.list(inner.core.tries, Index::keys)? {
             let taken = inner.core.slots.in_turn(inner.core.tries, || inner.core.slots.call(|handle| handle.try_take(hash)));
             if let Take::Taken { old, .. } = taken.map_err(ClearError::of_removal)? {
                 inner.core.slots.count(Kind::Removed);
@@ -134,7 +135,7 @@ impl<O: Held, S> ObjectInner<O, S> {
                 Reply::Absent { .. } | Reply::Busy => None,
             })
         };
-        let hashes = self.list()?.into_iter().map(|(hash, _)| hash);
+        let hashes = self.core.list(self.core.tries, Index::keys)?;
         self.core.take_those(hashes, look, |hash, since| self.take_if(hash, since, reason, self.core.tries))
     }
 }

@@ -1,4 +1,5 @@
 //! The bound on what objects weigh together, and how many objects each shard has.
+use crate::bound::SHARD;
 use std::sync::atomic::{AtomicU64, AtomicUsize, Ordering::Relaxed, Ordering::SeqCst};
 
 /// What an object weighs.
@@ -24,9 +25,6 @@ const HIGHEST: u64 = 1 << 48;
 
 /// So many shards are compared at an eviction. That keeps all nearly alike, and takes no longer where there are many.
 const COMPARED: usize = 8;
-
-/// The index takes a key's shard from the bits from this one on.
-const SHARD: u32 = 48;
 
 impl<O> Weights<O> {
     /// Of so many shards, a power of two.

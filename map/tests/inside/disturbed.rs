@@ -2,7 +2,7 @@
 use super::one_shard;
 use super::turns::calls;
 use crate::flight::Boarding;
-use crate::handle::{AnyHandle, MANY};
+use crate::handle::{AnyHandle, Index, MANY};
 use crate::wait::TRIES;
 use crate::words::Seen;
 use crate::{ClearError, GetError, InsertError, Inserted, Map, RemoveError, UpdateError};
@@ -70,7 +70,7 @@ fn restless(tries: u32) -> Map<u64, u64> {
 #[test]
 fn a_write_that_does_not_get_the_turn_says_so() {
     let map = filled(20_000, 1);
-    let list = || drop(map.inner.core.slots.call(AnyHandle::keys));
+    let list = || drop(map.inner.core.slots.call(Index::keys));
     beside(list, |number| {
         let key = number % 100;
         let before = map.get(&key);
@@ -100,7 +100,7 @@ fn a_write_that_does_not_get_the_turn_says_so() {
 fn a_single_try_of_a_write_does_not_wait_for_the_turn() {
     const HELD: Result<u64, UpdateError> = Err(UpdateError::Insert(InsertError::Held));
     let map = filled(20_000, TRIES);
-    let list = || drop(map.inner.core.slots.call(AnyHandle::keys));
+    let list = || drop(map.inner.core.slots.call(Index::keys));
     beside(list, |number| {
         let (key, other) = (number % 100, 100 + number % 100);
         let inserted = map.try_insert(&key, number);
@@ -117,7 +117,7 @@ fn a_single_try_of_a_write_does_not_wait_for_the_turn() {
 #[test]
 fn each_refusal_is_counted() {
     let map = filled(20_000, 1);
-    let list = || drop(map.inner.core.slots.call(AnyHandle::keys));
+    let list = || drop(map.inner.core.slots.call(Index::keys));
     beside(list, |number| {
         let (number, before) = (number % 1_000, map.stats());
         let failed = [
@@ -135,7 +135,7 @@ fn each_refusal_is_counted() {
 #[test]
 fn a_value_made_without_waiting_is_put_by_one_try() {
     let map = filled(20_000, TRIES);
-    let list = || drop(map.inner.core.slots.call(AnyHandle::keys));
+    let list = || drop(map.inner.core.slots.call(Index::keys));
     beside(list, |number| {
         let (key, before) = (number + 1_000_000, map.stats().refused);
         assert_eq!(map.try_get_or_insert_with(&key, || 3), Ok(3));
@@ -179,7 +179,7 @@ fn a_single_lookup_does_not_wait() {
 #[test]
 fn a_clear_that_does_not_get_the_turn_says_so() {
     let map = filled(20_000, TRIES);
-    let list = || drop(map.inner.core.slots.call(AnyHandle::keys));
+    let list = || drop(map.inner.core.slots.call(Index::keys));
     beside(list, |_| {
         let cleared = map.try_clear();
         match cleared {
@@ -196,7 +196,7 @@ fn a_call_that_tries_more_often_is_not_refused() {
     for key in 0..10_000 {
         map.insert(&key, key).unwrap();
     }
-    let list = || drop(map.inner.core.slots.call(AnyHandle::keys));
+    let list = || drop(map.inner.core.slots.call(Index::keys));
     let (end, begin) = (AtomicBool::new(false), Instant::now());
     thread::scope(|threads| {
         threads.spawn(|| {

@@ -1,7 +1,7 @@
 //! Calls of a map while another thread has the turn. Each tries as often as it may, says that it was held, and has changed nothing.
 use super::one_shard;
 use super::turns::{before_calls, calls, Turn};
-use crate::handle::AnyHandle;
+use crate::handle::Index;
 use crate::{ClearError, GetError, InsertError, Map, RemoveError, UpdateError};
 use std::cell::RefCell;
 use std::rc::Rc;
@@ -15,6 +15,9 @@ const TRIES: u32 = 5;
 
 const LIFE: Duration = Duration::MAX;
 
+/// At so many places a put first looks for what has ended.
+const PLACES: u32 = 2;
+
 // A map of one shard with the key 1, whose calls try five times.
 fn open() -> Map<u64, u64> {
     let map = Map::builder(1).time_to_live(LIFE).open_shaped(&one_shard(100), 1, TRIES).unwrap();
@@ -23,21 +26,21 @@ fn open() -> Map<u64, u64> {
 }
 
 fn hold(map: &Map<u64, u64>) -> Turn {
-    Turn::begin(&map.inner.core.slots, AnyHandle::keys)
+    Turn::begin(&map.inner.core.slots, Index::keys)
 }
 
 #[test]
 fn a_write_tries_so_often_and_changes_nothing() {
     let map = open();
     let turn = hold(&map);
-    assert_eq!(calls(|| map.insert(&1, 11)), (TRIES, Err(HELD)));
-    assert_eq!(calls(|| map.insert(&2, 20)), (TRIES, Err(HELD)));
-    assert_eq!(calls(|| map.insert_for(&1, 11, LIFE)), (TRIES, Err(HELD)));
+    assert_eq!(calls(|| map.insert(&1, 11)), (PLACES + TRIES, Err(HELD)));
+    assert_eq!(calls(|| map.insert(&2, 20)), (PLACES + TRIES, Err(HELD)));
+    assert_eq!(calls(|| map.insert_for(&1, 11, LIFE)), (PLACES + TRIES, Err(HELD)));
     // A change looks the key up first.
-    assert_eq!(calls(|| map.update(&1, |_| 11)), (1 + TRIES, Err(UPDATE_HELD)));
-    assert_eq!(calls(|| map.update(&2, |_| 20)), (1 + TRIES, Err(UPDATE_HELD)));
-    assert_eq!(calls(|| map.modify(&1, |_| 11)), (1 + TRIES, Err(UPDATE_HELD)));
-    assert_eq!(calls(|| map.modify_for(&1, LIFE, |_| 11)), (1 + TRIES, Err(UPDATE_HELD)));
+    assert_eq!(calls(|| map.update(&1, |_| 11)), (1 + PLACES + TRIES, Err(UPDATE_HELD)));
+    assert_eq!(calls(|| map.update(&2, |_| 20)), (1 + PLACES + TRIES, Err(UPDATE_HELD)));
+    assert_eq!(calls(|| map.modify(&1, |_| 11)), (1 + PLACES + TRIES, Err(UPDATE_HELD)));
+    assert_eq!(calls(|| map.modify_for(&1, LIFE, |_| 11)), (1 + PLACES + TRIES, Err(UPDATE_HELD)));
     assert_eq!(calls(|| map.remove(&1)), (1 + TRIES, Err(RemoveError::Held)));
     assert_eq!((map.stats().refused, map.get(&1), map.get(&2), map.len()), (8, Some(10), None, 1));
     assert_eq!(calls(|| map.peek(&1)), (TRIES, Err(GetError::Busy)));
@@ -49,9 +52,9 @@ fn a_write_tries_so_often_and_changes_nothing() {
 fn a_single_try_is_one() {
     let map = open();
     let _turn = hold(&map);
-    assert_eq!(calls(|| map.try_insert(&1, 11)), (1, Err(HELD)));
-    assert_eq!(calls(|| map.try_update(&1, |_| 11)), (2, Err(UPDATE_HELD)));
-    assert_eq!(calls(|| map.try_update(&2, |_| 20)), (2, Err(UPDATE_HELD)));
+    assert_eq!(calls(|| map.try_insert(&1, 11)), (PLACES + 1, Err(HELD)));
+    assert_eq!(calls(|| map.try_update(&1, |_| 11)), (PLACES + 2, Err(UPDATE_HELD)));
+    assert_eq!(calls(|| map.try_update(&2, |_| 20)), (PLACES + 2, Err(UPDATE_HELD)));
     assert_eq!(calls(|| map.try_remove(&1)), (2, Err(RemoveError::Held)));
     assert_eq!(calls(|| map.try_clear()), (1, Err(ClearError::Held)));
     assert_eq!((map.stats().refused, map.get(&1), map.get(&2)), (5, Some(10), None));
@@ -75,9 +78,9 @@ fn lookups_need_no_turn() {
 fn a_computed_value_is_returned_though_its_put_is_held() {
     let map = open();
     let _turn = hold(&map);
-    assert_eq!(calls(|| map.get_or_insert_with(&2, || 20)), (3 + TRIES, 20));
-    assert_eq!(calls(|| map.get_or_try_insert_with(&2, || Ok::<u64, ()>(21))), (3 + TRIES, Ok(21)));
-    assert_eq!(calls(|| map.try_get_or_insert_with(&2, || 22)), (3 + 1, Ok(22)));
+    assert_eq!(calls(|| map.get_or_insert_with(&2, || 20)), (3 + PLACES + TRIES, 20));
+    assert_eq!(calls(|| map.get_or_try_insert_with(&2, || Ok::<u64, ()>(21))), (3 + PLACES + TRIES, Ok(21)));
+    assert_eq!(calls(|| map.try_get_or_insert_with(&2, || 22)), (3 + PLACES + 1, Ok(22)));
     assert_eq!((map.get(&2), map.stats().refused, map.stats().added), (None, 3, 1));
 }
 
@@ -123,7 +126,7 @@ fn a_write_that_gets_the_turn_at_last_is_made() {
     for (number, write) in writes.into_iter().enumerate() {
         let map = open();
         let turn = RefCell::new(Some(hold(&map)));
-        let looks = [0, 0, 1, 1, 1, 3][number];
+        let looks = [PLACES, PLACES, 1 + PLACES, 1 + PLACES, 1, 3 + PLACES][number];
         before_calls(looks + TRIES - 1, 1, move || drop(turn.take()));
         assert!(calls(|| write(&map)).1, "write {number}");
         assert_eq!(map.stats().refused, 0);

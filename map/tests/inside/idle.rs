@@ -1,7 +1,7 @@
 //! Entries that expire if they are not used, by a clock that the tests turn.
 use super::done;
 use super::turns::{before_calls, calls, Turn};
-use crate::handle::AnyHandle;
+use crate::handle::Index;
 use crate::Map;
 use std::time::Duration;
 
@@ -149,7 +149,7 @@ fn a_use_undoes_no_write_that_comes_before_it_is_noted() {
 fn a_lookup_does_not_wait_for_the_turn_and_the_next_one_is_noted() {
     let map = open();
     turn(&map, 100);
-    let held = Turn::begin(&map.inner.core.slots, AnyHandle::keys);
+    let held = Turn::begin(&map.inner.core.slots, Index::keys);
     assert_eq!((map.try_get(&1), map.try_get(&9)), (Ok(Some(10)), Ok(None)));
     drop(held);
     assert_eq!(map.get(&1), Some(10));

@@ -4,6 +4,7 @@ mod boards;
 mod deadlocks;
 mod detaching;
 mod disturbed;
+mod ended;
 #[cfg(feature = "objects")]
 mod epochs;
 mod errors;

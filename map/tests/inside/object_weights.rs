@@ -2,6 +2,7 @@
 use super::turns::Turn;
 use super::{done, one_shard};
 use crate::slots::BEFORE_CALL;
+use crate::stats::Kind;
 use crate::{Block, BytesMap, GetError, Head, InsertError, Inserted, ObjectBuilder, ObjectMap, RemoveError};
 use cefrodil::{Handle, Shape};
 use std::hash::{BuildHasher, BuildHasherDefault, Hasher};
@@ -140,10 +141,10 @@ fn an_eviction_without_a_turn_says_so() {
     let map = BytesMap::<Empty>::builder(100).shards(1).open().unwrap();
     map.put(Block::new(Empty(0), b"", &[])).unwrap();
     let turn = Turn::begin(&map.inner.core.slots, |handle: &mut Handle<1>| handle.try_entries());
-    assert_eq!(map.inner.evict(TRIES, |_, _| ()), Err(RemoveError::Held));
+    assert_eq!(map.inner.evict(TRIES, Kind::Evicted, |_, _| ()), Err(RemoveError::Held));
     assert_eq!((map.len(), map.stats().evicted), (1, 0));
     // Nor does a look at a hash say that nothing is there.
     map.peek_hash(map.hash_of(b""), |look| assert!(matches!(look, Err(GetError::Busy))));
     drop(turn);
-    assert_eq!((map.inner.evict(TRIES, |_, _| ()), map.len()), (Ok(Some(())), 0));
+    assert_eq!((map.inner.evict(TRIES, Kind::Evicted, |_, _| ()), map.len()), (Ok(Some(())), 0));
 }

@@ -19,10 +19,14 @@ fn open() -> Numbers {
     map
 }
 
-// Makes the call. After each of its lookups the key 1 is put anew, so many times.
-fn beside_puts<T>(map: &Numbers, times: u32, call: impl FnOnce() -> T) -> T {
+/// A removal makes so many calls of the index before the one that removes, and a change before its put, which first looks for what has ended.
+const REMOVAL: u32 = 1;
+const CHANGE: u32 = 3;
+
+// Makes the call. After each such number of calls of the index the key 1 is put anew, so many times.
+fn beside_puts<T>(map: &Numbers, after: u32, times: u32, call: impl FnOnce() -> T) -> T {
     let other = map.clone();
-    before_calls(1, times, move || assert_eq!(other.insert(&1, other.get(&1).unwrap_or(20) + 1), Ok(Inserted::Renewed)));
+    before_calls(after, times, move || assert_eq!(other.insert(&1, other.get(&1).unwrap_or(20) + 1), Ok(Inserted::Renewed)));
     calls(call).1
 }
 
@@ -36,11 +40,11 @@ fn beside_a_removal<T>(map: &Numbers, call: impl FnOnce() -> T) -> T {
 #[test]
 fn a_removal_takes_the_last_value_or_says_that_it_was_overtaken() {
     let map = open();
-    assert_eq!(beside_puts(&map, TRIES, || map.remove(&1)), Err(RemoveError::Contended));
+    assert_eq!(beside_puts(&map, REMOVAL, TRIES, || map.remove(&1)), Err(RemoveError::Contended));
     assert_eq!((map.get(&1), map.len(), map.stats().removed, map.stats().refused), (Some(15), 1, 0, 1));
-    assert_eq!(beside_puts(&map, 1, || map.try_remove(&1)), Err(RemoveError::Contended));
+    assert_eq!(beside_puts(&map, REMOVAL, 1, || map.try_remove(&1)), Err(RemoveError::Contended));
     assert_eq!((map.get(&1), map.stats().refused), (Some(16), 2));
-    assert_eq!(beside_puts(&map, TRIES - 1, || map.remove(&1)), Ok(Some(20)));
+    assert_eq!(beside_puts(&map, REMOVAL, TRIES - 1, || map.remove(&1)), Ok(Some(20)));
     assert_eq!((map.get(&1), map.len(), map.stats().removed, map.stats().refused), (None, 0, 1, 2));
 }
 
@@ -69,9 +73,9 @@ fn a_change_begins_anew_with_what_was_put() {
             called.set(called.get() + 1);
             2 * old
         };
-        assert_eq!(beside_puts(&map, TRIES, || change(&map, &double)), Err(UpdateError::Contended));
+        assert_eq!(beside_puts(&map, CHANGE, TRIES, || change(&map, &double)), Err(UpdateError::Contended));
         assert_eq!((called.get(), map.get(&1), map.stats().refused), (TRIES, Some(15), 1));
-        assert_eq!(beside_puts(&map, TRIES - 1, || change(&map, &double)), Ok(Some(38)));
+        assert_eq!(beside_puts(&map, CHANGE, TRIES - 1, || change(&map, &double)), Ok(Some(38)));
         assert_eq!((called.get(), map.get(&1), map.stats().refused), (2 * TRIES, Some(38), 1));
         // The puts in between, and one of the changes.
         assert_eq!((map.stats().added, map.stats().renewed), (1, u64::from(2 * TRIES - 1) + 1));
@@ -122,7 +126,7 @@ fn a_clear_counts_what_it_removed_itself() {
 fn an_update_over_an_expired_value_begins_anew_with_what_was_put() {
     let map = open();
     map.insert_for(&1, 10, Duration::ZERO).unwrap();
-    assert_eq!(beside_puts(&map, 1, || map.update(&1, |old| old.map_or(7, |old| old + 1))), Ok(22));
+    assert_eq!(beside_puts(&map, CHANGE, 1, || map.update(&1, |old| old.map_or(7, |old| old + 1))), Ok(22));
     map.insert_for(&1, 10, Duration::ZERO).unwrap();
-    assert_eq!(beside_puts(&map, 1, || map.remove(&1)), Ok(Some(21)));
+    assert_eq!(beside_puts(&map, REMOVAL, 1, || map.remove(&1)), Ok(Some(21)));
 }

@@ -1,5 +1,5 @@
 //! A key's two words: by default a number and its SipHash, or the two words of one SipHash; with a hasher of the user's own two hashes.
-use crate::print::{Print, PrintHasher, Printer};
+use crate::print::{mix, Print, PrintHasher, Printer};
 use crate::sip::{Secret, Sip};
 use crate::{Hashed, Key, Map};
 use std::cell::Cell;
@@ -49,7 +49,7 @@ fn the_two_hashes_are_those_of_different_texts() {
         sip.take(0xff, 1);
         assert_eq!(once.print(key), print(sip.pair()));
         let (first, second) = (hasher.hash_one((0_u64, key)), hasher.hash_one((1_u64, key)));
-        assert_eq!(twice.print(key), Print { key: first, check: second });
+        assert_eq!(twice.print(key), Print { key: mix(first), check: second });
     }
 }
 

@@ -1,11 +1,12 @@
 //! What a shard is opened with.
 use crate::settings::Settings;
-use cefrodil::{Mix, Policy, Shape};
+use crate::OpenError;
+use cefrodil::{Mix, Policy};
 use std::collections::hash_map::RandomState;
 
 #[test]
 fn many_shards_have_few_stripes_each() {
-    for (shards, stripes) in [(1, 4096), (16, 256), (64, 64), (256, 64)] {
+    for (shards, stripes) in [(1, 4096), (16, 256), (64, 64), (256, 32)] {
         let mut settings = Settings::new(3_000_000);
         settings.shards = Some(shards);
         let (shape, count) = settings.shape().unwrap();
@@ -13,23 +14,34 @@ fn many_shards_have_few_stripes_each() {
     }
 }
 
-// One for each 64 entries, a power of two, and 16 at most.
+// One for each 2,500 entries, a power of two, and 16 at most.
 #[test]
 fn there_are_so_many_shards_by_default() {
-    let expected = [(1, 1), (127, 1), (128, 2), (255, 2), (256, 4), (511, 4), (512, 8), (1_023, 8), (1_024, 16), (3_000_000, 16)];
+    let expected =
+        [(1, 1), (4_999, 1), (5_000, 2), (9_999, 2), (10_000, 4), (20_000, 8), (39_999, 8), (40_000, 16), (3_000_000, 16)];
     for (capacity, shards) in expected {
         assert_eq!(Settings::new(capacity).shape().unwrap().1, shards, "of {capacity}");
     }
 }
 
+// A shard's mean share is rounded up, and its deviation too, which counts five times.
 #[test]
-fn there_are_so_many_handles() {
-    let handles = |threads| {
+fn by_default_there_is_room_for_a_tenth_more_at_most() {
+    for capacity in (1..100_000).step_by(13).chain([500, 5_000, 10_000, 20_000, 40_000]) {
+        let (shape, shards) = Settings::new(capacity).shape().unwrap();
+        let (room, most) = (shape.items as usize * shards as usize, capacity + capacity / 10 + 6 * shards as usize);
+        assert!((capacity..=most).contains(&room), "{room} for {capacity}");
+    }
+}
+
+// One is shared. An index opens 64 more at any time, and has 1,024 at most.
+#[test]
+fn so_many_handles_are_opened_with_the_map() {
+    for (threads, handles) in [(0, Ok(1)), (64, Ok(1)), (65, Ok(2)), (1_023, Ok(960)), (1_024, Err(OpenError::Threads))] {
         let mut settings = Settings::new(100);
         settings.threads = threads;
-        settings.handles()
-    };
-    assert_eq!((Settings::new(100).handles(), handles(0), handles(1), handles(usize::MAX)), (65, 1, 2, usize::MAX));
+        assert_eq!(settings.handles(), handles);
+    }
 }
 
 // 255 entries have as many buckets as 510 would, and 256 as many as 256.
@@ -48,10 +60,10 @@ fn a_map_evicts_few_keys_for_a_scan() {
     assert_eq!(Settings::new(5_000).shape().unwrap().0.policy, Policy::ScanResistant);
 }
 
-// The index mixes the bits of a hasher of the user's alone.
+// The map mixes the bits of a hasher of the user's, and the index those of none.
 #[test]
-fn a_hasher_of_the_users_changes_the_mix_alone() {
-    let (plain, shards) = Settings::new(5_000).shape().unwrap();
-    let (mixed, same) = Settings::new(5_000).hasher(RandomState::new()).shape().unwrap();
-    assert_eq!((plain.mix, mixed, same), (Mix::None, Shape { mix: Mix::Full, ..plain }, shards));
+fn a_hasher_of_the_users_changes_no_shape() {
+    let (shape, shards) = Settings::new(5_000).shape().unwrap();
+    assert_eq!(Settings::new(5_000).hasher(RandomState::new()).shape(), Ok((shape, shards)));
+    assert_eq!(shape.mix, Mix::None);
 }

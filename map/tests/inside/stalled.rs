@@ -1,7 +1,7 @@
 //! Calls that give up, while another thread keeps the turn: how many, and for how long.
 use super::one_shard;
 use super::turns::Turn;
-use crate::handle::AnyHandle;
+use crate::handle::Index;
 use crate::wait::{SLEEPS_FROM, TRIES};
 use crate::{Board, InsertError, Map, Published, RemoveError};
 use std::thread::sleep;
@@ -17,7 +17,7 @@ fn open(tries: u32) -> Map<u64, u64> {
 }
 
 fn hold(map: &Map<u64, u64>) -> Turn {
-    Turn::begin(&map.inner.core.slots, AnyHandle::keys)
+    Turn::begin(&map.inner.core.slots, Index::keys)
 }
 
 #[test]

@@ -280,6 +280,7 @@ fn agrees(map: &impl Timed, life: u64) {
         }
         let (mut stats, len, is_empty) = map.stats();
         (stats.shared, stats.waiting, stats.capacity) = (0, 0, 0);
+        (stats.loads, stats.load_time, stats.hits_of_last_minute, stats.misses_of_last_minute) = (0, Duration::ZERO, 0, 0);
         let counts = Stats { entries: model.entries.len() as u64, ..model.counts };
         assert_eq!((stats, len, is_empty), (counts, model.entries.len(), model.entries.is_empty()), "call {number}");
     }

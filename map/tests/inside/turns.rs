@@ -1,5 +1,6 @@
 //! What other threads do between two calls of the index, as tests have it done: they have the turn, or they write first.
 use super::waiting::LONG;
+use crate::handle::Index;
 use crate::slots::{Slots, BEFORE_CALL, CALLS};
 use cefrodil::TurnError;
 use std::cell::Cell;
@@ -37,7 +38,7 @@ pub struct Turn {
 
 impl Turn {
     /// `list` lists the entries.
-    pub fn begin<H: Send + 'static, T, E>(
+    pub fn begin<H: Index + Send + 'static, T, E>(
         slots: &Arc<Slots<H>>,
         list: impl Fn(&mut H) -> Result<T, TurnError<E>> + Copy + Send + Sync + 'static,
     ) -> Turn {
@@ -45,6 +46,8 @@ impl Turn {
         let (end, ended): (Sender<()>, Receiver<()>) = channel();
         let slots = Arc::clone(slots);
         let thread = thread::spawn(move || {
+            // It has a handle before the list allocates.
+            slots.call(|_| ());
             let others = Arc::clone(&slots);
             IN_TURN.set(Some(Box::new(move || {
                 let is_held = || matches!(others.call(list), Err(TurnError::Held));

@@ -1,4 +1,5 @@
 //! A call that waits for the index, while a test does something else.
+use crate::handle::Index;
 use crate::slots::Slots;
 use std::sync::mpsc::channel;
 use std::sync::Arc;
@@ -10,7 +11,7 @@ pub const LONG: Duration = Duration::from_secs(60);
 
 /// Makes a call in another thread. From when it calls the function that it gets, this has the handle that all threads of the map share. Once the
 /// call waits for the handle, `meanwhile` is called. No thread may have a handle of its own.
-pub fn while_it_waits<H: Send + 'static, T: Send>(
+pub fn while_it_waits<H: Index + Send + 'static, T: Send>(
     slots: &Arc<Slots<H>>,
     call: impl FnOnce(&dyn Fn()) -> T + Send,
     meanwhile: impl FnOnce(),

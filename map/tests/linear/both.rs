@@ -57,6 +57,17 @@ macro_rules! both {
                 told(changed.map(|new| new.map_or(Tried, |_| Changed(seen.get(), Some(value)))))
             }
 
+            fn resize(&self, caller: &mut Caller) -> Told {
+                let _ = self.map.set_capacity(1 + caller.draw(self.drawn.capacity as u64) as usize);
+                Told::Nothing
+            }
+
+            // Whether there are more entries than the capacity says, though no call runs.
+            fn is_too_full(&self) -> bool {
+                self.drawn.resizes
+                    && (self.map.set_capacity(self.map.capacity()).is_err() || self.map.len() > self.map.capacity())
+            }
+
             // Each key is looked up at a moment of its own, or only this one is removed.
             fn call_for_each(&self, caller: &mut Caller, key: u64) -> Told {
                 if caller.draw(2) == 0 {

@@ -25,6 +25,8 @@ pub struct Drawn {
     pub idle: Option<Duration>,
     /// Other keys fill the map.
     pub is_full: bool,
+    /// Calls change the capacity.
+    pub resizes: bool,
     /// Of an `ObjectMap`. The listener counts, and may put other objects.
     pub most_weight: Option<u64>,
     pub listens: bool,
@@ -72,6 +74,7 @@ impl Drawn {
             life: None,
             idle: None,
             is_full: false,
+            resizes: false,
             most_weight: None,
             listens: false,
             nests: false,
@@ -95,6 +98,7 @@ impl Drawn {
             life: life(random),
             idle: life(random),
             is_full: random.is(3),
+            resizes: random.is(3),
             most_weight: if !is_objects || random.is(2) { None } else { Some(1 + random.draw(most)) },
             listens,
             nests: listens && random.is(2),

@@ -44,8 +44,10 @@ fn calls_at_once_come_to_what_an_order_of_them_does() {
         (false, Drawn { life: WHOLE, ..values }),
         (false, full),
         (false, Drawn { life: WHOLE, idle: WHOLE, ..full }),
+        (false, Drawn { resizes: true, ..full }),
         (true, values),
         (true, Drawn { life: WHOLE, most_weight: Some(1_000), ..values }),
+        (true, Drawn { resizes: true, most_weight: Some(1_000), ..full }),
     ];
     for (seed, (is_objects, drawn)) in (1..).zip(kinds) {
         assert!(run(is_objects, drawn, time, seed).told > 0, "each round has a call that was disturbed");

@@ -113,6 +113,9 @@ impl<S: BuildHasher + Send + Sync> Calls for Objects<S> {
         if self.drawn.life.is_some() && caller.draw(4) == 0 {
             return self.call_with_life(caller, key, value);
         }
+        if self.drawn.resizes && caller.draw(8) == 0 {
+            return self.resize(caller);
+        }
         // A map that is to be full is seldom cleared.
         let is_to_stay_full = self.drawn.is_full && caller.draw(10) > 0;
         match caller.draw(if is_to_stay_full { 22 } else { 24 }) {
@@ -151,6 +154,7 @@ impl<S: BuildHasher + Send + Sync> Calls for Objects<S> {
     }
 
     fn empty(&self) {
+        assert_eq!(self.map.set_capacity(self.drawn.capacity), Ok(()));
         if let Some(most) = self.drawn.most_weight {
             assert!(self.map.set_most_weight(most).is_ok());
         }
@@ -176,7 +180,7 @@ impl<S: BuildHasher + Send + Sync> Calls for Objects<S> {
         let adds_up = stats.added + stats.renewed == there + left && left == freed + stats.waiting;
         let is_too_heavy =
             self.drawn.most_weight.is_some_and(|most| self.map.set_most_weight(most).is_err() || self.map.weight() > most);
-        let is_wrong = is_too_heavy || self.drawn.listens && !adds_up;
+        let is_wrong = is_too_heavy || self.is_too_full() || self.drawn.listens && !adds_up;
         is_wrong
             .then(|| format!("{there} are there of weight {}, {left} have left, {freed} are freed: {stats:?}", self.map.weight()))
     }

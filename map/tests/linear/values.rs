@@ -38,6 +38,9 @@ impl<S: BuildHasher + Send + Sync> Calls for Values<S> {
         if self.drawn.life.is_some() && caller.draw(4) == 0 {
             return self.call_with_life(caller, key, value);
         }
+        if self.drawn.resizes && caller.draw(8) == 0 {
+            return self.resize(caller);
+        }
         // A map that is to be full is seldom cleared.
         let is_to_stay_full = self.drawn.is_full && caller.draw(10) > 0;
         match caller.draw(if is_to_stay_full { 17 } else { 19 }) {
@@ -77,6 +80,7 @@ impl<S: BuildHasher + Send + Sync> Calls for Values<S> {
     }
 
     fn empty(&self) {
+        assert_eq!(self.map.set_capacity(self.drawn.capacity), Ok(()));
         if !self.drawn.is_full {
             return KEYS.iter().for_each(|key| assert!(self.map.remove(key).is_ok()));
         }
@@ -95,7 +99,7 @@ impl<S: BuildHasher + Send + Sync> Calls for Values<S> {
     }
 
     fn fault(&self) -> Option<String> {
-        None
+        self.is_too_full().then(|| format!("{} are there: {:?}", self.map.len(), self.map.stats()))
     }
 
     fn find(&self, key: u64) -> Option<u64> {

@@ -1,6 +1,7 @@
 //! Maps of objects.
 mod boards;
 mod bytes;
+mod capacity;
 mod collisions;
 mod each;
 #[path = "../ends/mod.rs"]

@@ -1,0 +1,130 @@
+//! The bound on the number of entries, which may be less than there is room for, and evictions that no put of the index makes.
+use crate::core::Core;
+use crate::error::{CapacityError, RemoveError};
+use crate::handle::Index;
+use crate::stats::Kind;
+use cefrodil::{EvictError, TurnError};
+use std::iter::repeat;
+use std::sync::atomic::{AtomicUsize, Ordering::Relaxed};
+
+/// How many entries a map holds at most.
+pub(crate) struct Bound {
+    // Relaxed. A put that sees an older one leaves an entry to the next put.
+    most: AtomicUsize,
+    // For how many entries the map was opened.
+    room: usize,
+    shards: u32,
+    // The shard that evicts next, if it is not that of a key. Relaxed: a guess.
+    next: AtomicUsize,
+}
+
+/// An entry that was evicted. A `Map` has no use for it.
+#[cfg_attr(not(feature = "objects"), allow(dead_code))]
+pub(crate) struct Evicted {
+    /// A hash of its shard.
+    pub near: u64,
+    /// The moment of the eviction.
+    pub at: u64,
+    /// The first word of its value in the index.
+    pub word: u64,
+}
+
+/// The index takes a key's shard from the bits from this one on.
+pub(crate) const SHARD: u32 = 48;
+
+impl Bound {
+    /// Of a map with so many shards. It is the room, so it bounds nothing.
+    pub fn new(room: usize, shards: u32) -> Bound {
+        Bound { most: AtomicUsize::new(room), room, shards, next: AtomicUsize::new(0) }
+    }
+
+    pub fn most(&self) -> usize {
+        self.most.load(Relaxed)
+    }
+
+    pub fn set(&self, most: usize) {
+        self.most.store(most, Relaxed);
+    }
+
+    /// Whether puts make room.
+    #[inline]
+    pub fn is_below_room(&self) -> bool {
+        self.most() < self.room
+    }
+
+    // A hash of each shard: first this one, or one of the next shard.
+    fn shards_from(&self, hash: Option<u64>) -> impl Iterator<Item = u64> {
+        let first = hash.unwrap_or_else(|| (self.next.fetch_add(1, Relaxed) as u64) << SHARD);
+        (0..u64::from(self.shards)).map(move |shard| first.wrapping_add(shard << SHARD))
+    }
+}
+
+impl<H: Index + 'static, V> Core<H, V> {
+    /// Evicts an entry in the first of the shards of these hashes that has one, and counts it by its cause: `Evicted` is none. `None`: they are empty.
+    pub fn evict(&self, mut shards: impl Iterator<Item = u64>, tries: u32, cause: Kind) -> Result<Option<Evicted>, RemoveError> {
+        let evicted = shards.find_map(|near| self.evict_near(near, tries).transpose()).transpose()?;
+        if evicted.is_some() {
+            self.slots.count_for(Kind::Evicted, cause);
+        }
+        Ok(evicted)
+    }
+
+    fn evict_near(&self, near: u64, tries: u32) -> Result<Option<Evicted>, RemoveError> {
+        let evicted = self.slots.in_turn(tries, || match self.slots.call(|handle| handle.evict(near)) {
+            // Lookups used all entries meanwhile. The next try may be quicker than they are.
+            Err(TurnError::Call(EvictError::AllRecent)) => Err(TurnError::Held),
+            evicted => evicted,
+        });
+        match evicted {
+            Ok(evicted) => Ok(evicted.map(|(at, word)| Evicted { near, at, word })),
+            Err(TurnError::Held) => Err(RemoveError::Held),
+            Err(TurnError::Call(_)) => Err(RemoveError::Spent),
+        }
+    }
+
+    /// Before a put of a key with this hash: if it is new, evicts until there is room for it below the bound, and calls `left` with each. If other threads
+    /// have turns that it needs, the next put does this. Returns whether it evicted some.
+    #[inline(never)]
+    pub fn make_room(&self, hash: u64, tries: u32, mut left: impl FnMut(Evicted)) -> bool {
+        let mut has_evicted = false;
+        if !self.slots.call(|handle| handle.has(hash)) {
+            let _ = self.evict_to_bound(1, repeat(hash), (1, tries), |evicted| {
+                has_evicted = true;
+                left(evicted);
+            });
+        }
+        has_evicted
+    }
+
+    /// Changes the bound, and evicts what is too much.
+    pub fn set_capacity(&self, most: usize, left: impl FnMut(Evicted)) -> Result<(), CapacityError> {
+        if !(1..=self.bound.room).contains(&most) {
+            return Err(self.refused(CapacityError::Range));
+        }
+        self.bound.set(most);
+        // So each shard keeps its part. Without memory for a list, each loses the same number.
+        let hashes = self.list(self.tries, Index::keys).unwrap_or_default();
+        let excess = hashes.len().saturating_sub(most);
+        let spread = (0..excess).map(|number| hashes[number * hashes.len() / excess]);
+        self.evict_to_bound(0, spread, (self.tries, self.tries), left).map_err(|why| self.refused(CapacityError::Evict(why)))
+    }
+
+    // Evicts until so many entries more are within the bound, first in the shards of these hashes. It tries so often to look at the number of entries, and
+    // so often to evict one.
+    fn evict_to_bound(
+        &self,
+        more: usize,
+        mut hashes: impl Iterator<Item = u64>,
+        (looks, tries): (u32, u32),
+        mut left: impl FnMut(Evicted),
+    ) -> Result<(), RemoveError> {
+        let count = || self.slots.within(looks, || self.slots.call(Index::len).ok()).ok_or(RemoveError::Held);
+        while count()? + more > self.bound.most() {
+            match self.evict(self.bound.shards_from(hashes.next()), tries, Kind::EvictedByCapacity)? {
+                Some(evicted) => left(evicted),
+                None => break,
+            }
+        }
+        Ok(())
+    }
+}

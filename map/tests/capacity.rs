@@ -1,0 +1,110 @@
+//! The capacity of a `Map`: what it is at first, and when it is changed.
+use cefrodil_map::{CapacityError, Inserted, Map};
+use std::sync::atomic::{AtomicBool, Ordering::Relaxed};
+use std::thread;
+
+type Numbers = Map<u64, u64>;
+
+// Puts these keys, and returns how many of them evicted another one.
+fn put_all(map: &Numbers, keys: std::ops::Range<u64>) -> usize {
+    keys.filter(|key| map.insert(key, *key) == Ok(Inserted::Evicted)).count()
+}
+
+#[test]
+fn a_map_has_room_for_a_tenth_more_at_most() {
+    for (entries, shards) in [(500, None), (500, Some(8)), (500, Some(256)), (20_000, None), (1, None), (3, Some(16))] {
+        let mut builder = Map::builder(entries);
+        builder = if let Some(shards) = shards { builder.shards(shards) } else { builder };
+        let map: Numbers = builder.open().unwrap();
+        assert!((entries..=entries + entries / 9).contains(&map.capacity()), "{entries}: {}", map.capacity());
+        put_all(&map, 0..5 * entries as u64);
+        assert_eq!(map.len(), map.capacity(), "of {entries} entries in {shards:?} shards");
+    }
+}
+
+#[test]
+fn a_lower_capacity_evicts_at_once_and_from_then_on() {
+    for shards in [1, 2, 16] {
+        let map: Numbers = Map::builder(1_000).shards(shards).open().unwrap();
+        assert_eq!((map.capacity(), put_all(&map, 0..900)), (1_000, 0));
+        assert_eq!((map.set_capacity(300), map.capacity(), map.len()), (Ok(()), 300, 300));
+        let found = (0..900).filter(|key| map.get(key) == Some(*key)).count();
+        assert_eq!((found, map.stats().evicted, map.stats().evicted_by_capacity), (300, 600, 600));
+        assert_eq!((put_all(&map, 1_000..1_100), map.len()), (100, 300));
+        assert_eq!((map.stats().evicted, map.stats().evicted_by_capacity), (700, 700));
+        // What replaces a value evicts nothing.
+        let there: Vec<u64> = (0..1_100).filter(|key| map.contains_key(key)).collect();
+        there.iter().for_each(|key| assert_eq!(map.insert(key, 7), Ok(Inserted::Renewed)));
+        assert_eq!((there.len(), map.stats().evicted, map.stats().capacity), (300, 700, 300));
+    }
+}
+
+#[test]
+fn a_higher_capacity_evicts_nothing() {
+    let map = Numbers::new(1_000).unwrap();
+    map.set_capacity(1).unwrap();
+    put_all(&map, 0..10);
+    assert_eq!((map.len(), map.stats().evicted), (1, 9));
+    map.set_capacity(1_000).unwrap();
+    assert_eq!((put_all(&map, 10..1_009), map.len(), map.stats().evicted), (0, 1_000, 9));
+    assert_eq!((put_all(&map, 2_000..2_001), map.stats().evicted_by_capacity), (1, 9));
+}
+
+#[test]
+fn a_capacity_without_room_is_refused() {
+    let map = Numbers::new(1_000).unwrap();
+    put_all(&map, 0..1_000);
+    for most in [0, 1_001, usize::MAX] {
+        assert_eq!((map.set_capacity(most), map.capacity(), map.len()), (Err(CapacityError::Range), 1_000, 1_000));
+    }
+    assert_eq!(map.stats().refused, 3);
+}
+
+// The key of a put is not what gives way to it, also where a shard has few entries.
+#[test]
+fn what_was_put_is_there() {
+    for (capacity, shards) in [(1, 1), (2, 1), (100, 1), (100, 16), (300, 16), (500, 2)] {
+        let map: Numbers = Map::builder(1_000).shards(shards).open().unwrap();
+        put_all(&map, 0..1_000);
+        map.set_capacity(capacity).unwrap();
+        let lost = (2_000..4_000).filter(|key| put_all(&map, *key..key + 1) == 0 || map.peek(key) == Ok(None)).count();
+        assert_eq!((map.len(), lost), (capacity, 0), "of {capacity} in {shards} shards");
+    }
+}
+
+#[test]
+fn computed_and_updated_values_keep_to_it_too() {
+    let map = Numbers::new(100).unwrap();
+    map.set_capacity(10).unwrap();
+    for key in 0..50 {
+        map.get_or_insert_with(&key, || key);
+        map.update(&(key + 100), |_| key).unwrap();
+        assert!(map.len() <= 10);
+    }
+    assert_eq!(map.len(), 10);
+}
+
+// While threads put, a map may have some more. A thread that puts alone brings it back.
+#[test]
+fn threads_that_put_at_once_keep_to_it() {
+    let map: Numbers = Map::builder(10_000).shards(16).open().unwrap();
+    let is_over = AtomicBool::new(false);
+    thread::scope(|threads| {
+        for thread in 0..4 {
+            let (map, is_over) = (&map, &is_over);
+            threads.spawn(move || {
+                let first = 1_000_000 * thread;
+                (first..).take_while(|_| !is_over.load(Relaxed)).for_each(|key| _ = map.insert(&key, key));
+            });
+        }
+        for most in [5_000, 1_000, 9_000, 500, 2_000] {
+            // If it gets no turn, later puts evict.
+            let _ = map.set_capacity(most);
+            assert_eq!(map.capacity(), most);
+            (0..1_000).for_each(|key| _ = map.insert(&key, key));
+        }
+        is_over.store(true, Relaxed);
+    });
+    put_all(&map, 10_000..14_000);
+    assert_eq!(map.len(), 2_000);
+}
