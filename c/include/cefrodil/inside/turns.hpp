@@ -80,7 +80,7 @@ template <size_t Words, class Beside = NothingBeside> class Turns : public Passe
     using Base::lines;
     using typename Base::OwnSlot;
 
-    // 0 shards: as many as these entries ask for. More have room for more than a tenth more entries, so they get a bound there.
+    // 0 shards: as many as these entries ask for. If others have room for more than a tenth more entries, these are the bound.
     [[nodiscard]] Status open(uint32_t entries, uint32_t asked_shards, uint32_t passes, uint32_t tries) noexcept {
         if (!same_version()) {
             return Status::other_version;
@@ -97,8 +97,8 @@ template <size_t Words, class Beside = NothingBeside> class Turns : public Passe
         looks_ = std::min(tries, most_looks);
         shards_ = shards;
         room_ = uint64_t(shape.items) * shards;
-        const bool is_loose = shards > 1 && entries / shards < entries_of_a_shard;
-        bound_.store(is_loose ? uint64_t(entries) + entries / 10 : 0, std::memory_order_relaxed);
+        const bool is_loose = asked_shards != 0 && room_ > uint64_t(entries) + entries / 10;
+        bound_.store(is_loose ? entries : 0, std::memory_order_relaxed);
         return Base::open(shape, shards, passes);
     }
 
