@@ -1,9 +1,10 @@
 //! Items that have left and are not freed yet, since a thread reads: their bytes are counted and bounded. The index is the real one.
 mod plain;
+use cefrodild::budget::cost;
 use cefrodild::counts::Count;
 use cefrodild::request::How;
 use cefrodild::store::{Answer, Fault, Store};
-use plain::client::{map_store, order};
+use plain::client::{map_store, order, Client};
 use std::sync::atomic::{AtomicBool, Ordering::SeqCst};
 use std::sync::mpsc::channel;
 use std::thread::{self, sleep};
@@ -102,4 +103,16 @@ fn few_large_items_wait_though_nobody_reads() {
         assert!(store.books.budget.waiting() <= 32 * LIMIT / 128 + (1 << 20) + 100, "{key} {}", store.books.budget.waiting());
     }
     assert!(store.books.counts.get(Count::Evicted) >= 20);
+}
+
+#[test]
+fn what_waits_for_a_reader_is_told() {
+    let (mut client, told) = (Client::over_map(LIMIT as usize, "-t2"), |bytes: u64| format!("STAT bytes_waiting {bytes}\n"));
+    client.ask("set key 0 0 1\n5\n");
+    while_it_is_read(&client.store, b"key", || {
+        let stats = client.beside().ask("delete key\nstats\n");
+        assert!(stats.contains(&told(cost(3, 1))), "{stats}");
+    });
+    client.store.index.sweep();
+    assert!(client.ask("stats\n").contains(&told(0)));
 }

@@ -39,6 +39,35 @@ fn items_of_all_sizes_are_listed() {
 }
 
 #[test]
+fn a_large_item_is_listed_where_another_one_has_left() {
+    let (mut client, large) = (Client::new(MEGABYTE), "x".repeat(2_000));
+    for key in ["a", "b", "c"] {
+        client.ask(&format!("set {key} 0 0 2000\n{large}\n"));
+        assert_eq!(list(&mut client, "stats cachedump 1 0"), [format!("ITEM {key} [2000 b; 0 s]")]);
+        client.ask(&format!("delete {key}\n"));
+    }
+}
+
+#[test]
+fn all_large_items_are_listed() {
+    let (mut client, large) = (Client::new(MEGABYTE), "x".repeat(2_000));
+    (0..300).for_each(|key| drop(client.ask(&format!("set {key:03} 0 0 2000\n{large}\n"))));
+    let lines = list(&mut client, "stats cachedump 1 0");
+    assert!(lines.into_iter().eq((0..300).map(|key| format!("ITEM {key:03} [2000 b; 0 s]"))));
+}
+
+/// Another store of this process has items with the same keys.
+#[test]
+fn items_of_another_index_are_not_listed() {
+    let (mut client, mut other) = (Client::new(MEGABYTE), Client::new(MEGABYTE));
+    for one in [&mut client, &mut other] {
+        one.ask(&format!("set a 0 0 1\n1\nset b 0 0 2000\n{}\n", "x".repeat(2_000)));
+    }
+    other.ask("set c 0 0 1\n1\n");
+    assert_eq!(list(&mut client, "stats cachedump 1 0"), ["ITEM a [1 b; 0 s]", "ITEM b [2000 b; 0 s]"]);
+}
+
+#[test]
 fn items_that_are_not_live_are_not_listed() {
     let mut client = Client::new(MEGABYTE);
     client.ask("set a 0 -1 1\n1\nset b 0 100 1\n1\n");
