@@ -167,10 +167,7 @@ def maps():
     rows += [calls(f'hit, {keys:,} keys, quick hash', options('hit', keys, ' --quick 1'), 1) for keys in (1000, 100_000)]
     for keys, n in (1000, 4), (100_000, 1), (100_000, 4):
         rows.append(calls(f'one write in ten, {keys:,} keys', options('mixed', keys, ' --write-every 10'), n, '--readers 0 --writers'))
-    full = [calls('full cache of 100,000 keys', '--workload cache --keys 200000 --capacity 100000', n) for n in (1, 4)]
-    full.append(full[-1]._replace(label='the same: hit ratio', figure='hit_ratio'))
-    full = [row._replace(names=('rust_cefrodil', 'rust_lru', 'cpp_cefrodil')) for row in full]
-    return rows + full
+    return rows
 
 
 def kinds():
