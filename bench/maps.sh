@@ -5,7 +5,7 @@
 # `cefrodil::map` takes two hashes. Keys are numbers, or strings of 16 letters. Each lookup's value is compared with the one that was put for its key.
 # bench/contests.py says how the contestants run and what a cell is.
 #
-# Among millions of keys a cache from C, with 64 shards, stands beside them. It hashes nothing.
+# The tables of millions of keys also have a cache called from C, with 64 shards. Its keys are numbers, so it needs no hash.
 #
 # A full cache holds half of the keys that are drawn. Each key that is missed is put. The table has the share of hits, since cefrodil-map and
 # cefrodil::map hold some more keys than they are asked to.

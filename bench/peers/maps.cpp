@@ -44,34 +44,28 @@ template <class K, class Hash> struct Seeded {
     bool equal(Key one, Key other) const { return one == other; }
 };
 
-// As it is opened by default, but for the hash.
-template <class K, size_t N, class Hash> struct Cefrodil {
-    typedef cefrodil::map<K, Words<N>, Hash> Map;
+// A map as it is opened by default, but for the hash.
+template <class M, size_t N> struct Opened {
+    typedef M Map;
     Map map;
 
-    explicit Cefrodil(uint32_t keys) {
+    explicit Opened(uint32_t keys) {
         cefrodil::MapOptions options{};
         options.entries = keys;
         if (map.open(options) != cefrodil::Status::ok) abort();
     }
     std::optional<Words<N>> get(typename Map::Key key) { return map.find(key); }
-    void get_many(const K *keys, size_t count, std::optional<Words<N>> *values) { map.find_many(keys, count, values); }
     bool put(typename Map::Key key, const Words<N> &value) { return map.insert_or_assign(key, value).status == cefrodil::Status::ok; }
+};
+
+template <class K, size_t N, class Hash> struct Cefrodil : Opened<cefrodil::map<K, Words<N>, Hash>, N> {
+    using Opened<cefrodil::map<K, Words<N>, Hash>, N>::Opened;
+
+    void get_many(const K *keys, size_t count, std::optional<Words<N>> *values) { this->map.find_many(keys, count, values); }
 };
 
 // The same as objects on the heap, of which a lookup copies the value.
-template <class K, size_t N, class Hash> struct Objects {
-    typedef cefrodil::object_map<K, Words<N>, Hash> Map;
-    Map map;
-
-    explicit Objects(uint32_t keys) {
-        cefrodil::MapOptions options{};
-        options.entries = keys;
-        if (map.open(options) != cefrodil::Status::ok) abort();
-    }
-    std::optional<Words<N>> get(typename Map::Key key) { return map.find(key); }
-    bool put(typename Map::Key key, const Words<N> &value) { return map.insert_or_assign(key, value).status == cefrodil::Status::ok; }
-};
+template <class K, size_t N, class Hash> using Objects = Opened<cefrodil::object_map<K, Words<N>, Hash>, N>;
 
 template <class K, size_t N, class Hash> struct Cuckoo {
     typedef Seeded<K, Hash> Hashes;

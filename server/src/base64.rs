@@ -3,7 +3,7 @@
 const LETTERS: &[u8; 64] = b"ABCDEFGHIJKLMNOPQRSTUVWXYZabcdefghijklmnopqrstuvwxyz0123456789+/";
 const PAD: u8 = b'=';
 
-/// So many letters stand for so many bytes.
+/// Four letters encode three bytes.
 const GROUP: usize = 4;
 const PART: usize = 3;
 
@@ -18,7 +18,7 @@ pub fn write(out: &mut Vec<u8>, bytes: &[u8]) {
     }
 }
 
-/// The bytes that a text stands for, up to the first group with a pad. `None`: it is no base64.
+/// Decodes a text, up to the first group that has a pad. `None`: it is not base64.
 pub fn read(text: &[u8]) -> Option<Vec<u8>> {
     if text.len() % GROUP != 0 {
         return None;
@@ -35,7 +35,7 @@ pub fn read(text: &[u8]) -> Option<Vec<u8>> {
     Some(bytes)
 }
 
-/// What a letter stands for. Memcached takes a pad anywhere in a group.
+/// The six bits of a letter. Like memcached, this takes a pad anywhere in a group.
 fn value(letter: u8) -> Option<u32> {
     LETTERS.iter().position(|known| *known == letter).or((letter == PAD).then_some(0)).map(|value| value as u32)
 }

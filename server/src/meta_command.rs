@@ -84,7 +84,7 @@ fn get(store: &Store, meta: &Meta, out: &mut Output) {
     }
 }
 
-/// Answers a client that may be the one to fetch the value anew. Until it is told so, nobody else puts a stale value in the place of that one.
+/// Answers a client that may be told to fetch the value anew. Until it is answered, nobody else can replace the stale value.
 fn win(store: &Store, meta: &Meta, deadline: Option<u64>, is_made: bool, out: &mut Output) {
     let (_lock, mut made) = (store.lock(meta.order.key), None);
     if let Some(expiry) = meta.vivified.filter(|_| is_made) {

@@ -2,7 +2,7 @@
 mod plain;
 use plain::client::{Client, MEGABYTE};
 
-/// Texts with what they stand for: those of RFC 4648, and the last letters.
+/// Texts and what they decode to: those of RFC 4648, and the last letters.
 const TEXTS: [(&str, &str); 8] = [
     ("Zg==", "f"),
     ("Zm8=", "fo"),
@@ -90,7 +90,7 @@ fn what_is_no_base64_is_refused() {
     assert_eq!(client.store.index.len(), 0);
 }
 
-/// Memcached takes these: what is behind a group with a pad is not looked at, nor are bits that stand for nothing.
+/// Memcached accepts these: it ignores what follows a group with a pad, and bits that encode nothing.
 #[test]
 fn base64_that_is_not_the_shortest_is_taken() {
     for (sent, told) in
@@ -101,7 +101,7 @@ fn base64_that_is_not_the_shortest_is_taken() {
     }
 }
 
-/// A `set` that fails removes the older value, which has the key that the text stands for.
+/// A `set` that fails removes the older value, also if the key is sent as base64.
 #[test]
 fn a_value_that_is_refused_removes_that_of_its_key() {
     let mut client = Client::with(MEGABYTE, "-t1 -I 1k");
