@@ -59,6 +59,8 @@ template <class Map> static void changed(uint32_t shards) {
     MUST(map.set_capacity(900) == Status::ok && map.size() == 800 && map.counts().evictions == evicted);
     fill(map, 5000, 100);
     MUST(map.size() == 900 && map.counts().evictions == evicted && map.insert(6000, 1).evicted && map.size() == 900);
+    // What was removed leaves room for a new key, and for no more than that.
+    MUST(map.erase(6000) == Status::ok && !map.insert(6001, 1).evicted && map.insert(6002, 1).evicted && map.size() == 900);
 }
 
 // Down to one entry, and an update that inserts.

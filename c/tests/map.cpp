@@ -71,7 +71,7 @@ static void openings() {
     MUST(usual.entries == 100 && usual.shards == 0 && usual.passes == 65 && usual.tries == 10000);
     MUST(numbers.open({100, 4, 1024}) == Status::ok && numbers.open({100}) == Status::in_use && numbers.is_open());
     cefrodil_shape shape{};
-    MUST(cefrodil_shape_for_items(100, 4, &shape) == CEFRODIL_OK && 4 * shape.items > 110 && numbers.capacity() == 100);
+    MUST(cefrodil_shape_for_items(100, 4, &shape) == CEFRODIL_OK && 4 * shape.items > 110 && numbers.capacity() == 110);
     MUST(numbers.insert(1, 10).status == Status::ok && numbers.find(1) == 10u && !numbers.find(2));
     const cefrodil::Counts counts = numbers.meter().counts();
     MUST(counts.hits == 1 && counts.misses == 1 && counts.held == 0);

@@ -218,13 +218,9 @@ static void calls_of_a_map(map<uint64_t, uint64_t> &numbers) {
     }
 }
 
-// A map for a few entries takes little: with the handle of its first thread, and an entry. Mutexes are larger on aarch64.
+// A map for a few entries takes little: with the handle of its first thread, and an entry.
 template <class Map> static void small_map() {
-#ifdef __aarch64__
-    const long most = 20000;
-#else
     const long most = 16000;
-#endif
     const long before = bytes;
     Map numbers;
     MUST(numbers.open({16}) == Status::ok && bytes - before <= most);
@@ -365,7 +361,7 @@ static void puts_that_evict() {
     for (uint64_t key = 0; key < 1000; key++) {
         MUST(numbers.insert(key, key).status != Status::no_memory && numbers.find(key / 2).value_or(key / 2) >= key / 2);
     }
-    MUST(numbers.find(999) == 999u && numbers.erase(999) == Status::ok && numbers.size() == 99 && numbers.meter().counts().evictions > 500);
+    MUST(numbers.find(999) == 999u && numbers.erase(999) == Status::ok && numbers.size() == 109 && numbers.meter().counts().evictions > 500);
     left = -1;
 }
 

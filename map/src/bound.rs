@@ -2,10 +2,11 @@
 use crate::core::Core;
 use crate::error::{CapacityError, RemoveError};
 use crate::handle::Index;
+use crate::map::Inserted;
 use crate::stats::Kind;
 use cefrodil::{EvictError, TurnError};
-use std::iter::repeat;
-use std::sync::atomic::{AtomicUsize, Ordering::Relaxed};
+use std::iter::repeat_n;
+use std::sync::atomic::{AtomicBool, AtomicUsize, Ordering::Relaxed};
 
 /// How many entries a map holds at most.
 pub(crate) struct Bound {
@@ -13,6 +14,8 @@ pub(crate) struct Bound {
     most: AtomicUsize,
     // For how many entries the map was opened.
     room: usize,
+    // Whether a put of a new key made the map full, and no later one found room. Relaxed, as `most`.
+    is_full: AtomicBool,
     shards: u32,
     // The shard that evicts next, if it is not that of a key. Relaxed: a guess.
     next: AtomicUsize,
@@ -35,7 +38,7 @@ pub(crate) const SHARD: u32 = 48;
 impl Bound {
     /// Of a map with so many shards. It is the room, so it bounds nothing.
     pub fn new(room: usize, shards: u32) -> Bound {
-        Bound { most: AtomicUsize::new(room), room, shards, next: AtomicUsize::new(0) }
+        Bound { most: AtomicUsize::new(room), room, is_full: AtomicBool::new(false), shards, next: AtomicUsize::new(0) }
     }
 
     pub fn most(&self) -> usize {
@@ -44,11 +47,17 @@ impl Bound {
 
     pub fn set(&self, most: usize) {
         self.most.store(most, Relaxed);
+        self.is_full.store(most < self.room, Relaxed);
     }
 
-    /// Whether puts make room.
+    /// Whether a put must look at the bound first.
     #[inline]
-    pub fn is_below_room(&self) -> bool {
+    pub fn is_full(&self) -> bool {
+        self.is_full.load(Relaxed)
+    }
+
+    // Whether puts make room.
+    fn is_below_room(&self) -> bool {
         self.most() < self.room
     }
 
@@ -82,49 +91,76 @@ impl<H: Index + 'static, V> Core<H, V> {
         }
     }
 
-    /// Before a put of a key with this hash: if it is new, evicts until there is room for it below the bound, and calls `left` with each. If other threads
+    /// Whether nothing is under this hash. Otherwise that is a use of it.
+    pub fn is_new(&self, hash: u64) -> bool {
+        !self.slots.call(|handle| handle.has(hash))
+    }
+
+    /// Before a put of a new key with this hash into a map that is full: evicts what is too much with it, and calls `left` with each. If other threads
     /// have turns that it needs, the next put does this. Returns whether it evicted some.
     #[inline(never)]
     pub fn make_room(&self, hash: u64, tries: u32, mut left: impl FnMut(Evicted)) -> bool {
-        let mut has_evicted = false;
-        if !self.slots.call(|handle| handle.has(hash)) {
-            let _ = self.evict_to_bound(1, repeat(hash), (1, tries), |evicted| {
-                has_evicted = true;
-                left(evicted);
-            });
+        let excess = (self.slots.entries() + 1).saturating_sub(self.bound.most());
+        if excess == 0 || !self.bound.is_below_room() {
+            self.bound.is_full.store(false, Relaxed);
+            return false;
         }
+        let mut has_evicted = false;
+        let _ = self.evict_some(repeat_n(Some(hash), excess), tries, |evicted| {
+            has_evicted = true;
+            left(evicted);
+        });
         has_evicted
     }
 
+    /// Counts a put that did this, and notes if the map is full then.
+    #[inline]
+    pub fn count_put(&self, did: Inserted) {
+        self.slots.count_put(did);
+        if did == Inserted::New && self.bound.is_below_room() && !self.bound.is_full() {
+            self.note_full();
+        }
+    }
+
+    #[inline(never)]
+    fn note_full(&self) {
+        if self.slots.entries() >= self.bound.most() {
+            self.bound.is_full.store(true, Relaxed);
+        }
+    }
+
     /// Changes the bound, and evicts what is too much.
-    pub fn set_capacity(&self, most: usize, left: impl FnMut(Evicted)) -> Result<(), CapacityError> {
+    pub fn set_capacity(&self, most: usize, mut left: impl FnMut(Evicted)) -> Result<(), CapacityError> {
         if !(1..=self.bound.room).contains(&most) {
             return Err(self.refused(CapacityError::Range));
         }
         self.bound.set(most);
         // So each shard keeps its part. Without memory for a list, each loses the same number.
         let hashes = self.list(self.tries, Index::keys).unwrap_or_default();
-        let excess = hashes.len().saturating_sub(most);
-        let spread = (0..excess).map(|number| hashes[number * hashes.len() / excess]);
-        self.evict_to_bound(0, spread, (self.tries, self.tries), left).map_err(|why| self.refused(CapacityError::Evict(why)))
-    }
-
-    // Evicts until so many entries more are within the bound, first in the shards of these hashes. It tries so often to look at the number of entries, and
-    // so often to evict one.
-    fn evict_to_bound(
-        &self,
-        more: usize,
-        mut hashes: impl Iterator<Item = u64>,
-        (looks, tries): (u32, u32),
-        mut left: impl FnMut(Evicted),
-    ) -> Result<(), RemoveError> {
-        let count = || self.slots.within(looks, || self.slots.call(Index::len).ok()).ok_or(RemoveError::Held);
-        while count()? + more > self.bound.most() {
-            match self.evict(self.bound.shards_from(hashes.next()), tries, Kind::EvictedByCapacity)? {
-                Some(evicted) => left(evicted),
-                None => break,
+        loop {
+            let excess = self.slots.entries().saturating_sub(most);
+            let spread = (0..excess).map(|number| hashes.get(number * hashes.len() / excess).copied());
+            match self.evict_some(spread, self.tries, &mut left) {
+                Ok(0) => return Ok(()),
+                Ok(_) => {}
+                Err(why) => return Err(self.refused(CapacityError::Evict(why))),
             }
         }
-        Ok(())
+    }
+
+    // Evicts an entry for each of these: in the shard of the hash, or else in the next one, until all are empty. Returns how many.
+    fn evict_some(
+        &self,
+        hashes: impl Iterator<Item = Option<u64>>,
+        tries: u32,
+        mut left: impl FnMut(Evicted),
+    ) -> Result<usize, RemoveError> {
+        let mut count = 0;
+        for hash in hashes {
+            let Some(evicted) = self.evict(self.bound.shards_from(hash), tries, Kind::EvictedByCapacity)? else { break };
+            left(evicted);
+            count += 1;
+        }
+        Ok(count)
     }
 }

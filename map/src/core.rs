@@ -112,8 +112,8 @@ impl<H: Index + 'static, V> Core<H, V> {
     pub fn stats(&self, weight: u64) -> Stats {
         let stats = self.slots.stats();
         let (hits_of_last_minute, misses_of_last_minute) = self.minute.note(stats.hits, stats.misses);
-        let (entries, capacity) = (stats.left(), self.bound.most() as u64);
-        Stats { entries, capacity, weight, hits_of_last_minute, misses_of_last_minute, ..stats }
+        let capacity = self.bound.most() as u64;
+        Stats { capacity, weight, hits_of_last_minute, misses_of_last_minute, ..stats }
     }
 
     /// Notes the sums of lookups, if they are due. Calls that are rare do this.

@@ -1,7 +1,7 @@
 //! A handle of the index, whose entries have any width, 1 to 8 words. The width is chosen at opening.
 use crate::words::{Layout, Seen, Words, MOST};
 use cefrodil::{
-    Cache, Entry, Evict, EvictError, Handle, Held, ListError, OpenError, Put, PutError, PutIfAbsentError, PutIfError, Removal,
+    Cache, Entry, Evict, EvictError, Handle, ListError, OpenError, Put, PutError, PutIfAbsentError, PutIfError, Removal,
     Reply, Shape, Spent, TurnError,
 };
 use std::ops::DerefMut;
@@ -15,8 +15,6 @@ pub(crate) trait Index: Sized {
     fn more(&mut self) -> Option<Self>;
 
     fn capacity(&mut self) -> usize;
-
-    fn len(&mut self) -> Result<usize, Held>;
 
     /// Whether the key is there. That is a use of it.
     fn has(&mut self, key: u64) -> bool;
@@ -85,10 +83,6 @@ impl<const WIDTH: usize> Index for Handle<WIDTH> {
         Handle::capacity(self)
     }
 
-    fn len(&mut self) -> Result<usize, Held> {
-        self.try_len()
-    }
-
     fn has(&mut self, key: u64) -> bool {
         matches!(self.get_or_turn(key), Reply::Found { .. })
     }
@@ -124,10 +118,6 @@ impl Index for AnyHandle {
 
     fn capacity(&mut self) -> usize {
         any!(self, handle => handle.capacity())
-    }
-
-    fn len(&mut self) -> Result<usize, Held> {
-        any!(self, handle => Index::len(handle))
     }
 
     fn has(&mut self, key: u64) -> bool {

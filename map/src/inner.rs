@@ -235,7 +235,7 @@ impl<K: Key + ?Sized, V: Copy, S: BuildHasher> Inner<K, V, S> {
         let mut words = self.words(print, value, self.deadline(life));
         self.core.flights.detach(print);
         self.take_ended(print.key);
-        let has_evicted = self.makes_room(print.key, tries);
+        let has_evicted = self.core.bound.is_full() && self.core.is_new(print.key) && self.makes_room(print.key, tries);
         let put = self.core.slots.in_turn(tries, || {
             self.core.in_lock(print.key, |handle| {
                 // By who has the lock: so nothing that was put in a later generation gives way to this.
@@ -245,7 +245,7 @@ impl<K: Key + ?Sized, V: Copy, S: BuildHasher> Inner<K, V, S> {
         });
         match put.map(Inserted::of) {
             Ok(did) => {
-                self.core.slots.count_put(did);
+                self.core.count_put(did);
                 Ok(if has_evicted && did == Inserted::New { Inserted::Evicted } else { did })
             }
             Err(why) => Err(self.core.refused(InsertError::of(why))),
@@ -269,10 +269,10 @@ impl<K: Key + ?Sized, V: Copy, S: BuildHasher> Inner<K, V, S> {
         });
     }
 
-    /// Before a put under this key of the index: whether it evicts what is too much.
+    /// Before a put of a new key of the index: whether it evicts what is too much.
     #[inline]
     pub fn makes_room(&self, hash: u64, tries: u32) -> bool {
-        self.core.bound.is_below_room() && self.core.make_room(hash, tries, drop)
+        self.core.bound.is_full() && self.core.make_room(hash, tries, drop)
     }
 
     pub fn remove<Q: Key + ?Sized>(&self, key: &Q, tries: u32) -> Result<Option<V>, RemoveError> {

@@ -243,8 +243,8 @@ impl<K: Key + ?Sized, V: Copy + Send + Sync + 'static, S: BuildHasher> Map<K, V,
 }
 
 impl<K: ?Sized, V, S> Map<K, V, S> {
-    /// The most entries that the map holds: what was asked for, or more, or what [`set_capacity`](Map::set_capacity) has chosen. Shards fill unevenly, so
-    /// it may evict before it has so many.
+    /// The most entries that the map holds: what was asked for, or up to a tenth more, or what [`set_capacity`](Map::set_capacity) has chosen. Shards fill
+    /// unevenly, so it may evict before it has so many.
     #[must_use]
     pub fn capacity(&self) -> usize {
         self.inner.core.bound.most()
@@ -253,8 +253,8 @@ impl<K: ?Sized, V, S> Map<K, V, S> {
     /// Changes how many entries the map holds at most, and evicts until it has no more: those that would give way to new keys in a full map. `most` is at
     /// most the room with which the map was opened: its first capacity at least. The memory stays the same.
     ///
-    /// While the capacity is below the room of the index, a put of a new key first looks at the number of entries of all shards, and evicts what is too
-    /// much. If other threads have turns that it needs for that, the next put does. So the map may have some more entries while several threads put.
+    /// If the map is full while there is room in its shards, a put of a new key first evicts what is too much. If other threads have turns that it needs
+    /// for that, the next put does. So the map may have some more entries while several threads put.
     ///
     /// ```
     /// let squares = cefrodil_map::Map::<u64, u64>::new(1_000)?;
@@ -276,7 +276,7 @@ impl<K: ?Sized, V, S> Map<K, V, S> {
     /// How many entries the map has, expired ones included. While other threads write it is an estimate.
     #[must_use]
     pub fn len(&self) -> usize {
-        self.inner.core.slots.stats().left() as usize
+        self.inner.core.slots.entries()
     }
 
     /// Whether [`len`](Map::len) is 0.

@@ -58,12 +58,11 @@ impl<S> Settings<S> {
         Ok((shape, shards))
     }
 
-    /// The bound on the number of entries with which the map begins: their room, or what was asked for if the shards that were named have more than a tenth
-    /// more.
+    /// The bound on the number of entries with which the map begins: their room, or a tenth more than was asked for if the shards that were named have more.
     pub fn bound(&self, shape: &Shape, shards: u32) -> usize {
-        let room = shape.items as usize * shards as usize;
-        if self.shards.is_some() && room > self.capacity + self.capacity / 10 {
-            self.capacity
+        let (room, most) = (shape.items as usize * shards as usize, self.capacity + self.capacity / 10);
+        if self.shards.is_some() {
+            room.min(most)
         } else {
             room
         }

@@ -23,6 +23,8 @@ pub(crate) struct Slots<H> {
     // No two maps of a process have the same one.
     id: u64,
     slots: Box<[OnceLock<Boxed<Slot<H>>>]>,
+    // So many of them, the first ones, may have a handle. Relaxed: whose calls are to be counted has made this large enough before.
+    opened: AtomicUsize,
     // The indices of slots that no thread has claimed, and how many they are.
     free: Mutex<Vec<u16>>,
     free_count: AtomicUsize,
@@ -80,10 +82,12 @@ impl<H: Index + 'static> Slots<H> {
         static NEXT: AtomicU64 = AtomicU64::new(1);
         let shared = handles.pop().expect("opening makes one handle at least");
         count_forks();
+        let opened = AtomicUsize::new(handles.len().min(threads));
         let made = handles.into_iter().enumerate().map(|(index, handle)| OnceLock::from(Box::new([Slot::new(index, handle)])));
         Slots {
             // Relaxed: it is enough that no two numbers are the same.
             id: NEXT.fetch_add(1, Relaxed),
+            opened,
             slots: made.chain(repeat_with(OnceLock::new)).take(threads).collect(),
             free: Mutex::new((0..threads as u16).rev().collect()),
             free_count: AtomicUsize::new(threads),
@@ -150,8 +154,18 @@ impl<H: Index + 'static> Slots<H> {
     }
 
     pub fn stats(&self) -> Stats {
-        let counts = self.slots.iter().filter_map(OnceLock::get).map(|slot| &slot[0].counts).chain(once(&self.shared_counts));
-        Stats { given_up: self.stalls.number(), stalled: self.stalls.length(), ..Stats::sum(counts) }
+        Stats { given_up: self.stalls.number(), stalled: self.stalls.length(), ..Stats::sum(self.all_counts()) }
+    }
+
+    /// How many entries all calls left. Calls that run meanwhile count or not.
+    pub fn entries(&self) -> usize {
+        let sum = self.all_counts().fold(0, |sum: u64, counts| sum.wrapping_add(counts.left()));
+        (sum as i64).max(0) as usize
+    }
+
+    fn all_counts(&self) -> impl Iterator<Item = &Counts> {
+        let opened = &self.slots[..self.opened.load(Relaxed)];
+        opened.iter().filter_map(OnceLock::get).map(|slot| &slot[0].counts).chain(once(&self.shared_counts))
     }
 
     /// Calls `attempt` until it returns something, at most so many times.
@@ -216,6 +230,7 @@ impl<H: Index + 'static> Slots<H> {
             // No call by this handle claims a slot.
             let handle = lock(&self.shared).more()?;
             let _ = slot.set(boxed(Slot::new(index, handle))?);
+            self.opened.fetch_max(index + 1, Relaxed);
         }
         Some(&slot.get()?[0])
     }

@@ -27,7 +27,7 @@ pub struct Stats {
     pub evicted: u64,
     /// Those of them that gave way to the bound on weights.
     pub evicted_by_weight: u64,
-    /// Those of them that gave way to a capacity below the room for entries: see [`set_capacity`](crate::Map::set_capacity).
+    /// Those of them that gave way since the map had as many entries as its [`capacity`](crate::Map::capacity), and not since their shard was full.
     pub evicted_by_capacity: u64,
     /// Entries that were removed.
     pub removed: u64,
@@ -106,6 +106,12 @@ impl Counts {
     pub fn add(&self, kind: Kind, number: u64) {
         self.0[kind as usize].fetch_add(number, Relaxed);
     }
+
+    /// How many entries these calls added, less those that they took away: below 0 it wraps.
+    pub fn left(&self) -> u64 {
+        let of = |kind| self.0[kind as usize].load(Relaxed);
+        of(Kind::Added).wrapping_sub(of(Kind::Evicted)).wrapping_sub(of(Kind::Removed))
+    }
 }
 
 fn rate(hits: u64, misses: u64) -> f64 {
@@ -136,9 +142,10 @@ impl Stats {
     }
 
     pub(crate) fn sum<'a>(all: impl Iterator<Item = &'a Counts>) -> Stats {
-        let mut sums = [0; NUMBERS];
+        let (mut sums, mut entries) = ([0; NUMBERS], 0_u64);
         for counts in all {
             sums.iter_mut().zip(&counts.0).for_each(|(sum, count)| *sum += count.load(Relaxed));
+            entries = entries.wrapping_add(counts.left());
         }
         let of = |kind: Kind| sums[kind as usize];
         Stats {
@@ -159,12 +166,8 @@ impl Stats {
             loads: of(Kind::Load),
             load_failures: of(Kind::LoadFailure),
             load_time: Duration::from_nanos(of(Kind::LoadNanoseconds)),
+            entries: (entries as i64).max(0) as u64,
             ..Stats::default()
         }
-    }
-
-    /// How many entries these numbers leave.
-    pub(crate) fn left(&self) -> u64 {
-        self.added.saturating_sub(self.evicted + self.removed)
     }
 }

@@ -195,7 +195,7 @@ impl<K: Key + ?Sized, V: Copy, S: BuildHasher> Inner<K, V, S> {
         let put = |handle: &mut AnyHandle| handle.put_if_absent(print.key, words);
         match self.core.slots.in_turn(tries, || self.core.in_generation(print.key, generation, put)) {
             Ok(put) => {
-                self.core.slots.count_put(Inserted::of(put));
+                self.core.count_put(Inserted::of(put));
                 Ok(true)
             }
             Err(why) => InsertError::of_absent(why).map_or(Ok(false), Err),

@@ -26,7 +26,7 @@ fn a_map_has_room_for_a_tenth_more_at_most() {
 fn a_lower_capacity_evicts_at_once_and_from_then_on() {
     for shards in [1, 2, 16] {
         let map: Numbers = Map::builder(1_000).shards(shards).open().unwrap();
-        assert_eq!((map.capacity(), put_all(&map, 0..900)), (1_000, 0));
+        assert_eq!(put_all(&map, 0..900), 0);
         assert_eq!((map.set_capacity(300), map.capacity(), map.len()), (Ok(()), 300, 300));
         let found = (0..900).filter(|key| map.get(key) == Some(*key)).count();
         assert_eq!((found, map.stats().evicted, map.stats().evicted_by_capacity), (300, 600, 600));
@@ -41,7 +41,7 @@ fn a_lower_capacity_evicts_at_once_and_from_then_on() {
 
 #[test]
 fn a_higher_capacity_evicts_nothing() {
-    let map = Numbers::new(1_000).unwrap();
+    let map: Numbers = Map::builder(1_000).shards(1).open().unwrap();
     map.set_capacity(1).unwrap();
     put_all(&map, 0..10);
     assert_eq!((map.len(), map.stats().evicted), (1, 9));
@@ -52,7 +52,7 @@ fn a_higher_capacity_evicts_nothing() {
 
 #[test]
 fn a_capacity_without_room_is_refused() {
-    let map = Numbers::new(1_000).unwrap();
+    let map: Numbers = Map::builder(1_000).shards(1).open().unwrap();
     put_all(&map, 0..1_000);
     for most in [0, 1_001, usize::MAX] {
         assert_eq!((map.set_capacity(most), map.capacity(), map.len()), (Err(CapacityError::Range), 1_000, 1_000));
@@ -69,6 +69,19 @@ fn what_was_put_is_there() {
         map.set_capacity(capacity).unwrap();
         let lost = (2_000..4_000).filter(|key| put_all(&map, *key..key + 1) == 0 || map.peek(key) == Ok(None)).count();
         assert_eq!((map.len(), lost), (capacity, 0), "of {capacity} in {shards} shards");
+    }
+}
+
+#[test]
+fn a_map_that_was_full_has_room_again() {
+    for shards in [1, 16] {
+        let map: Numbers = Map::builder(1_000).shards(shards).open().unwrap();
+        map.set_capacity(100).unwrap();
+        assert_eq!((put_all(&map, 0..150), map.len()), (50, 100));
+        (0..150).for_each(|key| _ = map.remove(&key));
+        assert_eq!((put_all(&map, 0..100), put_all(&map, 100..101), map.len()), (0, 1, 100), "in {shards} shards");
+        map.set_capacity(1_000).unwrap();
+        assert_eq!((put_all(&map, 200..1_100), map.len()), (0, 1_000), "in {shards} shards");
     }
 }
 

@@ -142,7 +142,7 @@ fn a_small_map_agrees_with_a_model() {
 #[test]
 fn small_shards_agree_with_a_model() {
     let map = Map::builder(100).shards(4).open().unwrap();
-    assert_eq!(map.capacity(), 100);
+    assert_eq!(map.capacity(), 110);
     agrees(&map, true);
 }
 

@@ -22,7 +22,7 @@ fn what_can_not_be_opened_says_why() {
     assert_eq!(open(builder(100).threads(1_024)), Err(OpenError::Threads));
     assert_eq!(open(builder(100).threads(usize::MAX)), Err(OpenError::Threads));
     assert_eq!(open(builder(100).threads(1_023)), Ok(100));
-    assert_eq!(open(builder(100).shards(256)), Ok(100));
+    assert_eq!(open(builder(100).shards(256)), Ok(110));
 }
 
 #[test]

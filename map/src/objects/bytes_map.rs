@@ -94,7 +94,7 @@ impl<H: Head, S> BytesMap<H, S> {
     /// As [`ObjectMap::len`](crate::ObjectMap::len).
     #[must_use]
     pub fn len(&self) -> usize {
-        self.inner.core.slots.stats().left() as usize
+        self.inner.core.slots.entries()
     }
 
     /// Whether [`len`](Self::len) is 0.

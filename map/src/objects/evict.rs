@@ -5,7 +5,6 @@ use super::object::Held;
 use super::weights::Weights;
 use crate::bound::Evicted;
 use crate::error::{CapacityError, InsertError, RemoveError};
-use crate::handle::Index;
 use crate::stats::Kind;
 
 impl<O: Held, S> ObjectInner<O, S> {
@@ -44,14 +43,14 @@ impl<O: Held, S> ObjectInner<O, S> {
     /// leave, and `evict_to_bound` comes after the put. Returns whether objects were evicted.
     #[inline(never)]
     pub fn make_room(&self, hash: u64, tries: u32) -> Result<bool, InsertError> {
-        if self.core.slots.call(|handle| handle.has(hash)) {
+        if !self.core.is_new(hash) {
             return Ok(false);
         }
         let has_evicted = self.evict_to_bound(tries).map_err(|why| match why {
             RemoveError::Spent => InsertError::Spent,
             _ => InsertError::Held,
         })?;
-        let makes_room = self.core.bound.is_below_room();
+        let makes_room = self.core.bound.is_full();
         Ok(makes_room && self.core.make_room(hash, tries, |evicted| self.end_eviction(evicted, |_, _| ())) || has_evicted)
     }
 

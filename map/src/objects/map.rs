@@ -73,7 +73,7 @@ impl<K, V, S> ObjectMap<K, V, S> {
     /// How many entries the map has, expired ones included. While other threads write it is an estimate.
     #[must_use]
     pub fn len(&self) -> usize {
-        self.inner.core.slots.stats().left() as usize
+        self.inner.core.slots.entries()
     }
 
     /// Whether [`len`](Self::len) is 0.

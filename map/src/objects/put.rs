@@ -237,7 +237,7 @@ impl<O: Held, S> ObjectInner<O, S> {
             self.take_ended(hash);
         }
         let claim = Claim::of(self.weights.as_ref(), hash, object.weight()).ok_or(InsertError::TooHeavy)?;
-        let has_evicted = (self.is_too_heavy() || self.core.bound.is_below_room()) && self.make_room(hash, tries)?;
+        let has_evicted = (self.is_too_heavy() || self.core.bound.is_full()) && self.make_room(hash, tries)?;
         Ok((claim, has_evicted))
     }
 
@@ -301,14 +301,14 @@ impl<O: Held, S> ObjectInner<O, S> {
     }
 
     fn replaced(&self, Replaced { at, old }: Replaced<1>) -> Done {
-        self.core.slots.count_put(Inserted::Renewed);
+        self.core.count_put(Inserted::Renewed);
         let put = Put { did: Inserted::Renewed, at };
         Done { put, old: Some((old.value[0], Reason::Replaced)) }
     }
 
     fn swapped(&self, Swapped { put, old }: Swapped<1>) -> Done {
         let (at, did) = (put.at(), Inserted::of(put));
-        self.core.slots.count_put(did);
+        self.core.count_put(did);
         let reason = if let Inserted::Evicted = did { Reason::Evicted } else { Reason::Replaced };
         Done { put: Put { did, at }, old: old.map(|old| (old.value[0], reason)) }
     }

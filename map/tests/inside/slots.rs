@@ -4,7 +4,7 @@ use crate::slots::Slots;
 use crate::stats::Kind;
 use crate::words::MOST;
 use crate::Map;
-use cefrodil::{Entry, EvictError, Held, ListError, TurnError};
+use cefrodil::{Entry, EvictError, ListError, TurnError};
 use std::collections::HashSet;
 use std::ptr;
 use std::sync::{Arc, Barrier, Mutex};
@@ -24,10 +24,6 @@ impl Index for Opens {
 
     fn capacity(&mut self) -> usize {
         0
-    }
-
-    fn len(&mut self) -> Result<usize, Held> {
-        Err(Held)
     }
 
     fn has(&mut self, _: u64) -> bool {
@@ -126,13 +122,13 @@ fn no_count_is_lost() {
 fn what_is_removed_before_it_is_counted_is_no_entry() {
     let slots = Arc::new(Slots::new(vec![Opens(1)], 1));
     slots.count(Kind::Removed);
-    assert_eq!(slots.stats().left(), 0);
+    assert_eq!((slots.entries(), slots.stats().entries), (0, 0));
     slots.count(Kind::Added);
     slots.count(Kind::Added);
     slots.count(Kind::Added);
-    assert_eq!(slots.stats().left(), 2);
+    assert_eq!((slots.entries(), slots.stats().entries), (2, 2));
     slots.count(Kind::Evicted);
-    assert_eq!(slots.stats().left(), 1);
+    assert_eq!((slots.entries(), slots.stats().entries), (1, 1));
 }
 
 // Each kind has a number of its own, by a handle of a thread's own and by the shared one.

@@ -62,7 +62,7 @@ template <class Parts> class FlightsOf {
 
     typename Parts::Mutex lock_{};
     Flight *first_ = nullptr;
-    typename Parts::template Atomic<size_t> count_{0};
+    typename Parts::template Atomic<uint32_t> count_{0};
 };
 
 // The computation of one key's value by one caller. It lies on that caller's stack, so it also ends by an exception.
@@ -167,16 +167,16 @@ class AllFlights {
         if (until == Until()) {
             until = most_wait_ < ages ? std::chrono::steady_clock::now() + most_wait_ : Until::max();
         }
-        return Flight(of(key.index).flights, key, until);
+        return Flight(of(key.index), key, until);
     }
-    void outdate(const Identity &key) noexcept { of(key.index).flights.outdate(key); }
+    void outdate(const Identity &key) noexcept { of(key.index).outdate(key); }
     void outdate_all() noexcept {
-        std::for_each(stripes_.begin(), stripes_.end(), [](Stripe &some) { some.flights.outdate_all(); });
+        std::for_each(stripes_.begin(), stripes_.end(), [](Stripe &some) { some.outdate_all(); });
     }
 
   private:
-    struct alignas(64) Stripe {
-        Flights flights{};
+    // By inheritance the lock lies in what would be padding, so also a mutex of 48 bytes leaves it room.
+    struct alignas(64) Stripe : Flights {
         KeyLock lock{};
     };
     // A clock of nanoseconds can't add much more.

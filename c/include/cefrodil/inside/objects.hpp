@@ -267,7 +267,7 @@ template <class K, class V> class Objects : public Entries<1, Epochs>, public Ob
         if (this->has_lives()) {
             sweep(index, change);
         }
-        if (is_bounded()) {
+        if (is_full()) {
             make_room_for(index, change, is_new);
         }
         return rules_.weigher ? offered_weighed(index, object, change, is_new, make) : ended(index, object, change, locked(index, make));
@@ -360,7 +360,9 @@ template <class K, class V> class Objects : public Entries<1, Epochs>, public Ob
             return swapped.status;
         }
         static_cast<void>(object.release());
-        if (swapped.old) {
+        if (!swapped.old) {
+            note_new();
+        } else {
             change.old = out(index, *swapped.old, change);
             change.renewed = !swapped.evicted, change.evicted = change.evicted || swapped.evicted;
             change.why = change.renewed ? Left::replaced : Left::evicted;

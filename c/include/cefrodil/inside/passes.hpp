@@ -23,7 +23,7 @@ namespace cefrodil::inside {
 // end before the thread does.
 template <class Parts> class FreePassesOf {
   public:
-    explicit FreePassesOf(size_t count) : free_(count - 1), count_(count - 1) { std::iota(free_.begin(), free_.end(), size_t(1)); }
+    explicit FreePassesOf(size_t count) : free_(count - 1), count_(count - 1) { std::iota(free_.rbegin(), free_.rend(), size_t(1)); }
 
     // A pass for this thread, or 0. What threads do with it one after the other is ordered by the lock. So the count needs no order: outside of the
     // lock it only says whether to try.
@@ -165,8 +165,8 @@ template <size_t Words, class Beside = NothingBeside> class Passes {
         const auto grow = [&] {
             slots_ = std::vector<std::atomic<OwnSlot *>>(count);
             free_ = std::make_shared<FreePasses>(count);
-            for (size_t pass = count - 1; pass > later; pass--) {
-                add_slot(pass, std::move(handles[pass - later]));
+            for (size_t pass = 1; pass < handles.size(); pass++) {
+                add_slot(pass, std::move(handles[pass]));
             }
         };
         shared_slot_.handle = std::move(handles[0]);
@@ -206,8 +206,9 @@ template <size_t Words, class Beside = NothingBeside> class Passes {
     // How many keys all calls added, less those that they removed. Calls that run meanwhile count or not.
     uint64_t keys() const noexcept {
         int64_t sum = shared_slot_.keys.load(std::memory_order_relaxed);
-        for (const std::atomic<OwnSlot *> &slot : slots_) {
-            const OwnSlot *const own = slot.load(std::memory_order_acquire);
+        const size_t last = last_made_.load(std::memory_order_relaxed);
+        for (size_t pass = 1; pass <= last; pass++) {
+            const OwnSlot *const own = slots_[pass].load(std::memory_order_acquire);
             sum += own != nullptr ? own->keys.load(std::memory_order_relaxed) : 0;
         }
         return static_cast<uint64_t>(std::max<int64_t>(0, sum));
@@ -274,11 +275,13 @@ template <size_t Words, class Beside = NothingBeside> class Passes {
         beside_.join(slot->beside);
         // Release: who counts its keys finds it made.
         slots_[pass].store(slot.release(), std::memory_order_release);
+        last_made_.store(std::max(pass, last_made_.load(std::memory_order_relaxed)), std::memory_order_relaxed);
     }
 
     OwnSlot shared_slot_{};
-    // Those of the passes that threads have had, from 1 on.
+    // Those of the passes that threads have had, from 1 on, and the last one of these. That is stored with the lock, and read without.
     std::vector<std::atomic<OwnSlot *>> slots_{};
+    std::atomic<size_t> last_made_{0};
     std::shared_ptr<FreePasses> free_{};
     const uint8_t place_ = next_place();
     std::mutex sharing_{};

@@ -158,12 +158,11 @@ class Table : public Entries<Packing<V, Times::moments>::words>, private Packing
     Stored put(const Identity &key, const V &value, const Life &life = {}) noexcept {
         sweep(key.index);
         const Ends ends = Times::ends(life);
-        const bool has_evicted = this->is_bounded() && make_room_for(key.index);
-        Stored put = this->locked(key.index, [this, key, ends, &value](Slot<words> &slot) {
+        const bool has_evicted = this->is_full() && make_room_for(key.index);
+        const Stored put = this->locked(key.index, [this, key, ends, &value](Slot<words> &slot) {
             return slot.put(key.index, pack_in(generations.now(), key, ends, value));
         });
-        put.evicted = put.evicted || has_evicted;
-        return put;
+        return told(put, has_evicted);
     }
     // Puts if the key is absent. An entry of an older generation gives way, and so does another key's entry under the same number.
     Stored put_if_absent(const Identity &key, const V &value, const Life &life = {}) noexcept {
@@ -251,6 +250,14 @@ class Table : public Entries<Packing<V, Times::moments>::words>, private Packing
     [[gnu::cold]] [[gnu::noinline]] bool make_room_for(uint64_t index) noexcept {
         return !this->has(index) && this->make_room(index, [this](uint64_t near) { return evict(near); });
     }
+    // The answer of a put before which others were evicted or not.
+    [[gnu::always_inline]] Stored told(Stored put, bool has_evicted) noexcept {
+        if (put.status == Status::ok && !put.renewed && !put.evicted) {
+            this->note_new();
+        }
+        put.evicted = put.evicted || has_evicted;
+        return put;
+    }
     // The key as its entries of the present generation have it.
     Identity now(const Identity &key) const noexcept { return in_generation(key, generations.now()); }
     bool is_there(const Identity &known, const Words &packed) const noexcept {
@@ -330,12 +337,11 @@ class Table : public Entries<Packing<V, Times::moments>::words>, private Packing
             const bool goes_on = generation == generations.now();
             return goes_on ? slot.put_if_absent(key.index, pack_in(generation, key, ends, value)) : refusal<Stored>(Status::stale);
         };
-        const bool has_evicted = this->is_bounded() && make_room_for(key.index);
+        const bool has_evicted = this->is_full() && make_room_for(key.index);
         for (uint32_t repeat = 0;; repeat++) {
-            Stored put = this->locked(key.index, make);
+            const Stored put = this->locked(key.index, make);
             if (put.status != Status::present) {
-                put.evicted = put.evicted || has_evicted;
-                return put;
+                return told(put, has_evicted);
             }
             const uint64_t generation = begun();
             const Identity known = in_generation(key, generation);

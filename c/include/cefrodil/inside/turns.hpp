@@ -80,7 +80,7 @@ template <size_t Words, class Beside = NothingBeside> class Turns : public Passe
     using Base::lines;
     using typename Base::OwnSlot;
 
-    // 0 shards: as many as these entries ask for. If others have room for more than a tenth more entries, these are the bound.
+    // 0 shards: as many as these entries ask for. If others have room for more than a tenth more entries, that is the bound.
     [[nodiscard]] Status open(uint32_t entries, uint32_t asked_shards, uint32_t passes, uint32_t tries) noexcept {
         if (!same_version()) {
             return Status::other_version;
@@ -97,8 +97,7 @@ template <size_t Words, class Beside = NothingBeside> class Turns : public Passe
         looks_ = std::min(tries, most_looks);
         shards_ = shards;
         room_ = uint64_t(shape.items) * shards;
-        const bool is_loose = asked_shards != 0 && room_ > uint64_t(entries) + entries / 10;
-        bound_.store(is_loose ? entries : 0, std::memory_order_relaxed);
+        set_bound(asked_shards == 0 ? room_ : std::min(room_, uint64_t(entries) + entries / 10));
         return Base::open(shape, shards, passes);
     }
 
@@ -122,13 +121,9 @@ template <size_t Words, class Beside = NothingBeside> class Turns : public Passe
     uint32_t shards() const noexcept { return shards_; }
     // How many keys a shard has room for.
     uint32_t places() const noexcept { return static_cast<uint32_t>(room_ / shards_); }
-    // Whether the number of keys has a bound below the room. Relaxed: a put and a count of the keys are in an order by the turn of the key's shard. If the
-    // put is the later one, it sees the bound that was set before the count.
-    bool is_bounded() const noexcept { return bound_.load(std::memory_order_relaxed) != 0; }
-    uint64_t capacity() const noexcept {
-        const uint64_t bound = bound_.load(std::memory_order_relaxed);
-        return bound != 0 ? bound : room_;
-    }
+    // Whether a put of a new key must first make room. Relaxed, as the bound is: a put that sees an older one leaves a key to the next put.
+    bool is_full() const noexcept { return is_full_.load(std::memory_order_relaxed); }
+    uint64_t capacity() const noexcept { return bound_.load(std::memory_order_relaxed); }
 
   protected:
     // Sets the bound, and evicts keys until the others are within it: by `evict`, which takes a key of the shard. bad_capacity: it is 0, or above the room.
@@ -137,24 +132,31 @@ template <size_t Words, class Beside = NothingBeside> class Turns : public Passe
         if (most == 0 || most > room_) {
             return Status::bad_capacity;
         }
-        bound_.store(most == room_ ? 0 : most, std::memory_order_relaxed);
-        uint64_t number = 0;
+        set_bound(most);
         for (uint32_t held = 0; held <= tries_;) {
-            const Status status = repeated([&number](OwnSlot &slot) { return slot.handle.try_len(number); });
-            if (status != Status::ok || number <= most) {
-                return status;
+            const uint64_t number = this->keys();
+            if (number <= most) {
+                return Status::ok;
             }
             evict_some(0, number - most, evict) != 0 ? void(held = 0) : wait_before(held++);
         }
         return Status::held;
     }
-    // Before a put of a new key. If there are as many keys as the bound allows, evicts others first, so that it is not itself what gives way: in its shard,
-    // or in the next ones. If other threads have a turn then, it leaves that to the next put. Whether it has evicted.
+    // Before a put of a new key, if the index is full: evicts what is too much with it, in its shard, or in the next ones. So the key is not itself what
+    // gives way. If other threads have a turn then, it leaves that to the next put. Whether it has evicted.
     template <class Evict> bool make_room(uint64_t key, const Evict &evict) noexcept {
-        uint64_t number = 0;
-        const Status status = this->call([&number](OwnSlot &slot) { return slot.handle.try_len(number); });
-        const uint64_t most = capacity();
-        return status == Status::ok && number >= most && evict_some(key, number - most + 1, evict) != 0;
+        const uint64_t number = this->keys(), most = capacity();
+        if (number < most || most == room_) {
+            is_full_.store(false, std::memory_order_relaxed);
+            return false;
+        }
+        return evict_some(key, number - most + 1, evict) != 0;
+    }
+    // After a put of a new key for which none gave way.
+    void note_new() noexcept {
+        if (capacity() != room_ && !is_full() && this->keys() >= capacity()) {
+            is_full_.store(true, std::memory_order_relaxed);
+        }
     }
     // Whether the index has the key. It tries once: if other threads keep it from that, the key counts as a new one.
     bool has(uint64_t key) noexcept {
@@ -163,6 +165,10 @@ template <size_t Words, class Beside = NothingBeside> class Turns : public Passe
     }
 
   private:
+    void set_bound(uint64_t most) noexcept {
+        bound_.store(most, std::memory_order_relaxed);
+        is_full_.store(most != room_, std::memory_order_relaxed);
+    }
     // Evicts so many keys, or fewer: one in the shard of this key, and each later one in the next shard. Returns how many.
     template <class Evict> uint64_t evict_some(uint64_t near, uint64_t count, const Evict &evict) noexcept {
         uint64_t evicted = 0;
@@ -207,9 +213,11 @@ template <size_t Words, class Beside = NothingBeside> class Turns : public Passe
     static constexpr uint32_t all_stripes = 4096, stripes_of_a_shard = 64;
 
     uint32_t tries_ = 0, looks_ = 0, shards_ = 0;
-    // How many keys there is room for. The bound on their number, or 0: none below the room.
+    // How many keys there is room for, and how many there may be.
     uint64_t room_ = 0;
     std::atomic<uint64_t> bound_{0};
+    // Whether a put made so many of them, and no later one found room. If the bound is the room, the index itself evicts.
+    std::atomic<bool> is_full_{false};
 };
 
 } // namespace cefrodil::inside
