@@ -298,6 +298,10 @@ static void printed() {
                                  "# HELP cefrodil_waiting_weight What the objects weigh that wait to be freed.\n"
                                  "# TYPE cefrodil_waiting_weight gauge\n"
                                  "cefrodil_waiting_weight{cache=\"names\"} 10\ncefrodil_waiting_weight{cache=\"a\\\"b\\\\c\\nd\"} 0\n"
+                                 "# HELP cefrodil_pinned_objects Objects that have left a map and that pins keep.\n# TYPE cefrodil_pinned_objects gauge\n"
+                                 "cefrodil_pinned_objects{cache=\"names\"} 20\ncefrodil_pinned_objects{cache=\"a\\\"b\\\\c\\nd\"} 0\n"
+                                 "# HELP cefrodil_pinned_weight What the objects weigh that pins keep.\n# TYPE cefrodil_pinned_weight gauge\n"
+                                 "cefrodil_pinned_weight{cache=\"names\"} 21\ncefrodil_pinned_weight{cache=\"a\\\"b\\\\c\\nd\"} 0\n"
                                  "# HELP cefrodil_entries Entries that are there.\n# TYPE cefrodil_entries gauge\n"
                                  "cefrodil_entries{cache=\"names\"} 11\n"
                                  "# HELP cefrodil_capacity Entries that there is room for.\n# TYPE cefrodil_capacity gauge\n"
@@ -317,7 +321,7 @@ static void printed() {
     Counts most_hits;
     most_hits.hits = UINT64_MAX, most_hits.hit_rate_of_last_minute = 1;
     const std::chrono::nanoseconds load_time(19000000020);
-    const Counts others{1, 2, 3, 4, 5, 6, 7, 8, 9, 10, 11, 12, 13, 14, 15, 16, 17, 18, load_time, 0.25};
+    const Counts others{1, 2, 3, 4, 5, 6, 7, 8, 9, 10, 11, 12, 13, 14, 15, 16, 17, 18, load_time, 0.25, 20, 21};
     MUST(prometheus({{"names", others}, {"a\"b\\c\nd", most_hits}}) == expected);
 }
 

@@ -62,6 +62,37 @@ static void a_pin_outlives_the_map() {
     MUST(living == 0);
 }
 
+// What a map has dropped is counted while pins keep it, also when the map is closed.
+static void what_pins_keep_is_counted() {
+    for (const bool is_weighed : {true, false}) {
+        object_map<uint64_t, Tracked> map;
+        cefrodil::ObjectRules<uint64_t, Tracked> rules;
+        if (is_weighed) {
+            rules.weigher = [](const uint64_t &key, const Tracked &) { return key; };
+        }
+        MUST(map.open({100}, rules) == Status::ok);
+        const cefrodil::Meter meter = map.meter();
+        const auto are_kept = [&](uint64_t number, uint64_t weight) {
+            return meter.counts().pinned == number && meter.counts().pinned_weight == (is_weighed ? weight : 0);
+        };
+        for (const uint64_t key : {1, 5, 7}) {
+            MUST(map.insert(key, Tracked(key)).status == Status::ok);
+        }
+        pinned<Tracked> one = map.pin(1), five = map.pin(5), again = map.pin(5);
+        MUST(map.erase(5) == Status::ok);
+        cefrodil::Extracted<Tracked> seven = map.extract(7);
+        MUST(are_kept(0, 0) && map.free_unused() == 2 && are_kept(2, 12));
+        again.reset();
+        MUST(are_kept(2, 12) && living == 3);
+        seven.value.reset();
+        MUST(are_kept(1, 5) && living == 2 && map.close() == Status::ok && are_kept(2, 6));
+        std::thread([&] { five.reset(); }).join();
+        MUST(are_kept(1, 1) && one->number == 1);
+        one.reset();
+        MUST(are_kept(0, 0) && living == 0);
+    }
+}
+
 // What is no value of the key now has no pin.
 static void no_pin_of_what_ended() {
     object_map<std::string, uint64_t> map;
@@ -173,6 +204,7 @@ int main(int argc, char **argv) {
     const long less = argc > 1 ? std::atol(argv[1]) : 1;
     a_pin_keeps_one_object();
     a_pin_outlives_the_map();
+    what_pins_keep_is_counted();
     no_pin_of_what_ended();
     extracts();
     what_was_computed_is_pinned();

@@ -5,7 +5,7 @@ use std::fmt::Write;
 /// Prometheus reads each number as an `f64`.
 type Number = fn(&Stats) -> f64;
 
-const ROWS: [(&str, &str, &str, Number); 24] = [
+const ROWS: [(&str, &str, &str, Number); 26] = [
     ("hits_total", "counter", "Lookups that found a value.", |stats| stats.hits as f64),
     ("misses_total", "counter", "Lookups that found none.", |stats| stats.misses as f64),
     ("expired_total", "counter", "Misses whose value had expired.", |stats| stats.expired as f64),
@@ -30,6 +30,8 @@ const ROWS: [(&str, &str, &str, Number); 24] = [
     ("stalled_seconds", "gauge", "For how long calls have given up.", |stats| stats.stalled.as_secs() as f64),
     ("waiting_objects", "gauge", "Objects that have left and wait to be freed.", |stats| stats.waiting as f64),
     ("waiting_weight", "gauge", "What the objects weigh that wait to be freed.", |stats| stats.waiting_weight as f64),
+    ("pinned_objects", "gauge", "Objects that have left and that pins keep.", |stats| stats.pinned as f64),
+    ("pinned_weight", "gauge", "What the objects weigh that pins keep.", |stats| stats.pinned_weight as f64),
     ("entries", "gauge", "Entries that are there.", |stats| stats.entries as f64),
     ("capacity", "gauge", "Entries that there is room for.", |stats| stats.capacity as f64),
     ("weight", "gauge", "What the entries weigh.", |stats| stats.weight as f64),

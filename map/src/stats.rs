@@ -52,6 +52,10 @@ pub struct Stats {
     pub waiting: u64,
     /// What those weigh, by the weigher of `max_weight`; 0 without one.
     pub waiting_weight: u64,
+    /// Objects that an `ObjectMap` has dropped and that pins keep. One for which there was no memory to count it is not among them.
+    pub pinned: u64,
+    /// What those weigh.
+    pub pinned_weight: u64,
     /// As [`len`](crate::Map::len).
     pub entries: u64,
     /// As [`capacity`](crate::Map::capacity).

@@ -99,14 +99,15 @@ fn a_builder_shows_what_it_was_told() {
 fn each_number_is_printed_under_its_name() {
     let names = "hits_total misses_total expired_total collided_total busy_total added_total renewed_total evictions_total \
                  evictions_by_weight_total evictions_by_capacity_total removed_total ended_total loads_total load_failures_total \
-                 load_seconds_total refusals_total given_up_total stalled_seconds waiting_objects waiting_weight entries capacity weight";
+                 load_seconds_total refusals_total given_up_total stalled_seconds waiting_objects waiting_weight pinned_objects pinned_weight \
+                 entries capacity weight";
     let mut stats = Stats::default();
     (stats.hits, stats.misses, stats.expired, stats.collided, stats.busy) = (1, 2, 3, 4, 5);
     (stats.added, stats.renewed, stats.evicted, stats.evicted_by_weight, stats.evicted_by_capacity) = (6, 7, 8, 9, 10);
     (stats.removed, stats.ended, stats.loads, stats.load_failures) = (11, 12, 13, 14);
     (stats.load_time, stats.refused, stats.given_up) = (Duration::from_secs(15), 16, 17);
     (stats.stalled, stats.waiting, stats.waiting_weight) = (Duration::from_secs(18), 19, 20);
-    (stats.entries, stats.capacity, stats.weight) = (21, 22, 23);
+    (stats.pinned, stats.pinned_weight, stats.entries, stats.capacity, stats.weight) = (21, 22, 23, 24, 25);
     (stats.hits_of_last_minute, stats.misses_of_last_minute) = (3, 1);
     let text = prometheus(&[("names", stats), ("a\"b\\c\nd", Stats::default())]);
     let lines: Vec<&str> = text.lines().collect();
@@ -117,9 +118,9 @@ fn each_number_is_printed_under_its_name() {
         assert_eq!(lines[2], format!("cefrodil_map_{name}{{cache=\"names\"}} {number}"));
         assert_eq!(lines[3], format!(r#"cefrodil_map_{name}{{cache="a\"b\\c\nd"}} 0"#));
     }
-    assert_eq!(lines.len(), 24 * 4);
+    assert_eq!(lines.len(), 26 * 4);
     assert_eq!(
-        lines[23 * 4 + 2..],
+        lines[25 * 4 + 2..],
         [r#"cefrodil_map_hit_rate{cache="names"} 0.75"#, r#"cefrodil_map_hit_rate{cache="a\"b\\c\nd"} 0"#]
     );
 }

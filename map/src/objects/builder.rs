@@ -215,6 +215,7 @@ impl<O: Held, S> ObjectInner<O, S> {
             listener,
             freed,
             weights: weigher.map(|(most, weigher)| Weights::new(most, weigher, shards)),
+            kept: Arc::default(),
             objects: PhantomData,
         })
     }

@@ -1,6 +1,7 @@
 //! What all clones of a map of objects share, and how an object leaves.
 use super::builder::{Freed, Listener, Reason};
 use super::epochs::Epochs;
+use super::kept::Kept;
 use super::object::{pointer, Held, Object};
 use super::weights::Weights;
 use crate::clock::{FAR, NEVER};
@@ -26,6 +27,7 @@ pub(crate) struct ObjectInner<O: Held, S> {
     pub listener: Option<Listener<O>>,
     pub freed: Option<Freed<O>>,
     pub weights: Option<Weights<O>>,
+    pub kept: Arc<Kept>,
     pub objects: PhantomData<O>,
 }
 
@@ -91,9 +93,10 @@ impl<O: Held, S> ObjectInner<O, S> {
         left
     }
 
-    /// What the calls of all threads came to, and what waits to be freed.
+    /// What the calls of all threads came to, what waits to be freed, and what pins keep.
     pub fn stats(&self) -> Stats {
         let mut stats = self.core.stats(self.weights.as_ref().map_or(0, Weights::sum));
+        self.kept.add_to(&mut stats);
         self.epochs.each_waiting(|word| {
             // SAFETY: the word was in this map's index, so it is one of `into_word` of these types. It waits, so no owner is made of it.
             let object = unsafe { &*pointer::<O>(word) };
@@ -114,7 +117,7 @@ impl<O: Held, S> ObjectInner<O, S> {
                 if let Some(freed) = &self.freed {
                     contain(|| freed(&*pointer::<O>(word)));
                 }
-                contain(|| drop(O::of_word(word)));
+                contain(|| O::end(O::of_word(word), &self.kept));
             }
         }
     }

@@ -9,6 +9,7 @@ mod epochs;
 mod error;
 mod evict;
 mod inner;
+mod kept;
 mod load;
 mod look;
 mod map;

@@ -1,6 +1,8 @@
 //! What a map has on the heap for a key, and its address as the word of an entry.
+use super::kept::{Keeping, Kept};
 use crate::clock::NEVER;
 use crate::generation::NONE;
+use crate::slots::boxed;
 use std::borrow::Borrow;
 use std::ops::Deref;
 use std::ptr;
@@ -26,6 +28,11 @@ pub(crate) unsafe trait Held: Sized {
     ///
     /// The word is one of `into_word` of this type, nothing but an owner borrows what is there, and `of_word` was not called of it since.
     unsafe fn of_word(word: u64) -> Self::Owner;
+
+    /// Drops the map's own part in an object that no call of the map uses any more. Other owners keep it, and may keep it among these.
+    fn end(owner: Self::Owner, _kept: &Arc<Kept>) {
+        drop(owner);
+    }
 
     /// When it expires.
     fn deadline(&self) -> u64;
@@ -70,20 +77,49 @@ pub(crate) fn pointer<O: Held>(word: u64) -> *const O {
 /// A key and a value of any type.
 pub(crate) struct Object<K, V> {
     pub key: K,
+    life: Life,
+    /// It stays the same from its put on.
+    pub weight: u64,
+    pub value: V,
+}
+
+/// When an object ends. If pins keep it when the map has dropped it, this counts it until then.
+struct Life {
     // A renewal moves it. Relaxed: it says nothing of other memory. What moves or keeps it has the key's lock.
     deadline: AtomicU64,
     // When it expires if it is not used. Relaxed: as above.
     idle: AtomicU64,
-    /// It stays the same from its put on.
-    pub weight: u64,
     generation: AtomicU64,
-    pub value: V,
+}
+
+/// No map has this generation. An object that pins keep has it, and has the address of its `Keeping` as `idle`.
+const KEPT: u64 = u64::MAX;
+
+impl Life {
+    // For an owner who is to drop the object next. Relaxed: by that drop the last owner sees this. Without memory it isn't counted.
+    fn keep(&self, keeping: Keeping) {
+        if let Some(keeping) = boxed(keeping) {
+            self.idle.store(Box::into_raw(keeping) as usize as u64, Relaxed);
+            self.generation.store(KEPT, Relaxed);
+        }
+    }
+}
+
+impl Drop for Life {
+    fn drop(&mut self) {
+        if *self.generation.get_mut() == KEPT {
+            let at = *self.idle.get_mut() as usize as *mut [Keeping; 1];
+            // SAFETY: only `keep` stores this generation, once for an object, after it has stored the address of a box here. Nobody stores another one after
+            // that: the map has dropped the object, and pins only read the value.
+            drop(unsafe { Box::from_raw(at) });
+        }
+    }
 }
 
 impl<K, V> Object<K, V> {
     pub fn new(key: K, value: V, generation: u64, deadline: u64, idle: u64) -> Object<K, V> {
         let [deadline, idle, generation] = [deadline, idle, generation].map(AtomicU64::new);
-        Object { key, deadline, idle, weight: 0, generation, value }
+        Object { key, life: Life { deadline, idle, generation }, weight: 0, value }
     }
 
     /// The parts of an object that was never put, so it has one owner.
@@ -121,32 +157,39 @@ unsafe impl<K, V> Held for Object<K, V> {
         unsafe { Arc::from_raw(pointer(word)) }
     }
 
+    // If there is another owner, nobody becomes one by the map any more. If all others end meanwhile, the object is counted for a moment.
+    fn end(owner: Arc<Object<K, V>>, kept: &Arc<Kept>) {
+        if Arc::strong_count(&owner) > 1 {
+            owner.life.keep(Keeping::begin(kept, owner.weight));
+        }
+    }
+
     #[inline]
     fn deadline(&self) -> u64 {
-        self.deadline.load(Relaxed)
+        self.life.deadline.load(Relaxed)
     }
 
     fn set_deadline(&self, deadline: u64) {
-        self.deadline.store(deadline, Relaxed);
+        self.life.deadline.store(deadline, Relaxed);
     }
 
     #[inline]
     fn generation(&self) -> u64 {
-        self.generation.load(SeqCst)
+        self.life.generation.load(SeqCst)
     }
 
     fn enter(&self, generation: u64) {
         if self.generation() == NONE {
-            let _ = self.generation.compare_exchange(NONE, generation, SeqCst, SeqCst);
+            let _ = self.life.generation.compare_exchange(NONE, generation, SeqCst, SeqCst);
         }
     }
 
     fn idle(&self) -> u64 {
-        self.idle.load(Relaxed)
+        self.life.idle.load(Relaxed)
     }
 
     fn move_idle(&self, deadline: u64) {
-        self.idle.fetch_max(deadline, Relaxed);
+        self.life.idle.fetch_max(deadline, Relaxed);
     }
 
     fn weight(&self) -> u64 {

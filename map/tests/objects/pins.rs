@@ -27,6 +27,30 @@ fn it_keeps_what_has_left_and_nothing_else() {
 }
 
 #[test]
+fn what_pins_keep_is_counted() {
+    let kept = |map: &ObjectMap<u64, u64>| (map.stats().pinned, map.stats().pinned_weight, map.weight());
+    let weighed = ObjectMap::builder(100).max_weight(1_000, |key: &u64, _: &u64| *key).open().unwrap();
+    for (map, [one, both, sum]) in [(weighed, [5, 12, 1]), (ObjectMap::new(100).unwrap(), [0; 3])] {
+        [1, 5, 7].iter().for_each(|key| done(map.insert(*key, *key).unwrap()));
+        let (there, five, seven) = (map.pin(&1), map.pin(&5), map.pin(&7));
+        assert_eq!(kept(&map).0, 0, "they are in the map");
+        map.remove(&5).unwrap();
+        let taken = map.take(&7).unwrap();
+        map.free_unused();
+        assert_eq!(kept(&map), (2, both, sum));
+        drop((seven, five.clone()));
+        assert_eq!(kept(&map), (2, both, sum));
+        drop(taken);
+        assert_eq!(kept(&map), (1, one, sum));
+        thread::spawn(move || drop(five)).join().unwrap();
+        assert_eq!(kept(&map), (0, 0, sum));
+        // The counts outlive the map, too.
+        drop(map);
+        assert_eq!(there.as_deref(), Some(&1));
+    }
+}
+
+#[test]
 fn it_outlives_the_map_and_moves_to_other_threads() {
     let (map, ledger) = (open(1), Ledger::new(10));
     (1..3).for_each(|key| done(map.insert(key, ledger.make(key)).unwrap()));

@@ -48,6 +48,8 @@ struct Counts {
     // As `hit_rate`, of the lookups since the counts noted last before a minute ago. They are noted when somebody asks for them, and by the functions that
     // are counted, by clear, invalidate_all and erase_expired, at most every four seconds. So if it is asked for every minute, it is of one to two minutes.
     double hit_rate_of_last_minute = 0;
+    // Objects that an object_map has dropped and that pins keep, and what they weigh. One for which there was no memory to count it is not among them.
+    uint64_t pinned = 0, pinned_weight = 0;
 
     // Which part of the lookups that were not busy found their key: 0 to 1. Without any, 0.
     double hit_rate() const noexcept { return hits == 0 ? 0 : static_cast<double>(hits) / static_cast<double>(hits + misses); }
@@ -143,6 +145,7 @@ class Lines {
         Counts counts = counts_of(all);
         counts.given_up = stalls_.number(), counts.stalled = stalls_.length();
         counts.waiting_weight = waiting_weight_.load(std::memory_order_relaxed);
+        counts.pinned = pinned_.load(std::memory_order_relaxed), counts.pinned_weight = pinned_weight_.load(std::memory_order_relaxed);
         counts.hit_rate_of_last_minute = recent_.rate(std::chrono::steady_clock::now(), counts.hits, counts.misses);
         return counts;
     }
@@ -155,6 +158,11 @@ class Lines {
     Stalls &stalls() noexcept { return stalls_; }
     // What the objects weigh that have left a map and wait to be freed. Relaxed: a number says nothing of other memory.
     std::atomic<uint64_t> &waiting_weight() noexcept { return waiting_weight_; }
+    // Pins keep so many more objects of this weight. Relaxed: as above.
+    void keep(uint64_t more, uint64_t weight) noexcept {
+        pinned_.fetch_add(more, std::memory_order_relaxed);
+        pinned_weight_.fetch_add(more * weight, std::memory_order_relaxed);
+    }
 
   private:
     static Counts counts_of(const std::array<uint64_t, all_counted> &all) noexcept {
@@ -174,7 +182,7 @@ class Lines {
     LineGroup groups_{};
     const Maker maker_{};
     Stalls stalls_{};
-    std::atomic<uint64_t> waiting_weight_{0};
+    std::atomic<uint64_t> waiting_weight_{0}, pinned_{0}, pinned_weight_{0};
 };
 
 // A handle's line. A handle that was opened by a call of C has none.

@@ -2,6 +2,7 @@
 #ifndef CEFRODIL_INSIDE_OBJECT_HPP
 #define CEFRODIL_INSIDE_OBJECT_HPP
 
+#include "counts.hpp"
 #include "epochs.hpp"
 #include "handle.hpp"
 #include "lives.hpp"
@@ -10,6 +11,8 @@
 #include <cstdint>
 #include <functional>
 #include <memory>
+#include <new>
+#include <utility>
 
 namespace cefrodil {
 
@@ -88,6 +91,25 @@ template <class K, class V> struct MortalObject final : WeighedObject<K, V> {
     static MortalObject &of(Object<K, V> &object) noexcept { return static_cast<MortalObject &>(object); }
 };
 
+// Counts an object while pins keep it that its map has dropped.
+class Kept : public Retired {
+  public:
+    Kept(std::shared_ptr<Lines> lines, uint64_t weight) noexcept : lines_(std::move(lines)), weight_(weight) { lines_->keep(1, weight_); }
+    Kept(const Kept &) = delete;
+    Kept &operator=(const Kept &) = delete;
+    ~Kept() { lines_->keep(uint64_t(0) - 1, weight_); }
+
+  private:
+    const std::shared_ptr<Lines> lines_;
+    const uint64_t weight_;
+};
+
+// Before a map drops an object: if pins keep it, counts it until it is destroyed. Its `next` has no other use any more. Without memory it isn't counted.
+template <class K, class V> void keep(Object<K, V> &object, const std::shared_ptr<Lines> &lines, uint64_t weight) noexcept {
+    const bool is_pinned = object.owners.load(std::memory_order_relaxed) != 1;
+    object.next = is_pinned && lines ? new (std::nothrow) Kept(lines, weight) : nullptr;
+}
+
 // Destroys an object, unless another owner has it. The first one has put it. Each later one has found it before it could be freed, so nobody becomes an
 // owner while the last one looks.
 struct Destroy {
@@ -95,6 +117,7 @@ struct Destroy {
         if (object->owners.load(std::memory_order_acquire) != 1 && object->owners.fetch_sub(1, std::memory_order_acq_rel) != 1) {
             return;
         }
+        const std::unique_ptr<Kept> kept(static_cast<Kept *>(object->next));
         switch (object->kind()) {
         case Object<K, V>::mortal: delete &MortalObject<K, V>::of(*object); break;
         case Object<K, V>::weighed: delete &WeighedObject<K, V>::of(*object); break;

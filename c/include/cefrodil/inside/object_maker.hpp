@@ -38,6 +38,11 @@ template <class K, class V> class ObjectMaker {
     bool has_ended(Each &object, uint64_t generation) const noexcept { return object.generation() < generation || has_expired(object); }
 
   protected:
+    // No call uses the object any more. What is counted is counted there.
+    void drop(Each *object, const std::shared_ptr<Lines> &lines) const noexcept {
+        const Own own(object);
+        keep(*own, lines, rules_.weigher ? Heavy::of(*own).weight : 0);
+    }
     bool has_lives() const noexcept { return clock_.has_lives(); }
     // A call of this generation has found it. Whether it has not ended: then its time to idle begins anew.
     [[gnu::always_inline]] bool is_used(Each &object, uint64_t generation) const noexcept {

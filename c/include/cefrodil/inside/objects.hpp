@@ -33,7 +33,7 @@ template <class K, class V> class Objects : public Entries<1, Epochs>, public Ob
     Objects &operator=(const Objects &) = delete;
     // No call runs any more. Without memory for a list of the entries, their objects leak.
     ~Objects() {
-        const auto destroy = [](uint64_t, const auto &word) { return static_cast<void>(Own(Each::at(word[0]))), Status::ok; };
+        const auto destroy = [this](uint64_t, const auto &word) { return this->drop(Each::at(word[0]), lines()), Status::ok; };
         static_cast<void>(is_open_ ? each_listed(destroy) : Status::closed);
         static_cast<void>(free_now());
     }
@@ -360,9 +360,8 @@ template <class K, class V> class Objects : public Entries<1, Epochs>, public Ob
             return swapped.status;
         }
         static_cast<void>(object.release());
-        if (!swapped.old) {
-            note_new();
-        } else {
+        swapped.old ? void() : note_new();
+        if (swapped.old) {
             change.old = out(index, *swapped.old, change);
             change.renewed = !swapped.evicted, change.evicted = change.evicted || swapped.evicted;
             change.why = change.renewed ? Left::replaced : Left::evicted;
@@ -381,8 +380,9 @@ template <class K, class V> class Objects : public Entries<1, Epochs>, public Ob
         Freeing all(this, first);
         size_t count = 0;
         for (Retired *next = all.next(); next != nullptr; next = all.next(), count++) {
-            const Own object(static_cast<Each *>(next));
+            Each *const object = static_cast<Each *>(next);
             count_waiting(own_slot(), *object, -1);
+            this->drop(object, lines());
         }
         return count;
     }

@@ -57,6 +57,8 @@ inline constexpr CountsRow counts_rows[] = {
     {"stalled_seconds", "gauge", "For how long calls of a map have given up.", &Counts::stalled},
     {"waiting_objects", "gauge", "Objects that have left a map and wait to be freed.", &Counts::waiting},
     {"waiting_weight", "gauge", "What the objects weigh that wait to be freed.", &Counts::waiting_weight},
+    {"pinned_objects", "gauge", "Objects that have left a map and that pins keep.", &Counts::pinned},
+    {"pinned_weight", "gauge", "What the objects weigh that pins keep.", &Counts::pinned_weight},
     {"entries", "gauge", "Entries that are there.", &Counts::entries},
     {"capacity", "gauge", "Entries that there is room for.", &Counts::capacity},
     {"weight", "gauge", "What the entries weigh.", &Counts::weight},
