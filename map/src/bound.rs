@@ -5,7 +5,7 @@ use crate::handle::Index;
 use crate::map::Inserted;
 use crate::stats::Kind;
 use cefrodil::{EvictError, TurnError};
-use std::iter::repeat_n;
+use std::iter::repeat;
 use std::sync::atomic::{AtomicBool, AtomicUsize, Ordering::Relaxed};
 
 /// How many entries a map holds at most.
@@ -100,13 +100,12 @@ impl<H: Index + 'static, V> Core<H, V> {
     /// have turns that it needs, the next put does this. Returns whether it evicted some.
     #[inline(never)]
     pub fn make_room(&self, hash: u64, tries: u32, mut left: impl FnMut(Evicted)) -> bool {
-        let excess = (self.slots.entries() + 1).saturating_sub(self.bound.most());
-        if excess == 0 || !self.bound.is_below_room() {
+        if self.slots.entries() < self.bound.most() || !self.bound.is_below_room() {
             self.bound.is_full.store(false, Relaxed);
             return false;
         }
         let mut has_evicted = false;
-        let _ = self.evict_some(repeat_n(Some(hash), excess), tries, |evicted| {
+        let _ = self.evict_to_bound(1, repeat(Some(hash)), tries, |evicted| {
             has_evicted = true;
             left(evicted);
         });
@@ -130,37 +129,34 @@ impl<H: Index + 'static, V> Core<H, V> {
     }
 
     /// Changes the bound, and evicts what is too much.
-    pub fn set_capacity(&self, most: usize, mut left: impl FnMut(Evicted)) -> Result<(), CapacityError> {
+    pub fn set_capacity(&self, most: usize, left: impl FnMut(Evicted)) -> Result<(), CapacityError> {
         if !(1..=self.bound.room).contains(&most) {
             return Err(self.refused(CapacityError::Range));
         }
         self.bound.set(most);
         // So each shard keeps its part. Without memory for a list, each loses the same number.
         let hashes = self.list(self.tries, Index::keys).unwrap_or_default();
-        loop {
-            let excess = self.slots.entries().saturating_sub(most);
-            let spread = (0..excess).map(|number| hashes.get(number * hashes.len() / excess).copied());
-            match self.evict_some(spread, self.tries, &mut left) {
-                Ok(0) => return Ok(()),
-                Ok(_) => {}
-                Err(why) => return Err(self.refused(CapacityError::Evict(why))),
-            }
-        }
+        let excess = hashes.len().saturating_sub(most);
+        let spread = (0..excess).map(|number| Some(hashes[number * hashes.len() / excess])).chain(repeat(None));
+        self.evict_to_bound(0, spread, self.tries, left).map_err(|why| self.refused(CapacityError::Evict(why)))
     }
 
-    // Evicts an entry for each of these: in the shard of the hash, or else in the next one, until all are empty. Returns how many.
-    fn evict_some(
+    // Evicts until so many entries more are within the bound: each in the shard of the next hash, if there is one, or in a later shard. It looks before each
+    // eviction, since other threads may evict the same excess.
+    fn evict_to_bound(
         &self,
-        hashes: impl Iterator<Item = Option<u64>>,
+        more: usize,
+        mut hashes: impl Iterator<Item = Option<u64>>,
         tries: u32,
         mut left: impl FnMut(Evicted),
-    ) -> Result<usize, RemoveError> {
-        let mut count = 0;
-        for hash in hashes {
-            let Some(evicted) = self.evict(self.bound.shards_from(hash), tries, Kind::EvictedByCapacity)? else { break };
-            left(evicted);
-            count += 1;
+    ) -> Result<(), RemoveError> {
+        while self.slots.entries() + more > self.bound.most() {
+            let shards = self.bound.shards_from(hashes.next().flatten());
+            match self.evict(shards, tries, Kind::EvictedByCapacity)? {
+                Some(evicted) => left(evicted),
+                None => break,
+            }
         }
-        Ok(count)
+        Ok(())
     }
 }

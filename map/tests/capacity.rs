@@ -97,6 +97,30 @@ fn computed_and_updated_values_keep_to_it_too() {
     assert_eq!(map.len(), 10);
 }
 
+// Threads that put evict the same excess together, and not each all of it.
+#[test]
+fn a_lower_capacity_loses_no_more_than_it_must() {
+    let map: Numbers = Map::builder(10_000).shards(64).open().unwrap();
+    put_all(&map, 0..10_000);
+    let is_over = AtomicBool::new(false);
+    let least = thread::scope(|threads| {
+        for thread in 1..5 {
+            let (map, is_over) = (&map, &is_over);
+            threads.spawn(move || {
+                let first = 1_000_000 * thread;
+                (first..).take_while(|_| !is_over.load(Relaxed)).for_each(|key| _ = map.insert(&key, key));
+            });
+        }
+        let lens = [5_000, 2_000, 500].map(|most| {
+            map.set_capacity(most).unwrap();
+            (0..10_000).map(|_| map.len()).min().unwrap() + 100 - most
+        });
+        is_over.store(true, Relaxed);
+        lens
+    });
+    assert!(least.iter().all(|len| (50..=200).contains(len)), "{least:?}");
+}
+
 // While threads put, a map may have some more. A thread that puts alone brings it back.
 #[test]
 fn threads_that_put_at_once_keep_to_it() {

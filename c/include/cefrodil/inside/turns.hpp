@@ -133,24 +133,23 @@ template <size_t Words, class Beside = NothingBeside> class Turns : public Passe
             return Status::bad_capacity;
         }
         set_bound(most);
-        for (uint32_t held = 0; held <= tries_;) {
-            const uint64_t number = this->keys();
-            if (number <= most) {
-                return Status::ok;
+        for (uint32_t held = 0; this->keys() > most;) {
+            if (held > tries_) {
+                return Status::held;
             }
-            evict_some(0, number - most, evict) != 0 ? void(held = 0) : wait_before(held++);
+            evict_above(most, 0, evict) ? void(held = 0) : wait_before(held++);
         }
-        return Status::held;
+        return Status::ok;
     }
     // Before a put of a new key, if the index is full: evicts what is too much with it, in its shard, or in the next ones. So the key is not itself what
     // gives way. If other threads have a turn then, it leaves that to the next put. Whether it has evicted.
     template <class Evict> bool make_room(uint64_t key, const Evict &evict) noexcept {
-        const uint64_t number = this->keys(), most = capacity();
-        if (number < most || most == room_) {
+        const uint64_t most = capacity();
+        if (this->keys() < most || most == room_) {
             is_full_.store(false, std::memory_order_relaxed);
             return false;
         }
-        return evict_some(key, number - most + 1, evict) != 0;
+        return evict_above(most - 1, key, evict);
     }
     // After a put of a new key for which none gave way.
     void note_new() noexcept {
@@ -169,13 +168,16 @@ template <size_t Words, class Beside = NothingBeside> class Turns : public Passe
         bound_.store(most, std::memory_order_relaxed);
         is_full_.store(most != room_, std::memory_order_relaxed);
     }
-    // Evicts so many keys, or fewer: one in the shard of this key, and each later one in the next shard. Returns how many.
-    template <class Evict> uint64_t evict_some(uint64_t near, uint64_t count, const Evict &evict) noexcept {
-        uint64_t evicted = 0;
-        for (uint64_t shard = 0; evicted < count && shard < count + shards_; shard++) {
-            evicted += evict(near + key_of_shard(shard)) == Status::ok ? 1 : 0;
+    // Evicts keys while there are more than so many: one in the shard of this key, and each later one in the next shard. It ends when no shard gives one. It
+    // looks before each eviction, since other threads may evict the same excess. Whether it has evicted.
+    template <class Evict> bool evict_above(uint64_t most, uint64_t near, const Evict &evict) noexcept {
+        bool has_evicted = false;
+        for (uint64_t shard = 0, missed = 0; missed < shards_ && this->keys() > most; shard++) {
+            const bool is_ok = evict(near + key_of_shard(shard)) == Status::ok;
+            has_evicted = has_evicted || is_ok;
+            missed = is_ok ? 0 : missed + 1;
         }
-        return evicted;
+        return has_evicted;
     }
     // The tries after the first one.
     template <class Call, class Answer> [[gnu::cold]] [[gnu::noinline]] Answer again(Call made, Answer answer) noexcept {
