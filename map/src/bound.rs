@@ -73,7 +73,7 @@ impl<H: Index + 'static, V> Core<H, V> {
     pub fn evict(&self, mut shards: impl Iterator<Item = u64>, tries: u32, cause: Kind) -> Result<Option<Evicted>, RemoveError> {
         let evicted = shards.find_map(|near| self.evict_near(near, tries).transpose()).transpose()?;
         if evicted.is_some() {
-            self.slots.count_for(Kind::Evicted, cause);
+            self.slots.count_left(Kind::Evicted, cause);
         }
         Ok(evicted)
     }

@@ -88,7 +88,7 @@ impl<const WIDTH: usize> Index for Handle<WIDTH> {
     }
 
     fn keys(&mut self) -> Result<Vec<u64>, TurnError<ListError>> {
-        Ok(self.try_entries()?.into_iter().map(|(key, _)| key).collect())
+        listed(self.try_entries()?, |(key, _)| key)
     }
 
     fn entry_at(&mut self, near: u64, item: u32) -> Option<Entry<MOST>> {
@@ -222,8 +222,16 @@ impl AnyHandle {
 
     /// All entries, in a turn at each shard.
     pub fn entries(&mut self) -> Result<Vec<(u64, Words)>, TurnError<ListError>> {
-        any!(self, handle => Ok(handle.try_entries()?.into_iter().map(|(key, value)| (key, wide(&value))).collect()))
+        any!(self, handle => listed(handle.try_entries()?, |(key, value)| (key, wide(&value))))
     }
+}
+
+// A list of what this makes of each entry, if there is memory for it.
+fn listed<T, U>(entries: Vec<T>, make: impl FnMut(T) -> U) -> Result<Vec<U>, TurnError<ListError>> {
+    let mut list = Vec::new();
+    list.try_reserve_exact(entries.len()).map_err(|_| TurnError::Call(ListError::NoMemory))?;
+    list.extend(entries.into_iter().map(make));
+    Ok(list)
 }
 
 fn narrow<const WIDTH: usize>(words: &Words) -> &[u64; WIDTH] {

@@ -299,7 +299,7 @@ impl<K: Key + ?Sized, V: Copy, S: BuildHasher> Inner<K, V, S> {
     /// Removes the entry under this key of the index if it was put at the moment `since`. Counts it, and by its cause: `Removed` is none.
     pub fn take_if(&self, hash: u64, since: u64, tries: u32, cause: Kind) -> Result<(), TurnError<PutIfError>> {
         self.core.slots.in_turn(tries, || self.core.in_lock(hash, |handle| handle.take_if(hash, since)))?;
-        self.core.slots.count_for(Kind::Removed, cause);
+        self.core.slots.count_left(Kind::Removed, cause);
         Ok(())
     }
 }

@@ -9,6 +9,15 @@ use std::hash::BuildHasher;
 use std::hash::Hash;
 use std::vec::IntoIter;
 
+// Adds what this makes to a list. Without memory there is no list any more.
+fn push<T>(list: &mut Option<Vec<T>>, make: impl FnOnce() -> T) {
+    let has_room = list.as_mut().is_some_and(|entries| entries.try_reserve(1).is_ok());
+    match list {
+        Some(entries) if has_room => entries.push(make()),
+        _ => *list = None,
+    }
+}
+
 // The bound is that of the calls: so the compiler says of other keys why they can't be given back.
 impl<K: Key + ?Sized, V: Copy + Send + Sync + 'static, S: BuildHasher> Map<K, V, S> {
     /// The entries that there are now, in no order, as [`for_each`](Map::for_each) shows them. They are copied before the first one is returned.
@@ -26,9 +35,9 @@ impl<K: Key + ?Sized, V: Copy + Send + Sync + 'static, S: BuildHasher> Map<K, V,
     where
         K: Number,
     {
-        let mut entries = Vec::new();
-        self.for_each(|key, value| entries.push((*key, *value)))?;
-        Ok(entries.into_iter())
+        let mut entries = Some(Vec::new());
+        self.for_each(|key, value| push(&mut entries, || (*key, *value)))?;
+        Ok(entries.ok_or(ClearError::NoMemory)?.into_iter())
     }
 }
 
@@ -53,8 +62,8 @@ where
     ///
     /// [`ClearError`]: there is no list of the entries.
     pub fn iter(&self) -> Result<IntoIter<(K, V)>, ClearError> {
-        let mut entries = Vec::new();
-        self.for_each(|key, value| entries.push((key.clone(), value.clone())))?;
-        Ok(entries.into_iter())
+        let mut entries = Some(Vec::new());
+        self.for_each(|key, value| push(&mut entries, || (key.clone(), value.clone())))?;
+        Ok(entries.ok_or(ClearError::NoMemory)?.into_iter())
     }
 }

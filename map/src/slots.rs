@@ -6,7 +6,7 @@ use crate::forks::{count_forks, this_process};
 use crate::handle::Index;
 use crate::map::Inserted;
 use crate::stalls::Stalls;
-use crate::stats::{Counts, Kind, Stats};
+use crate::stats::{entries_of, Counts, Kind, Stats};
 use crate::wait::{self, SLEEPS_FROM};
 use cefrodil::TurnError;
 use std::cell::{Cell, RefCell, RefMut};
@@ -52,11 +52,11 @@ impl<H> Slot<H> {
 /// A box that is made by `boxed`.
 pub(crate) type Boxed<T> = Box<[T; 1]>;
 
-/// Boxes this, unless there is no memory: then `Box::new` would end the process.
-pub(crate) fn boxed<T>(value: T) -> Option<Boxed<T>> {
+/// Boxes what `make` makes, unless there is no memory: then `Box::new` would end the process, and `make` is not called.
+pub(crate) fn boxed<T>(make: impl FnOnce() -> Option<T>) -> Option<Boxed<T>> {
     let mut list = Vec::new();
     list.try_reserve_exact(1).ok()?;
-    list.push(value);
+    list.push(make()?);
     list.into_boxed_slice().try_into().ok()
 }
 
@@ -144,10 +144,19 @@ impl<H: Index + 'static> Slots<H> {
         }
     }
 
+    /// Counts an entry that has left, but not by a put of the index.
+    pub fn count_left(self: &Arc<Self>, whole: Kind, part: Kind) {
+        self.count_for(whole, part);
+        self.add(Kind::Entry, 1_u64.wrapping_neg());
+    }
+
     /// Counts a put that did this.
     #[inline]
     pub fn count_put(self: &Arc<Self>, did: Inserted) {
         self.count(if let Inserted::Renewed = did { Kind::Renewed } else { Kind::Added });
+        if let Inserted::New = did {
+            self.count(Kind::Entry);
+        }
         if let Inserted::Evicted = did {
             self.count(Kind::Evicted);
         }
@@ -159,8 +168,7 @@ impl<H: Index + 'static> Slots<H> {
 
     /// How many entries all calls left. Calls that run meanwhile count or not.
     pub fn entries(&self) -> usize {
-        let sum = self.all_counts().fold(0, |sum: u64, counts| sum.wrapping_add(counts.left()));
-        (sum as i64).max(0) as usize
+        entries_of(self.all_counts().map(|counts| counts.get(Kind::Entry)).fold(0, u64::wrapping_add)) as usize
     }
 
     fn all_counts(&self) -> impl Iterator<Item = &Counts> {
@@ -223,13 +231,12 @@ impl<H: Index + 'static> Slots<H> {
         Some(slot)
     }
 
-    // Opens the handle of a slot that the thread has taken, if none has had it before. `None`: there was no memory, and no thread takes that slot again.
+    // Opens the handle of a slot that the thread has taken, if none has had it before. `None`: there was no memory.
     fn make(&self, index: usize) -> Option<&Slot<H>> {
         let slot = &self.slots[index];
         if slot.get().is_none() {
             // No call by this handle claims a slot.
-            let handle = lock(&self.shared).more()?;
-            let _ = slot.set(boxed(Slot::new(index, handle))?);
+            let _ = slot.set(boxed(|| Some(Slot::new(index, lock(&self.shared).more()?)))?);
             self.opened.fetch_max(index + 1, Relaxed);
         }
         Some(&slot.get()?[0])
@@ -342,7 +349,13 @@ impl Claims {
         if let Some(claim) = claims.get(&slots.id) {
             return Some(claim.index);
         }
-        let index = slots.make(slots.take_free()?)?.index;
+        // Without memory nothing is taken, and the next call tries again.
+        claims.try_reserve(1).ok()?;
+        let index = slots.take_free()?;
+        if slots.make(index).is_none() {
+            slots.give_back(index);
+            return None;
+        }
         // Claims of maps that are gone.
         claims.retain(|_, claim| claim.slots.strong_count() > 0);
         // In two steps, since only a `Weak` of a known type becomes one of any type.

@@ -89,9 +89,11 @@ pub(crate) enum Kind {
     Load,
     LoadFailure,
     LoadNanoseconds,
+    /// An entry that was added and has not left by calls of the same thread. One number, so that it is right while calls run.
+    Entry,
 }
 
-const NUMBERS: usize = Kind::LoadNanoseconds as usize + 1;
+const NUMBERS: usize = Kind::Entry as usize + 1;
 
 /// The counts of one thread, or of those that share a handle.
 #[derive(Default)]
@@ -103,7 +105,7 @@ impl Counts {
     #[inline]
     pub fn add_alone(&self, kind: Kind, number: u64) {
         let count = &self.0[kind as usize];
-        count.store(count.load(Relaxed) + number, Relaxed);
+        count.store(count.load(Relaxed).wrapping_add(number), Relaxed);
     }
 
     /// Counts so many more.
@@ -111,11 +113,14 @@ impl Counts {
         self.0[kind as usize].fetch_add(number, Relaxed);
     }
 
-    /// How many entries these calls added, less those that they took away: below 0 it wraps.
-    pub fn left(&self) -> u64 {
-        let of = |kind| self.0[kind as usize].load(Relaxed);
-        of(Kind::Added).wrapping_sub(of(Kind::Evicted)).wrapping_sub(of(Kind::Removed))
+    pub fn get(&self, kind: Kind) -> u64 {
+        self.0[kind as usize].load(Relaxed)
     }
+}
+
+/// How many entries there are by the sum of all counts of `Kind::Entry`. That wraps below 0: a call may count a removal before the put is counted.
+pub(crate) fn entries_of(sum: u64) -> u64 {
+    (sum as i64).max(0) as u64
 }
 
 fn rate(hits: u64, misses: u64) -> f64 {
@@ -146,10 +151,9 @@ impl Stats {
     }
 
     pub(crate) fn sum<'a>(all: impl Iterator<Item = &'a Counts>) -> Stats {
-        let (mut sums, mut entries) = ([0; NUMBERS], 0_u64);
+        let mut sums = [0_u64; NUMBERS];
         for counts in all {
-            sums.iter_mut().zip(&counts.0).for_each(|(sum, count)| *sum += count.load(Relaxed));
-            entries = entries.wrapping_add(counts.left());
+            sums.iter_mut().zip(&counts.0).for_each(|(sum, count)| *sum = sum.wrapping_add(count.load(Relaxed)));
         }
         let of = |kind: Kind| sums[kind as usize];
         Stats {
@@ -170,7 +174,7 @@ impl Stats {
             loads: of(Kind::Load),
             load_failures: of(Kind::LoadFailure),
             load_time: Duration::from_nanos(of(Kind::LoadNanoseconds)),
-            entries: (entries as i64).max(0) as u64,
+            entries: entries_of(of(Kind::Entry)),
             ..Stats::default()
         }
     }

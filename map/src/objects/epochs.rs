@@ -148,7 +148,7 @@ impl Epochs {
     fn list(&self, slot: usize) -> Option<&List> {
         let list = &self.lists[slot];
         if list.get().is_none() {
-            let _ = list.set(boxed(List::default())?);
+            let _ = list.set(boxed(|| Some(List::default()))?);
         }
         Some(&list.get()?[0])
     }

@@ -1,6 +1,7 @@
 //! What all clones of a map of objects share, and how an object leaves.
 use super::builder::{Freed, Listener, Reason};
 use super::epochs::Epochs;
+use super::freeing::free_all;
 use super::kept::Kept;
 use super::object::{pointer, Held, Object};
 use super::weights::Weights;
@@ -13,6 +14,7 @@ use std::cell::Cell;
 use std::hash::{BuildHasher, Hash};
 use std::marker::PhantomData;
 use std::mem;
+use std::ptr;
 use std::panic::{catch_unwind, AssertUnwindSafe};
 use std::sync::Arc;
 use std::time::Duration;
@@ -108,7 +110,7 @@ impl<O: Held, S> ObjectInner<O, S> {
 
     /// Frees these objects, which `Epochs` returned. A destructor that panics ends there: the call may be of another key, or a panic itself.
     pub fn free(&self, words: Vec<u64>) {
-        for word in words {
+        free_all(ptr::from_ref(self) as usize, words, |word| {
             // SAFETY: the word is one of `into_word` of these types, since it was in this map's index. `Epochs` returns a word once for each
             // time that it was retired. That is once: an object is retired when it leaves the index, and is never put again. `Epochs` returns
             // it when no call is pinned that may have found the object. So nothing borrows it but `freed` and other owners, and nothing else makes an
@@ -119,7 +121,7 @@ impl<O: Held, S> ObjectInner<O, S> {
                 }
                 contain(|| O::end(O::of_word(word), &self.kept));
             }
-        }
+        });
     }
 }
 

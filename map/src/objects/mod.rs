@@ -8,6 +8,7 @@ mod compute;
 mod epochs;
 mod error;
 mod evict;
+mod freeing;
 mod inner;
 mod kept;
 mod load;

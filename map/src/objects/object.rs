@@ -98,7 +98,7 @@ const KEPT: u64 = u64::MAX;
 impl Life {
     // For an owner who is to drop the object next. Relaxed: by that drop the last owner sees this. Without memory it isn't counted.
     fn keep(&self, keeping: Keeping) {
-        if let Some(keeping) = boxed(keeping) {
+        if let Some(keeping) = boxed(|| Some(keeping)) {
             self.idle.store(Box::into_raw(keeping) as usize as u64, Relaxed);
             self.generation.store(KEPT, Relaxed);
         }

@@ -1,5 +1,6 @@
 //! No two calls use a handle at once, whether threads own one or share it, and no count is lost.
 use crate::handle::Index;
+use crate::map::Inserted;
 use crate::slots::Slots;
 use crate::stats::Kind;
 use crate::words::MOST;
@@ -121,14 +122,15 @@ fn no_count_is_lost() {
 #[test]
 fn what_is_removed_before_it_is_counted_is_no_entry() {
     let slots = Arc::new(Slots::new(vec![Opens(1)], 1));
-    slots.count(Kind::Removed);
-    assert_eq!((slots.entries(), slots.stats().entries), (0, 0));
-    slots.count(Kind::Added);
-    slots.count(Kind::Added);
-    slots.count(Kind::Added);
-    assert_eq!((slots.entries(), slots.stats().entries), (2, 2));
-    slots.count(Kind::Evicted);
-    assert_eq!((slots.entries(), slots.stats().entries), (1, 1));
+    let entries = || (slots.entries(), slots.stats().entries);
+    slots.count_left(Kind::Removed, Kind::Ended);
+    assert_eq!((entries(), slots.stats().removed, slots.stats().ended), ((0, 0), 1, 1));
+    (0..3).for_each(|_| slots.count_put(Inserted::New));
+    slots.count_put(Inserted::Renewed);
+    slots.count_put(Inserted::Evicted);
+    assert_eq!(entries(), (2, 2));
+    slots.count_left(Kind::Evicted, Kind::Evicted);
+    assert_eq!((entries(), slots.stats().added, slots.stats().evicted), ((1, 1), 4, 2));
 }
 
 // Each kind has a number of its own, by a handle of a thread's own and by the shared one.

@@ -1,6 +1,7 @@
 //! An object that left the map is freed when no call can use it any more: not before, and not much later.
 use crate::ledger::{done, Ledger, Owned};
 use cefrodil_map::ObjectMap;
+use std::cell::Cell;
 use std::sync::mpsc::{channel, Receiver, Sender};
 use std::thread::{self, JoinHandle};
 use std::time::Duration;
@@ -205,6 +206,37 @@ fn keys_are_freed_with_their_values() {
         assert_eq!(map.get(&key), Some(vec![key.clone(); 3]));
         assert_eq!(map.get_with(key.as_str(), |value| value[2].clone()), Some(key));
     }
+}
+
+// A value whose destructor puts another one over the next of its chain, whose destructor does the same.
+struct Link(Option<(ObjectMap<u64, Link>, u64)>);
+
+thread_local! {
+    // How many such destructors run within each other, and how many did at most.
+    static DEPTH: Cell<(u32, u32)> = const { Cell::new((0, 0)) };
+}
+
+impl Drop for Link {
+    fn drop(&mut self) {
+        let Some((map, next)) = self.0.take() else { return };
+        let (depth, most) = DEPTH.get();
+        DEPTH.set((depth + 1, most.max(depth + 1)));
+        let _ = map.insert(next, Link(None));
+        DEPTH.set((depth, DEPTH.get().1));
+    }
+}
+
+#[test]
+fn a_chain_of_destructors_takes_the_stack_of_one() {
+    let (chains, length) = (64, 1_000);
+    let map = ObjectMap::<u64, Link>::builder(100_000).shards(1).open().unwrap();
+    for (chain, place) in (0..chains).flat_map(|chain| (0..length).map(move |place| (chain, place))) {
+        let key = chain * length + place;
+        assert!(map.insert(key, Link((place + 1 < length).then(|| (map.clone(), key + 1)))).is_ok());
+    }
+    (0..chains).for_each(|chain| assert!(map.insert(chain * length, Link(None)).is_ok()));
+    (0..length).for_each(|_| _ = map.free_unused());
+    assert_eq!((DEPTH.get().1, map.stats().waiting, map.len() as u64), (1, 0, chains * length));
 }
 
 #[test]
