@@ -69,26 +69,29 @@ impl Bound {
 }
 
 impl<H: Index + 'static, V> Core<H, V> {
-    /// Evicts an entry in the first of the shards of these hashes that has one, and counts it by its cause: `Evicted` is none. `None`: they are empty.
-    pub fn evict(&self, mut shards: impl Iterator<Item = u64>, tries: u32, cause: Kind) -> Result<Option<Evicted>, RemoveError> {
-        let evicted = shards.find_map(|near| self.evict_near(near, tries).transpose()).transpose()?;
+    /// Evicts an entry in the first of the shards of these hashes that has one and whose turn it gets: it tries each once, and then all again, so often.
+    /// Counts it by its cause: `Evicted` is none. `None`: they are empty.
+    pub fn evict<I: Iterator<Item = u64>>(&self, shards: impl Fn() -> I, tries: u32, cause: Kind) -> Result<Option<Evicted>, RemoveError> {
+        let evicted = self.slots.within(tries, || self.evict_once(shards())).unwrap_or(Err(RemoveError::Held))?;
         if evicted.is_some() {
             self.slots.count_left(Kind::Evicted, cause);
         }
         Ok(evicted)
     }
 
-    fn evict_near(&self, near: u64, tries: u32) -> Result<Option<Evicted>, RemoveError> {
-        let evicted = self.slots.in_turn(tries, || match self.slots.call(|handle| handle.evict(near)) {
-            // Lookups used all entries meanwhile. The next try may be quicker than they are.
-            Err(TurnError::Call(EvictError::AllRecent)) => Err(TurnError::Held),
-            evicted => evicted,
-        });
-        match evicted {
-            Ok(evicted) => Ok(evicted.map(|(at, word)| Evicted { near, at, word })),
-            Err(TurnError::Held) => Err(RemoveError::Held),
-            Err(TurnError::Call(_)) => Err(RemoveError::Spent),
+    // `None`: other threads had the turn of a shard, and those before it and after it are empty.
+    fn evict_once(&self, shards: impl Iterator<Item = u64>) -> Option<Result<Option<Evicted>, RemoveError>> {
+        let mut is_held = false;
+        for near in shards {
+            match self.slots.call(|handle| handle.evict(near)) {
+                Ok(None) => {}
+                Ok(Some((at, word))) => return Some(Ok(Some(Evicted { near, at, word }))),
+                // Or lookups used all entries meanwhile. The next try may be quicker than they are.
+                Err(TurnError::Held | TurnError::Call(EvictError::AllRecent)) => is_held = true,
+                Err(TurnError::Call(_)) => return Some(Err(RemoveError::Spent)),
+            }
         }
+        (!is_held).then_some(Ok(None))
     }
 
     /// Whether nothing is under this hash. Otherwise that is a use of it.
@@ -151,8 +154,8 @@ impl<H: Index + 'static, V> Core<H, V> {
         mut left: impl FnMut(Evicted),
     ) -> Result<(), RemoveError> {
         while self.slots.entries() + more > self.bound.most() {
-            let shards = self.bound.shards_from(hashes.next().flatten());
-            match self.evict(shards, tries, Kind::EvictedByCapacity)? {
+            let hash = hashes.next().flatten();
+            match self.evict(|| self.bound.shards_from(hash), tries, Kind::EvictedByCapacity)? {
                 Some(evicted) => left(evicted),
                 None => break,
             }

@@ -11,7 +11,7 @@ impl<O: Held, S> ObjectInner<O, S> {
     /// Evicts the object that would give way next in a shard with many objects, so that each keeps its share. If other threads are only about to
     /// put these, another shard evicts. Calls `see` with the object before it is retired, and with the moment. `None`: there is none.
     pub fn evict<R>(&self, tries: u32, cause: Kind, see: impl FnOnce(&O, u64) -> R) -> Result<Option<R>, RemoveError> {
-        let shards = self.weights.iter().flat_map(Weights::fullest_first);
+        let shards = || self.weights.iter().flat_map(Weights::fullest_first);
         Ok(self.core.evict(shards, tries, cause)?.map(|evicted| self.end_eviction(evicted, see)))
     }
 

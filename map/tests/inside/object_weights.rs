@@ -55,7 +55,8 @@ fn a_new_key_that_gets_no_turn_to_make_room_is_refused() {
     let slots = Arc::clone(&map.inner.core.slots);
     let take = move || {
         let turn = Turn::begin(&slots, Handle::try_entries);
-        BEFORE_CALL.set(Some((TRIES - 1, Box::new(move || drop(turn)))));
+        // Each time it tries the shard twice, as the fullest one and as one of all.
+        BEFORE_CALL.set(Some((2 * TRIES - 1, Box::new(move || drop(turn)))));
     };
     BEFORE_CALL.set(Some((1, Box::new(take))));
     let refused = map.insert(2, 50).unwrap_err();
@@ -64,6 +65,25 @@ fn a_new_key_that_gets_no_turn_to_make_room_is_refused() {
     drop(BEFORE_CALL.take());
     assert_eq!((map.weight(), map.get(&1), map.stats().refused), (60, Some(60), 1));
     assert_eq!((map.insert(2, 50).unwrap(), map.weight(), map.len()), (Inserted::Evicted, 50, 1));
+}
+
+// Another thread has the turn of one of two shards.
+#[test]
+fn a_shard_without_a_turn_keeps_no_other_from_evicting() {
+    let map = Numbers::builder(100).shards(2).max_weight(20, |_, value| *value).open().unwrap();
+    (0..40).for_each(|key| done(map.insert(key, 1).unwrap()));
+    let free = |key: &u64| map.inner.core.slots.call(|handle| handle.try_peek(map.hash_of(key)).is_ok());
+    let turn = Turn::begin(&map.inner.core.slots, Handle::try_entries);
+    for key in (100..).filter(free).take(10) {
+        assert_eq!((map.try_insert(key, 1).unwrap(), map.weight(), map.get(&key)), (Inserted::Evicted, 20, Some(1)));
+    }
+    drop(turn);
+    map.set_capacity(15).unwrap();
+    let turn = Turn::begin(&map.inner.core.slots, Handle::try_entries);
+    for key in (1_000..).filter(free).take(10) {
+        assert_eq!((map.try_insert(key, 1).unwrap(), map.len(), map.get(&key)), (Inserted::Evicted, 15, Some(1)));
+    }
+    drop(turn);
 }
 
 #[test]

@@ -305,15 +305,12 @@ template <class K, class V> class Objects : public Entries<1, Epochs>, public Ob
         shrink(change);
         return status;
     }
-    // Evicts objects until the others are within the bound: each from the shard that has the most of a few. What calls are about to put counts, so that
-    // shard may have none: then it goes round all shards. It gives up if it finds none, or after so many tries: then a later put goes on.
+    // Evicts objects until the others are within the bound. It gives up if there are none, or after so many tries: then a later put goes on.
     void shrink(Change &change) noexcept {
-        for (uint32_t looked = 0, held = 0; weights_.is_over() && looked <= shards() && held <= tries();) {
-            switch (evict(looked == 0 ? weights_.fullest() : weights_.next(), by_weight, change)) {
-            case Status::ok: looked = 0; break;
-            case Status::absent: looked++; break;
-            default: wait_before(held++);
-            }
+        Status status = Status::ok;
+        for (uint32_t held = 0; weights_.is_over() && status != Status::absent && held <= tries();) {
+            status = weights_.evict_from(shards(), [&](uint64_t near) { return evict(near, by_weight, change); });
+            status == Status::ok ? void(held = 0) : wait_before(held++);
         }
     }
     // Evicts an object of the shard that has this key.

@@ -3,6 +3,7 @@
 #ifndef CEFRODIL_INSIDE_WEIGHTS_HPP
 #define CEFRODIL_INSIDE_WEIGHTS_HPP
 
+#include "handle.hpp"
 #include "hash.hpp"
 #include "threads.hpp"
 #include <atomic>
@@ -43,6 +44,17 @@ template <class Parts> class WeightsOf {
             found = of(key).load(std::memory_order_relaxed) > of(found).load(std::memory_order_relaxed) ? key : found;
         }
         return found;
+    }
+
+    // Evicts an object by `evict`, which takes a key of a shard: of the one that has the most of a few. What calls are about to put counts, so that may have
+    // none, or another thread has its turn. Then it tries all others once. absent: no shard has any.
+    template <class Evict> Status evict_from(uint32_t shards, const Evict &evict) noexcept {
+        Status status = evict(fullest());
+        for (uint32_t looked = 0; status != Status::ok && looked < shards; looked++) {
+            const Status tried = evict(next());
+            status = tried != Status::absent ? tried : status;
+        }
+        return status;
     }
 
   private:
