@@ -46,8 +46,8 @@
 // the archive that belongs to this header.
 //
 // No call throws, but what your hash and your functions throw. A call that other threads keep from its turn is repeated, up to `tries` times. At
-// first it spins, then it yields, then it sleeps. At last it returns `held` or `busy`. A call that fails has changed no key and no value; only
-// `clear`, `erase_if` and `erase_expired` may have removed some keys. It can be compiled with -fno-exceptions and -fno-rtti. Then the program ends if a call finds no memory.
+// first it spins, then it yields, then it sleeps. At last it returns `held` or `busy`. A call that fails has changed nothing of its key; `clear`, `erase_if`,
+// `erase_expired`, `set_capacity` and `set_most_weight` may have removed some keys, and so may a put that makes room. It can be compiled with -fno-exceptions and -fno-rtti. Then the program ends if a call finds no memory.
 #ifndef CEFRODIL_MAP_HPP
 #define CEFRODIL_MAP_HPP
 

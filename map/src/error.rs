@@ -56,7 +56,7 @@ pub enum InsertError {
 pub enum RemoveError {
     /// Writes disturbed each try to look the key up.
     Busy,
-    /// Other threads were writing to the key's shard at each try.
+    /// Other threads were writing to the key's shard at each try, or had its lock.
     Held,
     /// Other threads changed the key's value between the lookup and the removal, each time.
     Contended,
@@ -80,7 +80,7 @@ pub enum UpdateError {
 #[derive(Clone, Copy, Debug, PartialEq, Eq, Hash)]
 #[non_exhaustive]
 pub enum ClearError {
-    /// Other threads were writing to a shard at each try.
+    /// Other threads were writing to a shard at each try, or had a key's lock.
     Held,
     /// Out of memory for the list of keys.
     NoMemory,

@@ -5,7 +5,8 @@ use std::time::Duration;
 /// How many calls came to what, since the map was opened. The sums of all threads, each read at a moment of its own.
 ///
 /// `hits`, `misses` and `busy` together are the lookups: one for each call of `get`, `look`, `pin`, `contains_key`, `get_or_insert_with` and
-/// `try_board`, and of their other forms, and one for each key of `get_many`, `get_many_with` and `look_many`.
+/// `try_board`, and of their other forms, and one for each key of `get_many`, `get_many_with` and `look_many`. A call of `get_or_insert_async` that waits for
+/// another task may be two: a miss, and what it finds then.
 #[derive(Clone, Copy, Debug, Default, PartialEq, Eq, Hash)]
 #[non_exhaustive]
 pub struct Stats {
@@ -31,7 +32,7 @@ pub struct Stats {
     pub evicted_by_capacity: u64,
     /// Entries that were removed.
     pub removed: u64,
-    /// Those of them that had ended: their time was over, or `invalidate_all` had ended them.
+    /// Those of them that left since they had ended, with puts or by `remove_expired`: their time was over, or `invalidate_all` had ended them.
     pub ended: u64,
     /// Functions that ran to compute a value, of `get_or_insert_with` and its other forms. A load by `try_board` is not counted.
     pub loads: u64,

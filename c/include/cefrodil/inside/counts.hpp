@@ -41,12 +41,12 @@ struct Counts {
     uint64_t entries = 0, capacity = 0, weight = 0;
     // Of the evictions of a map: those by its bound on weights, and by that on the number of keys.
     uint64_t evicted_by_weight = 0, evicted_by_capacity = 0;
-    uint64_t ended = 0; // entries that a map removed because they had ended
+    uint64_t ended = 0; // entries that left a map with puts or by erase_expired, because they had ended
     // How often functions of find_or_compute and pin_or_compute ran, how often they threw or declined, and how long they took together.
     uint64_t loads = 0, load_failures = 0;
     std::chrono::nanoseconds load_time{0};
     // As `hit_rate`, of the lookups since the counts noted last before a minute ago. They are noted when somebody asks for them, and by the functions that
-    // are counted, by clear, invalidate_all and erase_expired, at most every four seconds. So if it is asked for every minute, it is of one to two minutes.
+    // are counted, by invalidate_all and by calls that list all entries, at most every four seconds. So if it is asked for every minute, it is of one to two minutes.
     double hit_rate_of_last_minute = 0;
     // Objects that an object_map has dropped and that pins keep, and what they weigh. One for which there was no memory to count it is not among them.
     uint64_t pinned = 0, pinned_weight = 0;

@@ -53,14 +53,14 @@ enum class Status : uint32_t {
     // .ci/calls: end
     // The program is linked with an archive of another version, whose structs and calls may differ. Nothing was done.
     other_version = 1000,
-    // By Filler::fill (cefrodil_filler.hpp): the store may have changed since the value was read. Nothing was put. By map::find_or_compute
-    // (cefrodil_map.hpp): the key was changed while its value was computed.
+    // By Filler::fill (cefrodil_filler.hpp): the store may have changed since the value was read. Nothing was put. By
+    // find_or_compute and pin_or_compute of the maps: the key was changed while its value was computed, or the call could not wait for another one.
     stale = 1001,
-    // By map::open alone: the kernel gave no random numbers. Nothing is open.
+    // By `open` of the maps: the kernel gave no random numbers. Nothing is open.
     no_random = 1002,
     // By the puts of an object_map with a bound on weights: the entry alone weighs more. Nothing was put, and an earlier value stays.
     too_heavy = 1003,
-    // By object_map::update alone: the function made no new value, and the earlier one stays.
+    // By calls of the maps with a function that may make no value: it made none, and an earlier one stays.
     declined = 1004,
     // By the writes of an object_map that its listener makes, within 16 listeners of the thread: nothing was done.
     too_deep = 1005,

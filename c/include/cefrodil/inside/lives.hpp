@@ -71,7 +71,6 @@ struct Timeless {
     static Ends in_generation(const Ends &, uint64_t) noexcept { return {}; }
     static Ends renewed(const Ends &, Life) noexcept { return {}; }
     static bool have_passed(const Ends &) noexcept { return false; }
-    static bool are_of(const Ends &, uint64_t) noexcept { return true; }
     static bool is_due(const Ends &) noexcept { return false; }
 };
 

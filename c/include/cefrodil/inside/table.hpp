@@ -285,11 +285,12 @@ class Table : public Entries<Packing<V, Times::moments>::words>, private Packing
         }
         return Status::ok;
     }
-    // Begins the time to idle of an entry anew. If the entry was changed, looks it up again.
+    // Begins the time to idle of an entry anew, unless another thread has the turn. If the entry was changed, looks it up again.
     [[gnu::cold]] [[gnu::noinline]] void use(const Identity &known, uint64_t since, Words packed) noexcept {
         for (uint32_t repeat = 0; repeat < this->looks() && Times::is_due(ends_of(packed)); repeat++) {
             set_ends(packed, Times::renewed(ends_of(packed), {}));
-            if (!is_lost(put_over(known, since, packed))) {
+            const auto put = [&](Slot<words> &slot) { return slot.put_if(known.index, since, packed); };
+            if (!is_lost(this->locked_once(known.index, put).status)) {
                 return;
             }
             const Seen seen = this->get(this->own_slot(), known.index, this->looks(), packed);
