@@ -64,7 +64,7 @@ template <class Map> static void ended_ones_first(const cefrodil::MapOptions &op
 // So it is with what invalidate_all has ended, and with what nobody has asked for.
 template <class Map> static void other_ends() {
     Map map, idle;
-    MUST(open(map, {100, 1}, lives_of(nanoseconds(1000))) == Status::ok && open(idle, {100, 1}, lives_of(cefrodil::forever, nanoseconds(1600))) == Status::ok);
+    MUST(open(map, {100, 1}, lives_of(nanoseconds(10000))) == Status::ok && open(idle, {100, 1}, lives_of(cefrodil::forever, nanoseconds(1600))) == Status::ok);
     fill(map, 0, 100);
     fill(idle, 0, 100);
     now += 800;
