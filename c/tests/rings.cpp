@@ -16,6 +16,7 @@ static cefrodil_status noted_get_or_turn(cefrodil_handle *handle, uint64_t key, 
 #include "must.h"
 #include <algorithm>
 #include <atomic>
+#include <sys/wait.h>
 #include <thread>
 #include <unistd.h>
 #include <vector>
@@ -176,6 +177,30 @@ static void a_throw(const Ask &ask) {
     clear();
 }
 
+// In a forked child nobody waits, whoever waited in its parent.
+static void a_child() {
+    std::atomic<bool> has_begun{false};
+    run({[&] {
+             const auto function = [&] {
+                 has_begun = true;
+                 until([] { return waits() == 1; });
+                 const pid_t child = fork();
+                 if (child == 0) {
+                     _exit(waits());
+                 }
+                 int status = 1;
+                 MUST(waitpid(child, &status, 0) == child && status == 0);
+                 return uint64_t(7);
+             };
+             MUST(of_numbers(1, function).value == 7);
+         },
+         [&] {
+             until([&] { return bool(has_begun); });
+             MUST(!of_numbers(1, [] { return uint64_t(8); }).computed);
+         }});
+    clear();
+}
+
 // A call of a map that was opened so waits for nobody, or until the other call has its value. If there is none, it computes.
 static void most_wait(std::chrono::nanoseconds most, bool waits_on, bool throws) {
     cefrodil::MapOptions options{100};
@@ -262,6 +287,7 @@ int main() {
     asked_after_its_end(of_pins, of_numbers);
     a_throw(of_numbers);
     a_throw(of_objects);
+    a_child();
     for (const bool throws : {false, true}) {
         most_wait(std::chrono::nanoseconds(0), false, throws);
         most_wait(std::chrono::hours(1), true, throws);
