@@ -42,6 +42,19 @@ template <class Map> static void all_leave() {
     MUST(map.size() == 1 && map.find(200) == 1u && map.counts().ended == 99 && map.counts().evictions == 0);
 }
 
+// So are they after updates.
+template <class Map> static void all_leave_with_updates() {
+    Map map;
+    MUST(open(map, {100, 1}, lives_of(nanoseconds(1000))) == Status::ok);
+    fill(map, 0, 99);
+    now += 1000;
+    MUST(map.insert_or_assign_for(200, 1, cefrodil::forever).status == Status::ok && map.size() > 90);
+    for (int n = 0; n < 50; n++) {
+        MUST(cefrodil::inside::status_of(map.update(200, [](uint64_t old) { return old + 1; })) == Status::ok);
+    }
+    MUST(map.size() == 1 && map.find(200) == 51u && map.counts().ended == 99);
+}
+
 // What ended goes, and what lives stays: while half of the entries have ended, new keys evict none that lives.
 template <class Map> static void ended_ones_first(const cefrodil::MapOptions &options) {
     Map map;
@@ -64,7 +77,7 @@ template <class Map> static void ended_ones_first(const cefrodil::MapOptions &op
 // So it is with what invalidate_all has ended, and with what nobody has asked for.
 template <class Map> static void other_ends() {
     Map map, idle;
-    MUST(open(map, {100, 1}, lives_of(nanoseconds(1000))) == Status::ok && open(idle, {100, 1}, lives_of(cefrodil::forever, nanoseconds(1600))) == Status::ok);
+    MUST(open(map, {100, 1}, lives_of(nanoseconds(10000))) == Status::ok && open(idle, {100, 1}, lives_of(cefrodil::forever, nanoseconds(1600))) == Status::ok);
     fill(map, 0, 100);
     fill(idle, 0, 100);
     now += 800;
@@ -124,6 +137,8 @@ int main(int argc, char **argv) {
     const uint64_t less = argc > 1 ? std::strtoull(argv[1], nullptr, 10) : 1;
     all_leave<Sessions>();
     all_leave<Objects>();
+    all_leave_with_updates<Sessions>();
+    all_leave_with_updates<Objects>();
     for (const cefrodil::MapOptions &options : {cefrodil::MapOptions{100, 1}, {1000, 1}}) {
         ended_ones_first<Sessions>(options);
         ended_ones_first<Objects>(options);

@@ -12,7 +12,19 @@ static cefrodil_status some_evict(cefrodil_handle *handle, uint64_t near, uint64
     }
     return cefrodil_evict(handle, near, old, words, reply);
 }
+// And so many puts.
+static uint32_t held_puts = 0;
+static cefrodil_status some_swap(cefrodil_handle *handle, uint64_t key, const uint64_t *value, size_t words, uint64_t *old, size_t old_words,
+                                 cefrodil_reply *reply) {
+    if (held_puts != 0) {
+        held_puts--;
+        *reply = cefrodil_reply{};
+        return CEFRODIL_HELD;
+    }
+    return cefrodil_swap(handle, key, value, words, old, old_words, reply);
+}
 #define cefrodil_evict some_evict
+#define cefrodil_swap some_swap
 #include "cefrodil_object_map.hpp"
 #include "must.h"
 #include <malloc.h>
@@ -107,6 +119,30 @@ static void held_evictions() {
     MUST(map.set_most_weight(50) == Status::ok && map.weight() <= 50);
 }
 
+// So it is with a bound on the number of objects: the next put evicts all that is too much.
+static void held_capacity() {
+    Map map;
+    MUST(map.open({100, 1, 4, 5}) == Status::ok);
+    for (uint64_t key = 0; key < 10; key++) {
+        MUST(map.insert(key, uint64_t(10)).status == Status::ok);
+    }
+    held = 1000;
+    MUST(map.set_capacity(3) == Status::held && map.capacity() == 3 && map.size() == 10);
+    held = 0;
+    MUST(map.insert(10, uint64_t(10)).evicted && map.size() == 3 && map.contains(10));
+}
+
+// What was not put weighs nothing.
+static void held_put() {
+    Map map;
+    Map::Rules rules;
+    rules.weigher = [](uint64_t, uint64_t value) { return value; };
+    MUST(map.open({100, 1, 4, 5}, rules) == Status::ok && map.insert(1, uint64_t(10)).status == Status::ok);
+    held_puts = 6;
+    MUST(map.insert_or_assign(2, uint64_t(20)).status == Status::held && held_puts == 0 && map.weight() == 10 && !map.contains(2));
+    MUST(map.insert_or_assign(2, uint64_t(20)).status == Status::ok && map.weight() == 30);
+}
+
 // A thread that opens and closes maps keeps nothing of them.
 static void closed_maps_leave_nothing() {
     const auto open_and_close = [](int times) {
@@ -130,7 +166,7 @@ static void listeners_that_put() {
         refused += status == Status::too_deep;
         MUST(status == Status::ok || (status == Status::too_deep && depth == 16));
         MUST(depth < 16 || (map.erase(key) == Status::absent && map.insert_or_assign(key, uint64_t(0)).status == Status::too_deep &&
-                            map.set_most_weight(0) == Status::too_deep));
+                            map.set_most_weight(0) == Status::too_deep && map.set_capacity(1) == Status::too_deep));
         depth--;
     };
     MUST(map.open({40, 1}, put_back) == Status::ok);
@@ -157,6 +193,8 @@ int main() {
     few_wait_after_a_look();
     what_a_thread_leaves_is_freed();
     held_evictions();
+    held_capacity();
+    held_put();
     closed_maps_leave_nothing();
     listeners_that_put();
     listeners_that_erase();

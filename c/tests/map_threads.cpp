@@ -49,6 +49,21 @@ static void passes() {
     MUST(at_once == 0 && own == 0 && two.call(is_own));
 }
 
+// More threads than can get a handle after the opening have a pass each at the same time.
+static void passes_of_many_threads() {
+    constexpr uint32_t count = 70;
+    Numbers numbers;
+    MUST(numbers.open({100, 1, 1 + count}) == Status::ok);
+    std::atomic<uint32_t> left{count};
+    in_threads(count, [&](uint64_t thread) {
+        MUST(!numbers.find(thread));
+        for (left--; left != 0;) {
+            std::this_thread::yield();
+        }
+    });
+    MUST(numbers.shared_calls() == 0 && numbers.meter().counts().misses == count);
+}
+
 // A thread has a pass of each of its maps, though they are more than it has places for those that it used lately. Claims to maps that have ended
 // make room.
 static void passes_of_many_maps() {
@@ -344,6 +359,7 @@ int main(int argc, char **argv) {
     passes();
     passes_in_any_order();
     passes_at_the_end();
+    passes_of_many_threads();
     passes_of_many_maps();
     shared_calls();
     values(8);

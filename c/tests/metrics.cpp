@@ -87,6 +87,18 @@ template <class Map> static void loads() {
     const auto computed = map.find_or_compute(3, beside);
     MUST(computed.status == Status::stale && computed.value == 5);
     MUST(are_loads(map.counts(), 5, 2) && map.find(3) == 4u);
+    // Nor has one failed that ran while an exception went through its caller.
+    struct Last {
+        explicit Last(Map &its_map) : map(its_map) {}
+        ~Last() { MUST(map.find_or_compute(5, [] { return 6; }).computed); }
+        Map &map;
+    };
+    try {
+        const Last last(map);
+        throw std::runtime_error("not of a load");
+    } catch (const std::runtime_error &) {
+        MUST(are_loads(map.counts(), 6, 2));
+    }
 }
 
 static void loads_of_pins() {

@@ -234,6 +234,16 @@ static void agrees_with_a_model(long less) {
     MUST(living - before == long(model.size()) && map.close() == Status::ok && living == before);
 }
 
+// A map that is moved over an open one closes that, so its objects are destroyed.
+static void moved_over() {
+    object_map<int, std::shared_ptr<int>> map, other;
+    const auto value = std::make_shared<int>(7);
+    MUST(map.open({10}) == Status::ok && map.insert(1, std::shared_ptr<int>(value)).status == Status::ok);
+    MUST(other.open({10}) == Status::ok && other.insert(2, std::shared_ptr<int>(value)).status == Status::ok && value.use_count() == 3);
+    map = std::move(other);
+    MUST(value.use_count() == 2 && !other.is_open() && map.contains(2) && !map.contains(1));
+}
+
 // A listener and a destructor may call the map.
 static void calls_within_calls() {
     struct Chain {
@@ -271,6 +281,7 @@ int main(int argc, char **argv) {
     stays_while_it_is_used();
     stays_without_a_pass();
     agrees_with_a_model(less);
+    moved_over();
     calls_within_calls();
     MUST(living == 0);
     return outcome("object_map");

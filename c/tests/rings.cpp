@@ -1,10 +1,22 @@
 // Functions that ask for each other's keys, in rings of threads and of maps: one call of a ring computes for itself alone, and the others wait. A call
 // that waits for no ring gets the one value that was computed.
+#include "cefrodil.h"
+#include <functional>
+
+// What a thread does before each lookup of a key.
+static thread_local std::function<void()> before_lookup;
+static cefrodil_status noted_get_or_turn(cefrodil_handle *handle, uint64_t key, uint64_t *value, size_t words, cefrodil_reply *reply) {
+    if (before_lookup) {
+        before_lookup();
+    }
+    return cefrodil_get_or_turn_of_width(handle, key, value, words, reply);
+}
+#define cefrodil_get_or_turn_of_width noted_get_or_turn
 #include "cefrodil_object_map.hpp"
 #include "must.h"
 #include <algorithm>
 #include <atomic>
-#include <functional>
+#include <sys/wait.h>
 #include <thread>
 #include <unistd.h>
 #include <vector>
@@ -165,6 +177,30 @@ static void a_throw(const Ask &ask) {
     clear();
 }
 
+// In a forked child nobody waits, whoever waited in its parent.
+static void a_child() {
+    std::atomic<bool> has_begun{false};
+    run({[&] {
+             const auto function = [&] {
+                 has_begun = true;
+                 until([] { return waits() == 1; });
+                 const pid_t child = fork();
+                 if (child == 0) {
+                     _exit(waits());
+                 }
+                 int status = 1;
+                 MUST(waitpid(child, &status, 0) == child && status == 0);
+                 return uint64_t(7);
+             };
+             MUST(of_numbers(1, function).value == 7);
+         },
+         [&] {
+             until([&] { return bool(has_begun); });
+             MUST(!of_numbers(1, [] { return uint64_t(8); }).computed);
+         }});
+    clear();
+}
+
 // A call of a map that was opened so waits for nobody, or until the other call has its value. If there is none, it computes.
 static void most_wait(std::chrono::nanoseconds most, bool waits_on, bool throws) {
     cefrodil::MapOptions options{100};
@@ -197,6 +233,41 @@ static void most_wait(std::chrono::nanoseconds most, bool waits_on, bool throws)
     asks(all);
 }
 
+// Each computation fails once the call waits for it, and the next one has begun before the call looks again. So no wait is long, but all together are.
+template <class Map> static void many_waits() {
+    cefrodil::MapOptions options{100};
+    options.most_wait = std::chrono::milliseconds(100);
+    Map map;
+    MUST(map.open(options) == Status::ok);
+    std::atomic<uint64_t> begun{0};
+    std::thread computing;
+    // What was begun before fails now at the latest.
+    const auto begin = [&](bool another) {
+        const uint64_t number = ++begun;
+        computing.joinable() ? computing.join() : void();
+        if (!another) {
+            return;
+        }
+        std::atomic<bool> has_begun{false};
+        computing = std::thread([&, number] {
+            try {
+                static_cast<void>(map.find_or_compute(1, [&]() -> uint64_t {
+                    has_begun = true;
+                    until([&] { return waits() == 1 || begun != number; });
+                    throw 1;
+                }));
+            } catch (int) {
+            }
+        });
+        until([&] { return bool(has_begun); });
+    };
+    before_lookup = [&] { begin(begun < 20000); };
+    const auto answer = map.find_or_compute(1, [] { return uint64_t(10); });
+    before_lookup = nullptr;
+    begin(false);
+    MUST(answer.status == Status::stale && answer.value == 10 && !map.find(1));
+}
+
 int main() {
     // Threads that wait for each other wait for ever.
     alarm(240);
@@ -216,10 +287,13 @@ int main() {
     asked_after_its_end(of_pins, of_numbers);
     a_throw(of_numbers);
     a_throw(of_objects);
+    a_child();
     for (const bool throws : {false, true}) {
         most_wait(std::chrono::nanoseconds(0), false, throws);
         most_wait(std::chrono::hours(1), true, throws);
         most_wait(cefrodil::forever, true, throws);
     }
+    many_waits<cefrodil::map<uint64_t, uint64_t>>();
+    many_waits<cefrodil::object_map<uint64_t, uint64_t>>();
     return outcome("rings");
 }

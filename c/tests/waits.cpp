@@ -191,6 +191,28 @@ static void stalls() {
     disturbed = 0;
 }
 
+// Calls that are rare note the sums of lookups. So what was found more than a minute ago does not count.
+template <class Call> static void noted_by(Call call) {
+    cefrodil::map<int, int> map;
+    MUST(map.open({100}) == Status::ok && map.insert(1, 10).status == Status::ok && map.find(1) == 10 && map.find(1) == 10);
+    ahead += 5;
+    call(map);
+    ahead += 60;
+    MUST(!map.find(3) && map.hit_rate_of_last_minute() == 0);
+}
+
+static void last_minute() {
+    using Numbers = cefrodil::map<int, int>;
+    noted_by([](Numbers &map) { MUST(map.find_or_compute(2, [] { return 20; }).computed); });
+    noted_by([](Numbers &map) { MUST(map.invalidate_all() == Status::ok); });
+    noted_by([](Numbers &map) { MUST(map.clear() == Status::ok); });
+    // In the first minute all lookups count.
+    Numbers map;
+    MUST(map.open({100}) == Status::ok && map.insert(1, 10).status == Status::ok && map.find(1) == 10);
+    ahead += 5;
+    MUST(map.hit_rate_of_last_minute() == 1 && !map.find(3) && map.hit_rate_of_last_minute() == 0.5);
+}
+
 // A call that tries too few times to sleep says little of the others.
 static void short_calls() {
     cefrodil::map<int, int> map;
@@ -205,6 +227,7 @@ static void short_calls() {
 int main() {
     waits();
     stalls();
+    last_minute();
     short_calls();
     calls({100}, 10000, 193, 9800);
     calls({100, 1, 64, 50}, 50, 43, 0);

@@ -32,7 +32,7 @@ pub(crate) struct Core<H, V> {
     pub bound: Bound,
     /// If entries may end by their time.
     pub cursors: Option<Cursors>,
-    minute: Minute,
+    pub minute: Minute,
     /// How often a call tries.
     pub tries: u32,
 }

@@ -16,6 +16,9 @@ const NOTES: usize = 14;
 /// Sums that were noted since a minute ago, and the last ones before that.
 pub(crate) struct Minute {
     start: Instant,
+    // How far a test has turned the clock.
+    #[cfg(test)]
+    turned: AtomicU64,
     notes: Mutex<VecDeque<Note>>,
     // When the next one is due, in nanoseconds. Relaxed: a guess that saves the sums.
     next: AtomicU64,
@@ -32,16 +35,22 @@ impl Minute {
     pub fn new() -> Minute {
         let mut notes = VecDeque::with_capacity(NOTES);
         notes.push_back(Note { at: Duration::ZERO, hits: 0, misses: 0 });
-        Minute { start: Instant::now(), notes: Mutex::new(notes), next: AtomicU64::new(STEP.as_nanos() as u64) }
+        Minute {
+            start: Instant::now(),
+            #[cfg(test)]
+            turned: AtomicU64::new(0),
+            notes: Mutex::new(notes),
+            next: AtomicU64::new(STEP.as_nanos() as u64),
+        }
     }
 
     pub fn is_due(&self) -> bool {
-        self.start.elapsed().as_nanos() as u64 >= self.next.load(Relaxed)
+        self.elapsed().as_nanos() as u64 >= self.next.load(Relaxed)
     }
 
     /// Notes these sums if they are due. Returns what came to them since the ones that were noted last before a minute ago.
     pub fn note(&self, hits: u64, misses: u64) -> (u64, u64) {
-        self.note_at(self.start.elapsed(), hits, misses)
+        self.note_at(self.elapsed(), hits, misses)
     }
 
     fn note_at(&self, now: Duration, hits: u64, misses: u64) -> (u64, u64) {
@@ -56,11 +65,24 @@ impl Minute {
         }
         since
     }
+
+    fn elapsed(&self) -> Duration {
+        let elapsed = self.start.elapsed();
+        #[cfg(test)]
+        let elapsed = elapsed + Duration::from_nanos(self.turned.load(Relaxed));
+        elapsed
+    }
+
+    #[cfg(test)]
+    fn turn(&self, by: Duration) {
+        self.turned.fetch_add(by.as_nanos() as u64, Relaxed);
+    }
 }
 
 #[cfg(test)]
 mod tests {
     use super::*;
+    use crate::Map;
 
     #[test]
     fn sums_are_those_since_about_a_minute_ago() {
@@ -73,6 +95,22 @@ mod tests {
         // After a long time without a note, the last one before counts.
         assert_eq!((at(1_000, 400, 10), at(1_001, 401, 10)), ((90, 5), (91, 5)));
         assert_eq!(at(1_060, 500, 20), (100, 10));
+    }
+
+    // So what was found more than a minute ago does not count.
+    #[test]
+    fn loads_lists_and_invalidations_note_the_sums() {
+        let calls: [fn(&Map<u64, u64>); 3] =
+            [|map| map.invalidate_all(), |map| _ = map.get_or_insert_with(&2, || 2), |map| _ = map.remove_expired()];
+        for notes in calls {
+            let map = Map::<u64, u64>::new(100).unwrap();
+            map.insert(&1, 1).unwrap();
+            assert_eq!([1, 1, 1].map(|key| map.get(&key)), [Some(1); 3]);
+            map.inner.core.minute.turn(STEP);
+            notes(&map);
+            map.inner.core.minute.turn(MINUTE);
+            assert_eq!((map.get(&3), map.hit_rate_of_last_minute()), (None, 0.0));
+        }
     }
 
     #[test]

@@ -44,6 +44,23 @@ fn a_thread_without_a_pass_takes_one_when_it_is_free() {
     assert_eq!((map.get(&1), map.stats().shared), (Some(1), shared));
 }
 
+// More than can be opened when threads come.
+#[test]
+fn each_of_many_threads_has_a_pass() {
+    const THREADS: u64 = 70;
+    let map = Map::<u64, u64>::builder(100).threads(THREADS as usize).open().unwrap();
+    let all_have_one = Barrier::new(THREADS as usize);
+    thread::scope(|threads| {
+        for _ in 0..THREADS {
+            threads.spawn(|| {
+                assert_eq!(map.get(&1), None);
+                all_have_one.wait();
+            });
+        }
+    });
+    assert_eq!((map.stats().misses, map.stats().shared), (THREADS, 0));
+}
+
 // There are more maps than a thread has places for those that it used lately.
 #[test]
 fn a_thread_has_a_pass_of_each_of_many_maps() {

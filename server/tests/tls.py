@@ -164,6 +164,12 @@ def silent(folder, port):
         assert all(is_served(context_of(folder), port) for _ in range(20))
 
 
+def authorities(folder, port):
+    """Whose certificates of clients the server takes, as it says. A client that has several chooses by that."""
+    said = openssl(folder, 's_client', '-connect', f'127.0.0.1:{port}', '-CAfile', 'first.pem', input=b'').stdout
+    return said.partition(b'Acceptable client certificate CA names\n')[2].partition(b'\n')[0].replace(b' ', b'')
+
+
 def certificates_of_clients(program, folder):
     for mode, without in [(0, False), (1, False), (2, True), (3, True)]:
         with running(program, *options(folder, f'ssl_verify_mode={mode}', f'ssl_ca_cert={folder}/first.pem'), stderr=subprocess.DEVNULL) as (_, port):
@@ -173,6 +179,7 @@ def certificates_of_clients(program, folder):
             context = context_of(folder, 'client')
             context.maximum_version = ssl.TLSVersion.TLSv1_2
             resumed(context, port)
+            assert mode != 1 or authorities(folder, port) == b'CN=first'
 
 
 def ends_of_the_server(program, folder):

@@ -34,6 +34,15 @@ fn computed_and_updated_values_take_them_out_too() {
     assert_eq!((map.stats().ended, map.stats().evicted), (ENTRIES, 0));
 }
 
+#[test]
+fn those_that_were_not_used_for_too_long_leave_too() {
+    let map = Numbers::builder(ENTRIES as usize).time_to_idle(HOUR).open().unwrap();
+    (0..ENTRIES).for_each(|key| assert!(map.insert(&key, 1).is_ok()));
+    map.inner.core.clock.turn(HOUR);
+    (100..100 + ENTRIES).for_each(|key| assert_eq!(map.insert(&key, 2), Ok(Inserted::New)));
+    assert_eq!((map.stats().ended, map.stats().evicted, map.len()), (ENTRIES, 0, ENTRIES as usize));
+}
+
 // So it is overwritten in place, and an update that tries once finds nobody before it.
 #[test]
 fn a_put_leaves_what_its_own_key_has() {

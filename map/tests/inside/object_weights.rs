@@ -3,7 +3,7 @@ use super::turns::Turn;
 use super::{done, one_shard};
 use crate::slots::BEFORE_CALL;
 use crate::stats::Kind;
-use crate::{Block, BytesMap, GetError, Head, InsertError, Inserted, ObjectBuilder, ObjectMap, RemoveError};
+use crate::{Block, BytesMap, CapacityError, GetError, Head, InsertError, Inserted, ObjectBuilder, ObjectMap, RemoveError};
 use cefrodil::{Handle, Shape};
 use std::hash::{BuildHasher, BuildHasherDefault, Hasher};
 use std::sync::{Arc, Mutex, OnceLock};
@@ -142,6 +142,17 @@ fn a_bound_that_shrinks_without_a_turn_says_so() {
     drop(turn);
     assert_eq!((map.weight(), map.stats().refused), (10, 1));
     assert_eq!((map.insert(10, 1).unwrap(), map.weight()), (Inserted::Evicted, 5));
+}
+
+#[test]
+fn a_capacity_that_shrinks_without_a_turn_says_so() {
+    let map = Numbers::builder(100).shards(1).open_shaped(&one_shard(100), 1, TRIES).unwrap();
+    (0..10).for_each(|key| done(map.insert(key, 1).unwrap()));
+    let turn = Turn::begin(&map.inner.core.slots, Handle::try_entries);
+    assert_eq!(map.set_capacity(5), Err(CapacityError::Evict(RemoveError::Held)));
+    drop(turn);
+    assert_eq!((map.len(), map.capacity(), map.stats().refused), (10, 5, 1));
+    assert_eq!((map.insert(10, 1).unwrap(), map.len()), (Inserted::Evicted, 5));
 }
 
 /// A head of blocks that have nothing else.

@@ -33,6 +33,22 @@ fn the_listener_hears_of_what_gives_way_and_it_is_freed() {
     }
 }
 
+// A shard is those keys whose hashes have the same four bits behind the first 48.
+#[test]
+fn each_shard_loses_its_part() {
+    let (map, _, ledger) = open(1_000, 16);
+    (0..1_000).for_each(|key| assert_eq!(map.insert(key, ledger.make(key)).unwrap(), Inserted::New));
+    let shards_of = |keys: Vec<u64>| {
+        let mut shards = [0_usize; 16];
+        keys.iter().for_each(|key| shards[(map.hash_of(key) >> 48) as usize % 16] += 1);
+        shards
+    };
+    let before = shards_of((0..1_000).collect());
+    map.set_capacity(500).unwrap();
+    let left = shards_of((0..1_000).filter(|key| map.contains_key(key)).collect());
+    assert!(before.iter().zip(left).all(|(before, left)| before.abs_diff(2 * left) <= 2), "of {before:?} {left:?}");
+}
+
 #[test]
 fn computed_values_and_updates_keep_to_it() {
     let (map, _, ledger) = open(100, 1);

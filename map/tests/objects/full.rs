@@ -3,8 +3,9 @@ use crate::ledger::done;
 use cefrodil_map::{Inserted, ObjectBuilder, ObjectMap, Reason};
 use std::hash::{BuildHasherDefault, DefaultHasher};
 use std::ops::Range;
-use std::sync::atomic::{AtomicUsize, Ordering::SeqCst};
+use std::sync::atomic::{AtomicBool, AtomicUsize, Ordering::SeqCst};
 use std::sync::Arc;
+use std::thread;
 use std::time::Duration;
 
 // Which keys share a shard and a bucket depends on the hash. With one for all runs they are always the same.
@@ -98,6 +99,25 @@ fn what_had_expired_and_is_removed_makes_room() {
     assert_eq!(map.remove_expired(), Ok(80));
     (1_000..1_060).for_each(|key| assert!(map.insert(key, 1).is_ok()));
     assert!((1_000..1_060).all(|key| map.contains_key(&key)));
+}
+
+// So an eviction may find that all were used since it began to look. Then it looks again.
+#[test]
+fn objects_give_way_though_lookups_use_them_all_the_time() {
+    let (map, is_over) = (ObjectMap::builder(2).max_weight(1, |_: &u64, _: &u64| 1).open().unwrap(), AtomicBool::new(false));
+    let refused = thread::scope(|threads| {
+        for _ in 0..2 {
+            threads.spawn(|| {
+                while !is_over.load(SeqCst) {
+                    let _ = (map.contains_key(&0), map.contains_key(&1));
+                }
+            });
+        }
+        let refused = (0..20_000).filter(|number| map.insert(number % 2, *number).is_err()).count();
+        is_over.store(true, SeqCst);
+        refused
+    });
+    assert_eq!((refused, map.weight()), (0, 1));
 }
 
 #[test]
