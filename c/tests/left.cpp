@@ -4,9 +4,11 @@
 
 // So many evictions from now on are held.
 static uint32_t held = 0;
+// And all of them in this one of two shards.
+static uint64_t held_shard = 2;
 static cefrodil_status some_evict(cefrodil_handle *handle, uint64_t near, uint64_t *old, size_t words, cefrodil_reply *reply) {
-    if (held != 0) {
-        held--;
+    if (held != 0 || (near >> 48 & 1) == held_shard) {
+        held -= held != 0 ? 1 : 0;
         *reply = cefrodil_reply{};
         return CEFRODIL_HELD;
     }
@@ -108,15 +110,34 @@ static void held_evictions() {
     }
     held = 5;
     MUST(map.insert(10, uint64_t(20)).evicted && held == 0 && map.contains(10) && map.weight() == 100);
-    // It tries before the put and after it.
-    held = 12;
+    // It tries before the put and after it: each time the shard twice, as the fullest one and as one of all.
+    held = 24;
     const cefrodil::Stored stored = map.insert(11, uint64_t(30));
     MUST(stored.status == Status::ok && !stored.evicted && held == 0 && map.contains(11) && map.weight() == 130);
     MUST(map.insert_or_assign(11, uint64_t(30)).status == Status::ok && map.weight() == 100 && map.contains(11));
     // A bound that shrinks says that too much is left.
-    held = 6;
+    held = 12;
     MUST(map.set_most_weight(50) == Status::held && held == 0 && map.weight() == 100);
     MUST(map.set_most_weight(50) == Status::ok && map.weight() <= 50);
+}
+
+// Other threads hold the turn of one shard. The other one evicts.
+static void held_shards() {
+    Map map;
+    Map::Rules rules;
+    rules.weigher = [](uint64_t, uint64_t value) { return value; };
+    rules.most_weight = 20;
+    MUST(map.open({100, 2, 4, 5}, rules) == Status::ok);
+    for (uint64_t key = 0; key < 200; key++) {
+        held_shard = key < 40 || key % 20 >= 5 ? 2 : key / 20 % 2;
+        MUST(map.insert(key, uint64_t(1)).evicted == (key >= 20) && map.contains(key) && map.weight() == std::min<uint64_t>(key + 1, 20));
+    }
+    MUST(map.set_capacity(15) == Status::ok);
+    for (uint64_t key = 200; key < 400; key++) {
+        held_shard = key % 20 >= 5 ? 2 : key / 20 % 2;
+        MUST(map.insert(key, uint64_t(1)).evicted && map.contains(key) && map.size() == 15);
+    }
+    held_shard = 2;
 }
 
 // So it is with a bound on the number of objects: the next put evicts all that is too much.
@@ -194,6 +215,7 @@ int main() {
     what_a_thread_leaves_is_freed();
     held_evictions();
     held_capacity();
+    held_shards();
     held_put();
     closed_maps_leave_nothing();
     listeners_that_put();
