@@ -32,7 +32,9 @@ pub(crate) fn free_all(map: usize, mut words: Vec<u64>, mut free: impl FnMut(u64
         }
     });
     while !words.is_empty() {
-        mem::take(&mut words).into_iter().for_each(&mut free);
+        for word in mem::take(&mut words) {
+            free(word);
+        }
         words = with_calls(|calls| calls.last_mut().map(|(_, left)| mem::take(left))).flatten().unwrap_or_default();
     }
     if begins == Some(true) {

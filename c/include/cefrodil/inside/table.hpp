@@ -252,7 +252,7 @@ class Table : public Entries<Packing<V, Times::moments>::words>, private Packing
     }
     // The answer of a put before which others were evicted or not.
     [[gnu::always_inline]] Stored told(Stored put, bool has_evicted) noexcept {
-        if (put.status == Status::ok && !put.renewed && !put.evicted) {
+        if (!put.renewed && !put.evicted && put.status == Status::ok) {
             this->note_new();
         }
         put.evicted = put.evicted || has_evicted;

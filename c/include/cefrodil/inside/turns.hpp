@@ -153,8 +153,8 @@ template <size_t Words, class Beside = NothingBeside> class Turns : public Passe
     }
     // After a put of a new key for which none gave way.
     void note_new() noexcept {
-        if (capacity() != room_ && !is_full() && this->keys() >= capacity()) {
-            is_full_.store(true, std::memory_order_relaxed);
+        if (capacity() != room_ && !is_full()) {
+            note_full();
         }
     }
     // Whether the index has the key. It tries once: if other threads keep it from that, the key counts as a new one.
@@ -164,6 +164,11 @@ template <size_t Words, class Beside = NothingBeside> class Turns : public Passe
     }
 
   private:
+    [[gnu::cold]] [[gnu::noinline]] void note_full() noexcept {
+        if (this->keys() >= capacity()) {
+            is_full_.store(true, std::memory_order_relaxed);
+        }
+    }
     void set_bound(uint64_t most) noexcept {
         bound_.store(most, std::memory_order_relaxed);
         is_full_.store(most != room_, std::memory_order_relaxed);
