@@ -45,9 +45,10 @@ impl Store {
         }
     }
 
-    /// Removes the item with this hash if it is not live. The lock keeps a new time to live from coming between.
+    /// Removes the item with this hash if it is not live. The lock keeps a new time to live from coming between. If another thread has it, the item
+    /// stays until the next round.
     fn remove_dead(&self, hash: u64) {
-        let _lock = self.lock_hash(hash);
+        let Some(_lock) = self.key_locks.lock(hash, 1) else { return };
         let mut dead = None;
         self.index.peek(hash, &mut |item, token| dead = (!self.books.is_live(item)).then_some(token));
         if let Some(token) = dead {
