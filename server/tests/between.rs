@@ -226,7 +226,9 @@ fn touch_beside(command: &'static str) -> (String, String) {
 
 #[test]
 fn what_has_expired_stays_if_it_gets_a_new_time_to_live_just_then() {
-    for (command, answer) in [("delete n\n", "DELETED\n"), ("md n\n", "HD\n"), ("add n 0 0 1\n6\n", "NOT_STORED\n"), ("ms n 1 ME\n6\n", "NS\n")] {
+    for (command, answer) in
+        [("delete n\n", "DELETED\n"), ("md n\n", "HD\n"), ("add n 0 0 1\n6\n", "NOT_STORED\n"), ("ms n 1 ME\n6\n", "NS\n")]
+    {
         assert_eq!(touch_beside(command), ("TOUCHED\n".to_owned(), answer.to_owned()), "{command}");
     }
 }
