@@ -179,7 +179,7 @@ impl Store {
             let token = match found {
                 Found::Absent => return Ok(Found::Absent),
                 Found::Live((), token) if !is_meant(token) => return Ok(Found::Live(false, token)),
-                // As above.
+                // Another thread may be giving it a new time to live.
                 Found::Dead(_) if lock.is_none() => {
                     lock = Some(self.lock(key)?);
                     continue;
@@ -231,13 +231,14 @@ impl Store {
         change: impl Fn(&Item, u64) -> Option<(Option<NewItem>, T)>,
     ) -> Result<Changed<T>, Fault> {
         let (_lock, mut was_refused) = (self.lock(key)?, false);
+        let is_meant = |token| compare.is_none_or(|compare| compare == token);
         for _ in 0..TRIES {
-            let found = self.find(key, |Hit { item, now, .. }| (change(item, now), item.value().len()))?;
+            let found = self.find(key, |hit| (is_meant(hit.token).then(|| change(hit.item, hit.now)), hit.item.value().len()))?;
             let (next, told, token, old) = match found {
                 Found::Absent | Found::Dead(..) => return Ok(Changed::NotFound),
-                Found::Live(_, token) if compare.is_some_and(|compare| compare != token) => return Ok(Changed::Exists),
-                Found::Live((None, _), _) => return Ok(Changed::NotNumeric),
-                Found::Live((Some((next, told)), old), token) => (next, told, token, old),
+                Found::Live((None, _), _) => return Ok(Changed::Exists),
+                Found::Live((Some(None), _), _) => return Ok(Changed::NotNumeric),
+                Found::Live((Some(Some((next, told))), old), token) => (next, told, token, old),
             };
             let Some(next) = next else {
                 self.make_way(old, &mut was_refused)?;

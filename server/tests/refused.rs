@@ -326,6 +326,7 @@ fn what_is_not_put_takes_no_memory() {
         let order = Order { compare, ..order(how, b"key", 2_000) };
         assert_eq!(store_refused(&store, &order, usize::MAX), (answer, false), "{how:?}");
     }
+    assert_eq!(refusing(0, usize::MAX, || store.invalidate(b"key", Some(9), None)), (Ok(Answer::Exists), false));
 }
 
 /// The reserve has a megabyte.
