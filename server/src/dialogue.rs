@@ -2,13 +2,13 @@
 use crate::command::{line, run, value};
 use crate::counts::Count;
 use crate::listing::Listing;
+use crate::log::write_line;
 use crate::meta::Verb;
 use crate::number;
 use crate::output::Output;
 use crate::request::{parse, refusal, words, Keys, Order, Refusal, Request, ERROR, FORMAT, LONGEST_KEY};
 use crate::store::{Fault, Hit, Store};
 use memchr::memchr;
-use std::io::{self, Write};
 use std::mem;
 use std::os::fd::RawFd;
 
@@ -43,6 +43,8 @@ pub struct Dialogue {
     refuses_block: bool,
     /// The client's open file, which names it in what `-vv` shows.
     file: RawFd,
+    /// Whether the line was shown. It is read again when its block has come.
+    is_shown: bool,
 }
 
 #[derive(Default)]
@@ -128,7 +130,7 @@ impl Dialogue {
         let Some(end) = end else { return self.part_of_line(input, out) };
         let (text, rest) = (input[..end].strip_suffix(b"\r").unwrap_or(&input[..end]), &input[end + 1..]);
         let end = end + 1;
-        if store.options.verbosity > 1 {
+        if store.options.verbosity > 1 && !mem::take(&mut self.is_shown) {
             show(self.file, text);
         }
         let mut decoded = Vec::new();
@@ -141,7 +143,11 @@ impl Dialogue {
             }
             Ok(Request::Keys(..)) => line(out, FORMAT.text),
             Ok(request) => match order_of(&request) {
-                Some(order) => return self.block(store, &request, is_quiet, &order, rest, out).behind(end),
+                Some(order) => {
+                    let step = self.block(store, &request, is_quiet, &order, rest, out).behind(end);
+                    self.is_shown = matches!(step, Step(_, Some(Turn::Needs(_))));
+                    return step;
+                }
                 None => match Listing::of(&request) {
                     Some(listing) => self.state = State::List(listing),
                     None => run(store, &request, b"", is_quiet, out),
@@ -161,6 +167,9 @@ impl Dialogue {
         let length =
             words(&input[..end - 1]).nth(4).map(|word| word.strip_suffix(b"\r").unwrap_or(word)).and_then(number::length);
         let Some(length) = length.filter(|length| input.starts_with(b"set ") && *length < LONGEST_LINE) else {
+            if is_http(&input[..end - 1]) {
+                return Step(end, Some(Turn::Ends));
+            }
             line(out, "CLIENT_ERROR unauthenticated");
             return Step(end, None);
         };
@@ -193,9 +202,15 @@ impl Dialogue {
         if input.len() < LONGEST_LINE {
             return Step(0, Some(Turn::Needs(input.len() + 1)));
         }
-        // The last word may be a part of one.
+        let input = &input[..LONGEST_LINE];
+        let keys = |line| match parse(line, &mut Vec::new()) {
+            (Ok(Request::Keys(keys, start)), _) => Some((keys, start)),
+            _ => None,
+        };
+        // The last word may be a part of one: of a key, or of a time.
         let whole = input.iter().rposition(|byte| *byte == b' ').unwrap_or(0);
-        if let (Ok(Request::Keys(keys, start)), _) = parse(&input[..whole], &mut Vec::new()) {
+        let found = keys(input).filter(|(keys, _)| keys.expiry.is_none()).or_else(|| keys(&input[..whole]));
+        if let Some((keys, start)) = found {
             self.state = State::Keys(keys);
             return Step(start, None);
         }
@@ -314,7 +329,7 @@ fn is_http(line: &[u8]) -> bool {
 /// Shows the operator what a client sends, as memcached does.
 #[cold]
 fn show(file: RawFd, line: &[u8]) {
-    let _ = writeln!(io::stderr(), "<{file} {}", line.escape_ascii());
+    write_line(format_args!("<{file} {}", line.escape_ascii()));
 }
 
 /// What is to be stored, if a block follows the line.

@@ -7,6 +7,7 @@ use crate::slabs::{address_of, look_around};
 use crate::store::{Fault, Store};
 use cefrodil_map::Reason;
 use std::cell::Cell;
+use std::mem;
 use std::sync::atomic::Ordering::Relaxed;
 use std::thread::{sleep, yield_now};
 use std::time::Duration;
@@ -83,9 +84,22 @@ impl Store {
         allocator::trim();
         let result = again();
         if result.is_none() {
-            self.helpless.store(self.books.clock.uptime(), Relaxed);
+            self.note_helpless();
         }
         result
+    }
+
+    /// The same for a command that then begins anew. It fails the second time.
+    pub(crate) fn make_way(&self, bytes: usize, was_refused: &mut bool) -> Result<(), Fault> {
+        if mem::replace(was_refused, true) {
+            self.note_helpless();
+            return Err(Fault::NoRoom);
+        }
+        self.with_more_memory(bytes, || Some(())).ok_or(Fault::NoRoom)
+    }
+
+    fn note_helpless(&self) {
+        self.helpless.store(self.books.clock.uptime(), Relaxed);
     }
 
     /// Evicts items by this call, which returns whether it has, until the others are within the limit. Returns whether they are.

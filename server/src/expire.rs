@@ -1,4 +1,5 @@
 //! Items that have expired, or that a flush has hit, go after a while though nobody asks for them.
+use crate::index::Refused;
 use crate::store::Store;
 use crate::walk;
 use cefrodil_map::Reason;
@@ -34,7 +35,7 @@ impl Store {
                     dead.push(self.index.hash_of(item.key()));
                 }
             });
-            dead.drain(..).for_each(|hash| self.remove_dead(hash));
+            let goes_on = dead.drain(..).all(|hash| self.remove_dead(hash));
             match next {
                 Some(position) => round.position = position,
                 None => {
@@ -42,17 +43,19 @@ impl Store {
                     return;
                 }
             }
+            if !goes_on {
+                return;
+            }
         }
     }
 
-    /// Removes the item with this hash if it is not live. The lock keeps a new time to live from coming between.
-    fn remove_dead(&self, hash: u64) {
-        let _lock = self.lock_hash(hash);
+    /// Removes the item with this hash if it is not live. The lock keeps a new time to live from coming between. If another thread has it, the item
+    /// stays until the next round. Returns whether others did not keep this one waiting: if they did, it has taken a second.
+    fn remove_dead(&self, hash: u64) -> bool {
+        let Some(_lock) = self.key_locks.lock(hash, 1) else { return true };
         let mut dead = None;
         self.index.peek(hash, &mut |item, token| dead = (!self.books.is_live(item)).then_some(token));
-        if let Some(token) = dead {
-            let _ = self.index.remove(hash, token, Reason::Expired);
-        }
+        dead.is_none_or(|token| self.index.remove(hash, token, Reason::Expired) != Err(Refused::Held))
     }
 
     /// When the oldest item was made that this round over all items or the last one has found.

@@ -84,6 +84,10 @@ pub unsafe fn give_back(at: *mut u8, layout: Layout) {
         if place != places::NONE {
             places::give_back(place);
         }
+        // Nobody can begin to hold it now. Acquire: who held it has read it.
+        if (*before(at as usize)).holds.load(Acquire) == HAS_PLACE {
+            return dealloc(at.sub(BEFORE), with_before(layout));
+        }
         // First, since who holds it may free it right after that.
         LEFT.fetch_add(layout.size() as u64, Relaxed);
         leave(at, layout, HAS_PLACE);

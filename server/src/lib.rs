@@ -21,6 +21,7 @@ mod holders;
 pub mod index;
 mod input;
 pub mod item;
+pub mod key_locks;
 mod large;
 pub mod listen;
 mod listing;

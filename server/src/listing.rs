@@ -107,7 +107,7 @@ fn write_crawled(store: &Store, item: &Item, token: Token, out: &mut Output) {
     }
     let clock = &store.books.clock;
     let end = Some(clock.unix_end(item.deadline())).filter(|end| *end > 0).map_or(-1, |end| end as i64);
-    write_details(out, item, token, end, unix_time() - u64::from(item.idle(clock.now())));
+    write_details(out, item, token, end, unix_time().saturating_sub(item.idle(clock.now()).into()));
     out.push(b'\n');
 }
 

@@ -5,7 +5,7 @@ use cefrodild::books::Books;
 use cefrodild::daemon;
 use cefrodild::files;
 use cefrodild::listen::{Listener, Place};
-use cefrodild::log::log;
+use cefrodild::log::{has_room, log};
 use cefrodild::map_index::MapIndex;
 use cefrodild::memory::Spare;
 use cefrodild::options::{parse, Asked, Options, HELP};
@@ -94,7 +94,9 @@ fn serve(options: Options) -> Result<(), Box<dyn Error>> {
     let told: String = listeners.iter().map(|listener| format!("cefrodild: listening on {listener}\n")).collect();
     Server::run(store, listeners, || {
         // If nobody reads that, the server goes on.
-        drop(io::stdout().write_all(told.as_bytes()).and_then(|()| io::stdout().flush()));
+        if has_room(&io::stdout()) {
+            drop(io::stdout().write_all(told.as_bytes()).and_then(|()| io::stdout().flush()));
+        }
         starter.map_or(Ok(()), |starter| starter.tell_ready(verbosity > 0))
     })?;
     audit.map_or(Ok(()), |audit| audit.end()).map_err(Into::into)
@@ -115,12 +117,17 @@ fn prepare(options: &Options) -> Result<Vec<Listener>, Box<dyn Error>> {
     if options.dumps_core {
         files::allow_core()?;
     }
+    let change_user = || options.user.as_deref().map_or(Ok(()), become_user).map_err(|why| format!("-u: {why}"));
+    // A Unix socket is the user's own file. With one there is no port and no key that only root may have.
+    if options.listen.iter().any(|place| matches!(place, Place::File(..))) {
+        change_user()?;
+    }
     let listen = |place: &Place| place.listen().map_err(|why| named(place, &why));
     let listeners = options.listen.iter().map(listen).collect::<io::Result<Vec<_>>>()?;
     let listeners = listeners.into_iter().flatten().collect();
     #[cfg(feature = "tls")]
     let listeners = secured(listeners, options)?;
-    options.user.as_deref().map_or(Ok(()), become_user).map_err(|why| format!("-u: {why}"))?;
+    change_user()?;
     Ok(listeners)
 }
 

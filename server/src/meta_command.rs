@@ -78,21 +78,19 @@ fn get(store: &Store, meta: &Meta, out: &mut Output) {
         None => store.look(&[meta.order.key], each),
     };
     if may_win || !is_found && meta.vivified.is_some() {
-        win(store, meta, deadline, !is_found, out);
+        win(store, meta, deadline, !is_found, out).unwrap_or_else(|why| line(out, why.text()));
     } else if !is_found {
         miss(meta, out);
     }
 }
 
-/// Answers a client that may be told to fetch the value anew. Until it is answered, nobody else can replace the stale value.
-fn win(store: &Store, meta: &Meta, deadline: Option<u64>, is_made: bool, out: &mut Output) {
-    let (_lock, mut made) = (store.lock(meta.order.key), None);
+/// Answers a client that may be told to fetch the value anew. The lock keeps changes out that copy who was told so.
+fn win(store: &Store, meta: &Meta, deadline: Option<u64>, is_made: bool, out: &mut Output) -> Result<(), Fault> {
+    let (mut lock, mut made) = (Some(store.lock(meta.order.key)?), None);
     if let Some(expiry) = meta.vivified.filter(|_| is_made) {
         let order = Order { how: How::Add, compare: None, expiry, marks: meta.order.marks | WON, ..meta.order };
-        match store.store(&order, b"") {
-            Ok(Answer::Done(token)) => made = Some(token),
-            Ok(_) => {}
-            Err(why) => return line(out, why.text()),
+        if let Answer::Done(token) = store.store_under(&mut lock, &order, b"")? {
+            made = Some(token);
         }
     }
     let found = store.find(meta.order.key, |hit| {
@@ -103,6 +101,7 @@ fn win(store: &Store, meta: &Meta, deadline: Option<u64>, is_made: bool, out: &m
         // It has gone again.
         miss(meta, out);
     }
+    Ok(())
 }
 
 fn miss(meta: &Meta, out: &mut Vec<u8>) {

@@ -20,7 +20,8 @@ cefrodild: a cache server that speaks memcached's text protocol
 -r, --enable-coredumps   let core files be as large as the system allows
 -t, --threads=N          worker threads, 1 to 64 (4)
 -m, --memory-limit=N     megabytes for keys, values and index, at least 16 (64)
--n, --items=N            most items, up to 768000000 (about one for each 162 bytes of the memory limit)
+-n, --items=N            room for so many items at least, up to 768000000 (about one for each 162 bytes
+                         of the memory limit)
 -c, --conn-limit=N       most connections at a time (1024)
 -I, --max-item-size=N    longest value in bytes, or with k or m behind it, 1k to 128m (1m), and at most
                          half of the memory limit

@@ -44,7 +44,7 @@ fn general(store: &Store, out: &mut Vec<u8>) {
     for (name, sum) in store.books.counts.sums() {
         text!(out, "STAT {name} {sum}\r\n");
     }
-    text!(out, "STAT stalled_seconds {}\r\n", store.index.stalled().as_secs());
+    text!(out, "STAT stalled_seconds {}\r\n", store.stalled().as_secs());
     text!(out, "STAT bytes {}\r\nSTAT curr_items {}\r\n", store.books.budget.used(), store.index.len() as u64);
     text!(out, "STAT bytes_waiting {}\r\nSTAT bytes_limit {}\r\n", store.books.budget.waiting(), store.books.budget.limit());
     text!(out, "STAT limit_maxbytes {}\r\n", store.options.memory);

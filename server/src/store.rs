@@ -4,20 +4,18 @@ use crate::counts::Count;
 use crate::expire::Round;
 use crate::index::{Index, Refused, Seen, Token};
 use crate::item::Item;
+use crate::key_locks::{KeyLock, KeyLocks, LOOKS, TRIES};
 use crate::options::Options;
 use crate::seat::Seats;
 use crate::users::Users;
 use std::sync::atomic::AtomicU64;
-use std::sync::{Arc, Mutex, MutexGuard, PoisonError};
-
-/// How many locks there are for all keys.
-const LOCKS: usize = 64;
+use std::sync::{Arc, Mutex};
+use std::time::Duration;
 
 pub struct Store {
     pub index: Box<dyn Index>,
     pub books: Arc<Books>,
-    /// Keys share them. A change of a deadline and a change of a value that keeps it must not come between each other's two steps.
-    key_locks: [Mutex<()>; LOCKS],
+    pub(crate) key_locks: KeyLocks,
     pub(crate) round: Mutex<Round>,
     /// The second since the start in which the system refused memory though items had given way.
     pub(crate) helpless: AtomicU64,
@@ -80,7 +78,7 @@ pub(crate) enum Found<T> {
 
 impl Store {
     pub fn new(index: Box<dyn Index>, books: Arc<Books>, options: Options) -> Store {
-        let (key_locks, round, helpless) = ([const { Mutex::new(()) }; LOCKS], Mutex::default(), AtomicU64::new(u64::MAX));
+        let (key_locks, round, helpless) = (KeyLocks::new(), Mutex::default(), AtomicU64::new(u64::MAX));
         let seats = Seats::new(options.connections, Arc::clone(&books));
         Store { index, books, key_locks, round, helpless, seats, users: None, options }
     }
@@ -109,14 +107,18 @@ impl Store {
     /// Does the same, and gives what is found this deadline.
     pub fn look_and_touch(&self, keys: &[&[u8]], deadline: u64, mut each: impl FnMut(usize, Hit) -> bool) -> usize {
         for (position, key) in keys.iter().enumerate() {
-            let _lock = self.lock(key);
             let (mut is_hit, mut goes_on) = (false, true);
-            self.look(&[key], |_, hit| {
-                is_hit = true;
-                hit.item.touch(deadline);
-                goes_on = each(position, hit);
-                goes_on
-            });
+            if let Some(_lock) = self.lock_within(LOOKS, key) {
+                self.look(&[key], |_, hit| {
+                    is_hit = true;
+                    hit.item.touch(deadline);
+                    goes_on = each(position, hit);
+                    goes_on
+                });
+            } else {
+                self.books.counts.add(Count::Gets);
+                self.count_miss(Err(Refused::Held), 0);
+            }
             self.books.counts.add(Count::Touches);
             self.books.counts.add_if(is_hit, Count::TouchHits, Count::TouchMisses);
             if !goes_on {
@@ -160,18 +162,26 @@ impl Store {
     }
 
     /// Locks the key against other changes of its deadline, and those that keep it.
-    pub(crate) fn lock(&self, key: &[u8]) -> MutexGuard<'_, ()> {
-        self.lock_hash(self.index.hash_of(key))
+    pub(crate) fn lock(&self, key: &[u8]) -> Result<KeyLock<'_>, Fault> {
+        self.lock_within(TRIES, key).ok_or_else(|| self.disturbed(Refused::Held))
     }
 
-    /// Locks the keys with this hash so.
-    pub(crate) fn lock_hash(&self, hash: u64) -> MutexGuard<'_, ()> {
-        self.key_locks[hash as usize % LOCKS].lock().unwrap_or_else(PoisonError::into_inner)
+    fn lock_within(&self, tries: u32, key: &[u8]) -> Option<KeyLock<'_>> {
+        let lock = self.key_locks.lock(self.index.hash_of(key), tries);
+        if lock.is_none() {
+            self.key_locks.give_up(self.books.clock.uptime());
+        }
+        lock
+    }
+
+    /// For how long commands have given up, since a thread stopped within a change. Zero unless one did lately.
+    pub fn stalled(&self) -> Duration {
+        Duration::from_secs(self.key_locks.stalled(self.books.clock.uptime())).max(self.index.stalled())
     }
 
     /// Gives the key's item a new deadline. Returns whether the key has a value.
     pub fn touch(&self, key: &[u8], deadline: u64) -> Result<bool, Fault> {
-        let _lock = self.lock(key);
+        let _lock = self.lock(key)?;
         let found = self.find(key, |Hit { item, now, .. }| {
             item.note_fetched(now);
             item.touch(deadline);

@@ -49,17 +49,22 @@ pub struct Worker {
 impl Inbox {
     pub fn hand(&self, client: Connection) -> io::Result<()> {
         let sent = self.clients.as_ref().is_some_and(|clients| clients.send(client).is_ok());
-        sent.then_some(()).ok_or(ErrorKind::BrokenPipe)?;
-        self.waker.wake()
+        self.wake();
+        sent.then_some(()).ok_or(ErrorKind::BrokenPipe.into())
+    }
+
+    /// If the worker can't be woken, it comes to what it was handed when it wakes next.
+    fn wake(&self) {
+        if let Err(why) = self.waker.wake() {
+            log(format_args!("a worker can't be woken: {why}"));
+        }
     }
 }
 
 impl Drop for Inbox {
     fn drop(&mut self) {
         self.clients = None;
-        if let Err(why) = self.waker.wake() {
-            log(format_args!("a worker can't be woken: {why}"));
-        }
+        self.wake();
     }
 }
 

@@ -3,6 +3,7 @@ use crate::budget::{cost, Claim};
 use crate::counts::Count;
 use crate::index::{Over, Refused, Token};
 use crate::item::{new_item, remade, Item, NewItem, WON};
+use crate::key_locks::KeyLock;
 use crate::number;
 use crate::request::{Change, How, Order};
 use crate::store::{Answer, Changed, Fault, Found, Hit, Store};
@@ -17,8 +18,13 @@ const LARGE: u64 = 1 << 15;
 impl Store {
     /// Stores this value as it is ordered.
     pub fn store(&self, order: &Order, data: &[u8]) -> Result<Answer, Fault> {
+        self.store_under(&mut None, order, data)
+    }
+
+    /// The same, with the lock of the key, if there is one, or if it is needed.
+    pub(crate) fn store_under<'a>(&'a self, lock: &mut Option<KeyLock<'a>>, order: &Order, data: &[u8]) -> Result<Answer, Fault> {
         self.books.counts.add(Count::Sets);
-        let stored = if order.is_plain() { self.set(order, data) } else { self.store_if(order, data) };
+        let stored = if order.is_plain() { self.set(order, data) } else { self.store_if(lock, order, data) };
         match stored {
             Err(Fault::NoRoom) => self.books.counts.add(Count::NoMemory),
             Err(Fault::TooLong) => self.books.counts.add(Count::TooLarge),
@@ -62,41 +68,54 @@ impl Store {
         Some(item)
     }
 
-    /// What is to be put over an item that was found at this time.
-    fn over(&self, order: &Order, data: &[u8], item: &Item, born: u64) -> Option<NewItem> {
+    /// What is to be put over an item that was found, if there is memory, or the answer if nothing is.
+    fn over(&self, order: &Order, data: &[u8], Hit { item, token, now }: Hit) -> Result<Option<NewItem>, Result<Answer, Fault>> {
+        let sets = matches!(order.how, How::Set | How::Replace);
+        let makes_stale = sets && order.may_be_stale && order.compare.is_some_and(|compare| compare < token);
         let value = match order.how {
+            How::Add => return Err(Ok(Answer::NotStored)),
+            _ if !makes_stale && order.compare.is_some_and(|compare| compare != token) => return Err(Ok(Answer::Exists)),
             How::Append => [item.value(), data],
             How::Prepend => [data, item.value()],
-            _ => return self.fresh(order, born, data),
+            _ => {
+                let next = self.fresh(order, now, data);
+                if makes_stale {
+                    next.iter().for_each(|next| next.make_stale(item.deadline(), item.has(WON)));
+                }
+                return Ok(next);
+            }
         };
-        remade(item, born, item.deadline(), &value)
+        if item.value().len() + data.len() > self.options.longest {
+            return Err(Err(Fault::TooLong));
+        }
+        Ok(remade(item, now, item.deadline(), &value))
     }
 
-    fn store_if(&self, order: &Order, data: &[u8]) -> Result<Answer, Fault> {
+    fn store_if<'a>(&'a self, lock: &mut Option<KeyLock<'a>>, order: &Order, data: &[u8]) -> Result<Answer, Fault> {
         // These keep the deadline of what they replace.
-        let keeps_deadline = order.may_be_stale || matches!(order.how, How::Append | How::Prepend);
-        let _lock = keeps_deadline.then(|| self.lock(order.key));
+        if lock.is_none() && (order.may_be_stale || matches!(order.how, How::Append | How::Prepend)) {
+            *lock = Some(self.lock(order.key)?);
+        }
+        let mut was_refused = false;
         for _ in 0..TRIES {
-            let found = self
-                .find(order.key, |Hit { item, now, .. }| (self.over(order, data, item, now), item.deadline(), item.has(WON)))?;
-            let (next, over) = match (found, order.how, order.compare) {
-                (Found::Absent | Found::Dead(..), How::Set | How::Replace, Some(_)) => return Ok(Answer::NotFound),
-                (Found::Live(..), How::Add, _) => return Ok(Answer::NotStored),
-                (Found::Live((next, deadline, is_won), token), How::Set | How::Replace, Some(compare))
-                    if order.may_be_stale && compare < token =>
-                {
-                    (next.inspect(|next| next.make_stale(deadline, is_won)), Found::Live((), token))
+            let found = self.find(order.key, |hit| (self.over(order, data, hit), hit.item.value().len()))?;
+            let (next, over, old) = match (found, order.how) {
+                (Found::Live((Err(answer), _), _), _) => return answer,
+                (Found::Live((Ok(next), old), token), _) => (next, Found::Live((), token), old),
+                (_, How::Set | How::Replace) if order.compare.is_some() => return Ok(Answer::NotFound),
+                (_, How::Replace | How::Append | How::Prepend) => return Ok(Answer::NotStored),
+                // Another thread may be giving it a new time to live.
+                (Found::Dead(_), _) if lock.is_none() => {
+                    *lock = Some(self.lock(order.key)?);
+                    continue;
                 }
-                (Found::Live(_, token), _, Some(compare)) if token != compare => return Ok(Answer::Exists),
-                (Found::Absent | Found::Dead(..), How::Replace | How::Append | How::Prepend, _) => return Ok(Answer::NotStored),
-                (Found::Absent, ..) => (self.fresh(order, self.books.clock.now(), data), Found::Absent),
-                (Found::Dead(token), ..) => (self.fresh(order, self.books.clock.now(), data), Found::Dead(token)),
-                (Found::Live((next, ..), token), ..) => (next, Found::Live((), token)),
+                (Found::Dead(token), _) => (self.fresh(order, self.books.clock.now(), data), Found::Dead(token), 0),
+                (Found::Absent, _) => (self.fresh(order, self.books.clock.now(), data), Found::Absent, 0),
             };
-            let next = next.ok_or(Fault::NoRoom)?;
-            if next.value().len() > self.options.longest {
-                return Err(Fault::TooLong);
-            }
+            let Some(next) = next else {
+                self.make_way(old + data.len(), &mut was_refused)?;
+                continue;
+            };
             if let Some(token) = self.put_over(order.key, over, next)? {
                 return Ok(Answer::Done(token));
             }
@@ -154,11 +173,17 @@ impl Store {
 
     /// Removes the key, and returns what it was: if it was live, whether its token was to be deleted.
     fn delete_if(&self, key: &[u8], is_meant: impl Fn(Token) -> bool) -> Result<Found<bool>, Fault> {
+        let mut lock = None;
         for _ in 0..TRIES {
             let found = self.find(key, |_| ())?;
             let token = match found {
                 Found::Absent => return Ok(Found::Absent),
                 Found::Live((), token) if !is_meant(token) => return Ok(Found::Live(false, token)),
+                // Another thread may be giving it a new time to live.
+                Found::Dead(_) if lock.is_none() => {
+                    lock = Some(self.lock(key)?);
+                    continue;
+                }
                 Found::Live((), token) | Found::Dead(token) => token,
             };
             match self.index.remove(self.index.hash_of(key), token, Reason::Removed) {
@@ -205,15 +230,20 @@ impl Store {
         compare: Option<Token>,
         change: impl Fn(&Item, u64) -> Option<(Option<NewItem>, T)>,
     ) -> Result<Changed<T>, Fault> {
-        let _lock = self.lock(key);
+        let (_lock, mut was_refused) = (self.lock(key)?, false);
+        let is_meant = |token| compare.is_none_or(|compare| compare == token);
         for _ in 0..TRIES {
-            let (next, told, token) = match self.find(key, |Hit { item, now, .. }| change(item, now))? {
+            let found = self.find(key, |hit| (is_meant(hit.token).then(|| change(hit.item, hit.now)), hit.item.value().len()))?;
+            let (next, told, token, old) = match found {
                 Found::Absent | Found::Dead(..) => return Ok(Changed::NotFound),
-                Found::Live(_, token) if compare.is_some_and(|compare| compare != token) => return Ok(Changed::Exists),
-                Found::Live(None, _) => return Ok(Changed::NotNumeric),
-                Found::Live(Some((next, told)), token) => (next, told, token),
+                Found::Live((None, _), _) => return Ok(Changed::Exists),
+                Found::Live((Some(None), _), _) => return Ok(Changed::NotNumeric),
+                Found::Live((Some(Some((next, told))), old), token) => (next, told, token, old),
             };
-            let next = next.ok_or(Fault::NoRoom)?;
+            let Some(next) = next else {
+                self.make_way(old, &mut was_refused)?;
+                continue;
+            };
             let deadline = next.deadline();
             if let Some(token) = self.put_over(key, Found::Live((), token), next)? {
                 return Ok(Changed::Changed(told, token, deadline));

@@ -209,3 +209,26 @@ fn who_makes_an_item_wins_no_other_one() {
     });
     assert_eq!((answer.as_str(), client.ask("mg n\n").as_str()), ("VA 1\n7\n", "HD\n"));
 }
+
+/// Asks for a new time to live of `n`, and for this when `n` has expired, but not for the command that has asked before. Returns what both are answered.
+fn touch_beside(command: &'static str) -> (String, String) {
+    let mut client = client_with("5");
+    let (store, other, (sender, receiver)) = (Arc::clone(&client.store), client.beside(), channel());
+    *client.control.before_look.lock().unwrap() = Some(Box::new(move || {
+        let end = store.books.clock.now() + 1;
+        store.index.look(&[b"n"], &mut |_, seen| seen.expect("nobody disturbs it").expect("it is there").0.touch(end));
+        while store.books.clock.now() < end {}
+        sender.send(ask_in_vain(other, command)).expect("somebody waits for it");
+    }));
+    let touched = client.ask("touch n 100\n");
+    (touched, receiver.recv().expect("it is sent").join().expect("it ends"))
+}
+
+#[test]
+fn what_has_expired_stays_if_it_gets_a_new_time_to_live_just_then() {
+    for (command, answer) in
+        [("delete n\n", "DELETED\n"), ("md n\n", "HD\n"), ("add n 0 0 1\n6\n", "NOT_STORED\n"), ("ms n 1 ME\n6\n", "NS\n")]
+    {
+        assert_eq!(touch_beside(command), ("TOUCHED\n".to_owned(), answer.to_owned()), "{command}");
+    }
+}

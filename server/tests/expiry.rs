@@ -4,6 +4,7 @@ use cefrodild::clock::unix_time;
 use cefrodild::counts::Count;
 use cefrodild::expire::LOOKED_AT;
 use plain::client::{Client, MEGABYTE};
+use std::sync::atomic::Ordering::SeqCst;
 use std::thread::sleep;
 use std::time::{Duration, Instant};
 
@@ -257,4 +258,15 @@ fn what_counts_as_a_use_of_an_item() {
             .expect(&crawled)
     };
     assert!(used("h") > used("f") + 1 && used("h") <= unix_time(), "{crawled}");
+}
+
+#[test]
+fn a_look_ends_when_others_keep_a_removal_waiting() {
+    let mut client = Client::new(MEGABYTE);
+    (0..10).for_each(|key| assert_eq!(client.ask(&format!("set {key} 0 -1 1\n5\n")), "STORED\n"));
+    client.control.removals_to_refuse.store(1_000, SeqCst);
+    client.store.expire();
+    assert_eq!((client.control.removals_to_refuse.swap(0, SeqCst), client.store.index.len()), (999, 10));
+    client.expire();
+    assert_eq!(client.store.index.len(), 0);
 }

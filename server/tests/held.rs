@@ -2,6 +2,7 @@
 mod plain;
 use cefrodild::connection::Next;
 use cefrodild::counts::Count;
+use cefrodild::item::new_item;
 use cefrodild::request::How;
 use cefrodild::store::Store;
 use plain::both::Both;
@@ -56,6 +57,20 @@ fn what_is_sent_stays_when_its_key_has_another_value() {
         assert!(late.read(&client.store) == answer.as_bytes() && later.read(&client.store) == answer.as_bytes());
         assert_eq!(client.store.books.budget.buffers(), 0, "{change}");
     }
+}
+
+/// Not even for a moment, in which others might be cut off for it.
+#[test]
+fn what_nobody_holds_never_counts_as_the_clients() {
+    let _turn = turn();
+    let (client, _) = stored();
+    let (budget, value) = (&client.store.books.budget, [0; 20_000]);
+    thread::scope(|scope| {
+        let freeing = scope.spawn(|| (0..100_000).for_each(|_| drop(new_item(1, 0, 0, b"k", &[&value]))));
+        while !freeing.is_finished() {
+            assert_eq!(budget.buffers(), 0);
+        }
+    });
 }
 
 #[test]

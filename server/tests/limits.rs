@@ -125,6 +125,31 @@ fn a_word_that_is_cut_is_not_taken_for_a_whole_one() {
 }
 
 #[test]
+fn a_key_that_is_much_too_long_is_refused_however_it_comes() {
+    let long = "k".repeat(LINE + 100);
+    for (begin, answer, is_end) in [
+        ("get", FORMAT, false),
+        ("gets", FORMAT, false),
+        ("  get", FORMAT, false),
+        ("gat 0", FORMAT, false),
+        ("delete", "CLIENT_ERROR line too long\n", true),
+    ] {
+        let all = format!("{begin} {long}\r\n{}", if is_end { "" } else { "mn a\r\n" });
+        let expected = format!("{answer}{}", if is_end { "" } else { "MN\n" }).replace('\n', "\r\n");
+        for length in [1, 1_000, LINE - 1, LINE, LINE + 1, all.len()] {
+            let (mut client, mut answers, mut ends) = (client(), Vec::new(), false);
+            let mut parts = all.as_bytes().chunks(length);
+            while let Some(part) = parts.next().filter(|_| !ends) {
+                let (more, is_over) = client.ask_bytes(part);
+                answers.extend(more);
+                ends = is_over;
+            }
+            assert_eq!((String::from_utf8(answers), ends), (Ok(expected.clone()), is_end), "{begin} {length}");
+        }
+    }
+}
+
+#[test]
 fn the_most_words() {
     for line in ["set k 0 0 1", "add k 0 0 1", "replace k 0 0 1", "append k 0 0 1", "prepend k 0 0 1", "cas k 0 0 1 1"] {
         assert_eq!(client().ask(&format!("{line} noreply\n1\n")), "", "{line}");

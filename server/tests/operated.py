@@ -69,6 +69,25 @@ def full_output(program):
         server.wait()
 
 
+def full_log(program):
+    """Nobody reads the log, which is a full pipe: lines are left out. The server goes on, and ends when it is to."""
+    reader, writer = os.pipe()
+    os.set_blocking(writer, False)
+    with contextlib.suppress(BlockingIOError):
+        while True:
+            os.write(writer, bytes(4096))
+    os.set_blocking(writer, True)
+    with running(program, '-c', '1', '-vv', stderr=writer) as (server, port):
+        with connect(port) as client:
+            assert ask(client, b'mn\r\n') == b'MN\r\n'
+            with connect(port) as late:
+                assert rest(late) == b'ERROR Too many open connections\r\n'
+            server.terminate()
+            assert rest(client) == b'' and server.wait(TIMEOUT) == 0
+    os.close(reader)
+    os.close(writer)
+
+
 def connect_at_last(server, port):
     while True:
         with contextlib.suppress(ConnectionRefusedError):
@@ -107,7 +126,7 @@ def main():
     with running(program) as (_, port):
         web_pages(port)
         binary_clients(port)
-    for test in [signals, full_output, open_files, idle_clients]:
+    for test in [signals, full_output, full_log, open_files, idle_clients]:
         test(program)
 
 

@@ -3,11 +3,12 @@
 mod plain;
 use cefrodild::books::Books;
 use cefrodild::connection::{warm_up, Next};
+use cefrodild::counts::Count;
 use cefrodild::item::new_item;
 use cefrodild::memory::Spare;
-use cefrodild::request::How;
+use cefrodild::request::{How, Order};
 use cefrodild::slabs;
-use cefrodild::store::Store;
+use cefrodild::store::{Answer, Fault, Store};
 use cefrodild::worker::Worker;
 use plain::both::Both;
 use plain::client::{map_store, options_of, order};
@@ -288,6 +289,44 @@ fn items_do_not_go_in_vain() {
     }
     // A second may end meanwhile.
     assert!(gone[0] > 0 && gone.iter().filter(|gone| **gone > 0).count() <= 3, "{gone:?}");
+}
+
+/// Stores a value as it is ordered. The first item of so many that are made has no memory.
+fn store_refused(store: &Store, order: &Order, refused: usize) -> (Result<Answer, Fault>, bool) {
+    refusing(0, refused, || store.store(order, &[b'x'; 2_000][..order.length]))
+}
+
+#[test]
+fn items_give_way_to_each_command() {
+    let _turn = set_up();
+    let (store, gone) = (store(), |store: &Store| store.books.counts.get(Count::Evicted));
+    (0..100).for_each(|key: u8| assert!(store_refused(&store, &order(How::Set, &[key], 2_000), 0).0.is_ok()));
+    for (how, key) in [(How::Add, b"new"), (How::Replace, b"new"), (How::Append, b"new"), (How::Prepend, b"new")] {
+        let (before, (answer, was_refused)) = (gone(&store), store_refused(&store, &order(how, key, 2_000), 1));
+        assert!(was_refused && matches!(answer, Ok(Answer::Done(_))) && gone(&store) > before, "{how:?}: {answer:?}");
+    }
+    let (before, (stale, was_refused)) = (gone(&store), refusing(0, 1, || store.invalidate(b"new", None, None)));
+    assert!(was_refused && matches!(stale, Ok(Answer::Done(_))) && gone(&store) > before, "{stale:?}");
+    // If that does not help, no more of them go in that second.
+    let (before, (answer, _)) = (gone(&store), store_refused(&store, &order(How::Add, b"key", 2_000), usize::MAX));
+    assert!(answer == Err(Fault::NoRoom) && gone(&store) - before < 10, "{answer:?}");
+}
+
+#[test]
+fn what_is_not_put_takes_no_memory() {
+    let _turn = set_up();
+    let store = map_store(1 << 20, "-t1 -I3000");
+    assert!(store_refused(&store, &order(How::Set, b"key", 2_000), 0).0.is_ok());
+    for (how, compare, answer) in [
+        (How::Add, None, Ok(Answer::NotStored)),
+        (How::Set, Some(9), Ok(Answer::Exists)),
+        (How::Append, Some(9), Ok(Answer::Exists)),
+        (How::Append, None, Err(Fault::TooLong)),
+    ] {
+        let order = Order { compare, ..order(how, b"key", 2_000) };
+        assert_eq!(store_refused(&store, &order, usize::MAX), (answer, false), "{how:?}");
+    }
+    assert_eq!(refusing(0, usize::MAX, || store.invalidate(b"key", Some(9), None)), (Ok(Answer::Exists), false));
 }
 
 /// The reserve has a megabyte.

@@ -71,12 +71,23 @@ def unix_socket(folder):
             works(client)
         server.terminate()
         assert server.wait(TIMEOUT) == 0 and not os.path.exists(path)
+    socket_of_user(path)
     with open(path, 'w', encoding='ascii') as file:
         file.write('kept')
     other = ran('-s', path)
     assert other.returncode == 1 and path in other.stderr, other
     with open(path, encoding='ascii') as file:
         assert file.read() == 'kept'
+
+
+def socket_of_user(path):
+    """The file is that of the user whose process the server becomes."""
+    if os.geteuid() == 0:
+        with listening('-s', path, '-u', 'nobody') as (server, _):
+            found, user = os.stat(path), pwd.getpwnam('nobody')
+            assert (found.st_uid, found.st_gid, stat.S_IMODE(found.st_mode)) == (user.pw_uid, user.pw_gid, 0o700), found
+            server.terminate()
+            assert server.wait(TIMEOUT) == 0 and not os.path.exists(path)
 
 
 def several_places():

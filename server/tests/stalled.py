@@ -135,10 +135,12 @@ def tools(program):
 
 def shown_commands(program):
     with running(program, '-vv', stderr=subprocess.PIPE) as (server, port), connect(port) as client:
-        ask(client, b'set a 1 2 3\r\nabc\r\nget \xff\r\n', END)
+        # The block comes later than its line.
+        assert ask(client, b'mn\r\nset a 1 2 3\r\n') == b'MN\r\n'
+        ask(client, b'abc\r\nset b 1 2 3\r\nabc\r\nget \xff\r\n', END)
         server.terminate()
         shown = server.stderr.read().splitlines()
-    assert [line.split(' ', 1)[1] for line in shown] == ['set a 1 2 3', r'get \xff'] and shown[0].startswith('<'), shown
+    assert [line.split(' ', 1)[1] for line in shown] == ['mn', 'set a 1 2 3', 'set b 1 2 3', r'get \xff'] and shown[0].startswith('<'), shown
 
 
 def root(program):

@@ -44,6 +44,14 @@ fn a_file_of_users() {
 }
 
 #[test]
+fn a_web_page_has_no_guess() {
+    for line in ["POST / HTTP/1.1", "GET /a b HTTP/1.0", "HTTP/1.1"] {
+        let page = format!("{line}\r\nHost: localhost\r\n\r\nset k 0 0 3\r\nu p\r\n");
+        assert_eq!(client().ask_bytes(page.as_bytes()), (Vec::new(), true), "{line}");
+    }
+}
+
+#[test]
 fn who_says_a_name_and_its_password_is_served() {
     for said in [
         "set k 0 0 3\nu p\n",

@@ -24,7 +24,8 @@ pub struct BytesMap<H: Head, S = RandomState> {
     pub(crate) inner: Arc<ObjectInner<Bytes<H>, S>>,
 }
 
-/// Chooses how a map of bytes is opened. Each choice is as in [`ObjectBuilder`](crate::ObjectBuilder).
+/// Chooses how a map of bytes is opened. Each choice is as in [`ObjectBuilder`](crate::ObjectBuilder), but
+/// with named shards the map may hold many more entries than were asked for: as many as its tables have room for.
 #[must_use = "a builder opens nothing before `open`"]
 pub struct BytesBuilder<H, S = RandomState> {
     settings: Settings<S>,
