@@ -1,7 +1,7 @@
 //! Locks of keys. If a thread is stopped while it has one, commands that need that lock are refused after a while.
 use std::array::from_fn;
 use std::sync::atomic::{AtomicU64, Ordering::Relaxed};
-use std::sync::{Mutex, MutexGuard};
+use std::sync::{Mutex, MutexGuard, TryLockError};
 use std::thread::{sleep, yield_now};
 use std::time::Duration;
 
@@ -44,8 +44,11 @@ impl KeyLocks {
                 1..YIELDS => yield_now(),
                 _ => sleep(SLEEP),
             }
-            if let Ok(lock) = self.locks[hash as usize % LOCKS].try_lock() {
-                return Some(lock);
+            match self.locks[hash as usize % LOCKS].try_lock() {
+                Ok(lock) => return Some(lock),
+                // A command that panicked leaves nothing half done.
+                Err(TryLockError::Poisoned(lock)) => return Some(lock.into_inner()),
+                Err(TryLockError::WouldBlock) => {}
             }
         }
         None
