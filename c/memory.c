@@ -6,9 +6,9 @@
  * stripes are a power of two. So from 8 stripes on they begin on a cache line, and no bucket of four slots crosses one.
  * A block of at least 8 MB begins 56 bytes after a boundary of huge pages, and the huge pages that it fills are requested.
  * Blocks from 128 KB up to that are cut from regions of 32 MB, whose huge pages are requested. The bytes of a block that is given back are cut
- * again if it is the last one, or the largest hole of its region: an opening gives as much back as it keeps. So the tables of many shards are on huge
- * pages too. The first huge page of the first region isn't, unless a block of it has 2 MB: a program with little in its caches takes no more
- * memory than it uses. A region is freed with its last block. Any thread may allocate and free, and so may another copy of these functions in the same program, since
+ * again if it is the last one, or the largest hole of its region: an opening gives as much back as it keeps. The huge pages that it filled go to the
+ * system meanwhile. So the tables of many shards are on huge pages too. The first huge page of the first region isn't: a program with little in its
+ * caches takes no more memory than it uses. A region is freed with its last block. Any thread may allocate and free, and so may another copy of these functions in the same program, since
  * libraries that were built apart may pass a handle on.
  *
  * A process may fork at any time: its child allocates and frees as it does. A small block knows in which process it was allocated. What a child
@@ -40,7 +40,7 @@ bool is_of_this_process(const void *at);
 void keep_for_parent(void *at);
 extern bool has_been_forked __attribute__((visibility("hidden")));
 
-enum { LINE = 64, APART = 2 * LINE, BEHIND = 56, PLACED = 4096, CUT = 128 << 10, HUGE_PAGE = 2 << 20, LARGE = 8 << 20, REGION = 32 << 20 };
+enum { LINE = 64, APART = 2 * LINE, BEHIND = 56, PLACED = 4096, CUT = 128 << 10, HUGE_PAGE = 2 << 20, LARGE = 8 << 20, REGION = 32 << 20, LARGEST_PAGE = 64 << 10 };
 
 /* It is at the start of its region. */
 struct region {
@@ -203,17 +203,24 @@ static void *cut(size_t size) {
         ((uintptr_t *)at)[-1] = (uintptr_t)open_region + 1;
         open_region->users++;
     }
-    if (first != NULL && size >= HUGE_PAGE) {
-        ask_for_huge_pages((char *)open_region, HUGE_PAGE);
-    }
     pthread_mutex_unlock(&lock);
     return at;
+}
+
+/* The system may have the huge pages that a block filled, and what it had of the first one, where pages are small. */
+static void give_pages_back(const struct region *region, char *first, size_t bytes) {
+    char *const from = aligned(first, first < (const char *)region + HUGE_PAGE ? LARGEST_PAGE : HUGE_PAGE);
+    char *const end = first + bytes, *const to = end - (uintptr_t)end % HUGE_PAGE;
+    if (from < to) {
+        (void)madvise(from, (size_t)(to - from), MADV_DONTNEED);
+    }
 }
 
 /* Gives a block back to its region. The last one leaves its bytes to the next. Another one leaves a hole, if that is the largest: no block in
  * use ends above `used`, so the hole does neither. */
 static void give_back(struct region *region, const char *at) {
     const size_t bytes = ((const size_t *)at)[-2];
+    give_pages_back(region, (char *)at - BEHIND, bytes);
     pthread_mutex_lock(&lock);
     if (region == open_region && at - BEHIND + bytes == (char *)region + region->used) {
         region->used -= bytes;

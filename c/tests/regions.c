@@ -108,7 +108,7 @@ static void huge_pages_of_large_blocks(void) {
     }
 }
 
-/* A region has 32 MB, and all its huge pages are requested. The first huge page of the first region is only with a block of 2 MB. */
+/* A region has 32 MB, and all its huge pages are requested, but the first one of the first region. */
 static void huge_pages_of_regions(void) {
     struct full fulls[32];
     advices = 0;
@@ -126,13 +126,31 @@ static void huge_pages_of_regions(void) {
     for (int n = 0; n < 32; n++) {
         rattle_dealloc(fulls[n].at);
     }
-    make(&fulls[0], 1 << 20, 8);
+}
+
+/* The huge pages that a block filled go to the system when it is given back, and in the first one of its region all that it had. A block that filled none
+ * leaves all as it is. What is cut from the hole then is whole. */
+static void pages_that_go(void) {
+    struct full first, next, last;
+    make(&first, 5 << 20, 8);
+    make(&next, 3 << 20, 8);
+    make(&last, 3 << 20, 8);
+    const uintptr_t region = (uintptr_t)first.at / (2 << 20) * (2 << 20);
     advices = 0;
-    make(&fulls[1], 2 << 20, 8);
-    region = (uintptr_t)fulls[1].at / (2 << 20) * (2 << 20);
-    MUST(were_requested(region, region + (2 << 20)));
-    rattle_dealloc(fulls[0].at);
-    rattle_dealloc(fulls[1].at);
+    rattle_dealloc(first.at);
+    MUST(advices == 1 && advised[0].about == MADV_DONTNEED && (uintptr_t)advised[0].at == region + (64 << 10) && advised[0].size == (4 << 20) - (64 << 10));
+    MUST(holds(&next, next.size) && holds(&last, last.size));
+    make(&first, 5 << 20, 8);
+    MUST((uintptr_t)first.at / (2 << 20) * (2 << 20) == region && holds(&first, first.size) && holds(&next, next.size));
+    advices = 0;
+    rattle_dealloc(next.at);
+    MUST(advices == 1 && (uintptr_t)advised[0].at == region + (6 << 20) && advised[0].size == 2 << 20 && holds(&first, first.size) && holds(&last, last.size));
+    rattle_dealloc(first.at);
+    make(&first, 200000, 8);
+    advices = 0;
+    rattle_dealloc(first.at);
+    MUST(advices == 0 && holds(&last, last.size));
+    rattle_dealloc(last.at);
 }
 
 /* If a region is full and malloc refuses the next one, no block is cut: it would end beyond the region. A smaller one still has room. */
@@ -222,6 +240,7 @@ int main(void) {
     sizes_of_blocks_of_regions();
     huge_pages_of_large_blocks();
     huge_pages_of_regions();
+    pages_that_go();
     full_regions();
     blocks_without_regions();
     blocks_of_another_copy();
