@@ -30,13 +30,13 @@ struct RustObjectGenerations : rl::test_suite<RustObjectGenerations, 3> {
     explored::Atomic<int> &of(int object) { return object == older ? of_older : object == beside ? of_beside : of_later; }
 
     //| in map/src/objects/object.rs
-    int own(int object) { return of(object).load(all); }                  //| self.generation.load(SeqCst)
+    int own(int object) { return of(object).load(all); }                  //| self.life.generation.load(SeqCst)
     void enter(int object, int in) {
         if (own(object) == none) {                                        //| if self.generation() == NONE {
             if (explored::without("one generation")) {
                 of(object).store(in, all);
             } else {
-                of(object).compare_exchange(none, in, all);               //| let _ = self.generation.compare_exchange(NONE, generation, SeqCst, SeqCst);
+                of(object).compare_exchange(none, in, all);               //| let _ = self.life.generation.compare_exchange(NONE, generation, SeqCst, SeqCst);
             }
         }
     }

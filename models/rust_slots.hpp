@@ -86,7 +86,7 @@ struct RustSlots : rl::test_suite<RustSlots, 2> {
                     return claim.index;                                   //| return Some(claim.index);
                 }
             }
-            const std::optional<size_t> taken = slots.take_free();        //| let index = slots.make(slots.take_free()?)?.index;
+            const std::optional<size_t> taken = slots.take_free();        //| let index = slots.take_free()?;
             if (taken) {
                 claims.push_back({&slots, *taken});                       //| claims.insert(slots.id, Claim { index, slots: home });
             }
