@@ -126,16 +126,17 @@ static void held_shards() {
     Map map;
     Map::Rules rules;
     rules.weigher = [](uint64_t, uint64_t value) { return value; };
-    rules.most_weight = 20;
-    MUST(map.open({100, 2, 4, 5}, rules) == Status::ok);
-    for (uint64_t key = 0; key < 200; key++) {
-        held_shard = key < 40 || key % 20 >= 5 ? 2 : key / 20 % 2;
-        MUST(map.insert(key, uint64_t(1)).evicted == (key >= 20) && map.contains(key) && map.weight() == std::min<uint64_t>(key + 1, 20));
+    rules.most_weight = 200;
+    MUST(map.open({1000, 2, 4, 5}, rules) == Status::ok);
+    // Each shard has some 100, so a few evictions leave none empty.
+    for (uint64_t key = 0; key < 500; key++) {
+        held_shard = key < 400 || key % 20 >= 5 ? 2 : key / 20 % 2;
+        MUST(map.insert(key, uint64_t(1)).evicted == (key >= 200) && map.contains(key) && map.weight() == std::min<uint64_t>(key + 1, 200));
     }
-    MUST(map.set_capacity(15) == Status::ok);
-    for (uint64_t key = 200; key < 400; key++) {
+    MUST(map.set_capacity(150) == Status::ok);
+    for (uint64_t key = 500; key < 600; key++) {
         held_shard = key % 20 >= 5 ? 2 : key / 20 % 2;
-        MUST(map.insert(key, uint64_t(1)).evicted && map.contains(key) && map.size() == 15);
+        MUST(map.insert(key, uint64_t(1)).evicted && map.contains(key) && map.size() == 150);
     }
     held_shard = 2;
 }
