@@ -93,6 +93,19 @@ fn threads_have_handles_again_when_there_is_memory() {
 }
 
 #[test]
+fn a_handle_that_could_not_be_opened_is_opened_later() {
+    at_each_refusal(|after| {
+        let map = Map::<u64, u64>::builder(100).threads(1).open().unwrap();
+        let own = map.clone();
+        let (_, is_refused) = thread::spawn(move || refusing(after, 0, || own.get(&1))).join().unwrap();
+        let (before, own) = (map.stats().shared, map.clone());
+        thread::spawn(move || (0..10).for_each(|key| _ = own.get(&key))).join().unwrap();
+        assert_eq!(map.stats().shared - before, 0, "after {after} blocks");
+        is_refused
+    });
+}
+
+#[test]
 fn a_list_for_which_there_is_no_memory_is_an_error() {
     let map = Map::<u64, u64>::builder(10_000).shards(1).open().unwrap();
     (0..10_000).for_each(|key| _ = map.insert(&key, key));

@@ -263,7 +263,11 @@ fn what_counts_as_a_use_of_an_item() {
 #[test]
 fn a_look_ends_when_others_keep_a_removal_waiting() {
     let mut client = Client::new(MEGABYTE);
-    (0..10).for_each(|key| assert_eq!(client.ask(&format!("set {key} 0 -1 1\n5\n")), "STORED\n"));
+    // Their sizes differ, so each is in a chunk of its own.
+    for key in 0..10 {
+        let length = 100 << key;
+        assert_eq!(client.ask(&format!("set {key} 0 -1 {length}\n{}\n", "x".repeat(length))), "STORED\n");
+    }
     client.control.removals_to_refuse.store(1_000, SeqCst);
     client.store.expire();
     assert_eq!((client.control.removals_to_refuse.swap(0, SeqCst), client.store.index.len()), (999, 10));

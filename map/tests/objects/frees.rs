@@ -3,6 +3,7 @@ use crate::ledger::{done, Ledger, Owned};
 use cefrodil_map::ObjectMap;
 use std::cell::Cell;
 use std::sync::mpsc::{channel, Receiver, Sender};
+use std::sync::Arc;
 use std::thread::{self, JoinHandle};
 use std::time::Duration;
 
@@ -214,10 +215,12 @@ struct Link(Option<(ObjectMap<u64, Link>, u64)>);
 thread_local! {
     // How many such destructors run within each other, and how many did at most.
     static DEPTH: Cell<(u32, u32)> = const { Cell::new((0, 0)) };
+    static DROPPED: Cell<u64> = const { Cell::new(0) };
 }
 
 impl Drop for Link {
     fn drop(&mut self) {
+        DROPPED.set(DROPPED.get() + 1);
         let Some((map, next)) = self.0.take() else { return };
         let (depth, most) = DEPTH.get();
         DEPTH.set((depth + 1, most.max(depth + 1)));
@@ -236,7 +239,31 @@ fn a_chain_of_destructors_takes_the_stack_of_one() {
     }
     (0..chains).for_each(|chain| assert!(map.insert(chain * length, Link(None)).is_ok()));
     (0..length).for_each(|_| _ = map.free_unused());
-    assert_eq!((DEPTH.get().1, map.stats().waiting, map.len() as u64), (1, 0, chains * length));
+    // Each key was put twice.
+    assert_eq!((DEPTH.get().1, map.stats().waiting, map.len() as u64, DROPPED.get()), (1, 0, chains * length, chains * length));
+}
+
+// A value whose destructor removes a key of another map, and frees what that had.
+struct Remover(ObjectMap<u64, Arc<()>>, u64);
+
+impl Drop for Remover {
+    fn drop(&mut self) {
+        let _ = self.0.remove_with(&self.1, |_| ());
+        self.0.free_unused();
+    }
+}
+
+#[test]
+fn a_destructor_frees_the_objects_of_another_map() {
+    let (held, others) = (Arc::new(()), ObjectMap::new(200).unwrap());
+    let map = ObjectMap::<u64, Remover>::new(200).unwrap();
+    for key in 0..100 {
+        others.insert(key, Arc::clone(&held)).unwrap();
+        assert!(map.insert(key, Remover(others.clone(), key)).is_ok());
+    }
+    map.clear().unwrap();
+    map.free_unused();
+    assert_eq!((others.len(), others.stats().waiting, Arc::strong_count(&held)), (0, 0, 1));
 }
 
 #[test]
