@@ -71,7 +71,12 @@ impl Bound {
 impl<H: Index + 'static, V> Core<H, V> {
     /// Evicts an entry in the first of the shards of these hashes that has one and whose turn it gets: it tries each once, and then all again, so often.
     /// Counts it by its cause: `Evicted` is none. `None`: they are empty.
-    pub fn evict<I: Iterator<Item = u64>>(&self, shards: impl Fn() -> I, tries: u32, cause: Kind) -> Result<Option<Evicted>, RemoveError> {
+    pub fn evict<I: Iterator<Item = u64>>(
+        &self,
+        shards: impl Fn() -> I,
+        tries: u32,
+        cause: Kind,
+    ) -> Result<Option<Evicted>, RemoveError> {
         let evicted = self.slots.within(tries, || self.evict_once(shards())).unwrap_or(Err(RemoveError::Held))?;
         if evicted.is_some() {
             self.slots.count_left(Kind::Evicted, cause);

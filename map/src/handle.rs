@@ -1,8 +1,8 @@
 //! A handle of the index, whose entries have any width, 1 to 8 words. The width is chosen at opening.
 use crate::words::{Layout, Seen, Words, MOST};
 use cefrodil::{
-    Cache, Entry, Evict, EvictError, Handle, ListError, OpenError, Put, PutError, PutIfAbsentError, PutIfError, Removal,
-    Reply, Shape, Spent, TurnError,
+    Cache, Entry, Evict, EvictError, Handle, ListError, OpenError, Put, PutError, PutIfAbsentError, PutIfError, Removal, Reply,
+    Shape, Spent, TurnError,
 };
 use std::ops::DerefMut;
 

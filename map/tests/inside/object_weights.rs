@@ -74,7 +74,10 @@ fn a_shard_without_a_turn_keeps_no_other_from_evicting() {
     for fuller in [0, 1] {
         let map = Numbers::builder(100).shards(2).max_weight(20, |_, value| *value).open().unwrap();
         let shard_of = |key: &u64| map.hash_of(key) >> 48 & 1;
-        let keys = (0..1_000).filter(|key| shard_of(key) == fuller).take(15).chain((0..1_000).filter(|key| shard_of(key) != fuller).take(5));
+        let keys = (0..1_000)
+            .filter(|key| shard_of(key) == fuller)
+            .take(15)
+            .chain((0..1_000).filter(|key| shard_of(key) != fuller).take(5));
         keys.for_each(|key| done(map.insert(key, 1).unwrap()));
         let free = |key: &u64| map.inner.core.slots.call(|handle| handle.try_peek(map.hash_of(key)).is_ok());
         let turn = Turn::begin(&map.inner.core.slots, Handle::try_entries);
