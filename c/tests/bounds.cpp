@@ -134,26 +134,21 @@ static void weights() {
 }
 
 // Threads that put evict the same excess together, and not each all of it.
-template <class Map> static void no_more_than_must(uint64_t looks) {
+template <class Map> static void no_more_than_must() {
     Map map;
     MUST(map.open({10000, 64}) == Status::ok);
     fill(map, 0, 10000);
-    std::atomic<bool> is_over{false};
-    in_threads(5, [&](uint64_t thread) {
-        for (uint64_t n = 1; thread != 0 && !is_over; n++) {
-            MUST(map.insert_or_assign(n * 5 + thread + 100000, uint64_t(n)).status == Status::ok);
-        }
-        for (const uint64_t most : {5000, 2000, 500}) {
-            if (thread != 0) {
-                break;
+    for (const uint64_t most : {5000, 2000, 500}) {
+        std::atomic<bool> is_over{false};
+        in_threads(5, [&](uint64_t thread) {
+            for (uint64_t n = 1; thread != 0 && !is_over; n++) {
+                MUST(map.insert_or_assign((most * 100000 + n) * 5 + thread, uint64_t(n)).status == Status::ok);
             }
-            MUST(map.set_capacity(most) == Status::ok);
-            for (uint64_t look = 0; look < looks; look++) {
-                MUST(map.size() + 50 > most && map.size() < most + 100);
-            }
-        }
-        is_over = is_over || thread == 0;
-    });
+            MUST(thread != 0 || map.set_capacity(most) == Status::ok);
+            is_over = is_over || thread == 0;
+        });
+        MUST(map.size() + 50 > most && map.size() < most + 50);
+    }
 }
 
 // Threads put while another one changes the bound. Each may have put one key above it, and the next put makes it right.
@@ -192,7 +187,7 @@ int main(int argc, char **argv) {
     weights();
     threads<Numbers>(20000 / less);
     threads<Objects>(20000 / less);
-    no_more_than_must<Numbers>(10000 / less);
-    no_more_than_must<Objects>(10000 / less);
+    no_more_than_must<Numbers>();
+    no_more_than_must<Objects>();
     return outcome("bounds");
 }

@@ -102,21 +102,21 @@ fn computed_and_updated_values_keep_to_it_too() {
 fn a_lower_capacity_loses_no_more_than_it_must() {
     let map: Numbers = Map::builder(10_000).shards(64).open().unwrap();
     put_all(&map, 0..10_000);
-    let is_over = AtomicBool::new(false);
-    let least = thread::scope(|threads| {
-        for thread in 1..5 {
-            let (map, is_over) = (&map, &is_over);
-            threads.spawn(move || {
-                let first = 1_000_000 * thread;
-                (first..).take_while(|_| !is_over.load(Relaxed)).for_each(|key| _ = map.insert(&key, key));
-            });
-        }
-        let lens = [5_000, 2_000, 500].map(|most| (map.set_capacity(most), most, (0..10_000).map(|_| map.len()).min().unwrap()));
-        is_over.store(true, Relaxed);
-        lens
-    });
-    for (said, most, len) in least {
-        assert!(said.is_ok() && len + 50 > most && len < most + 50, "{said:?}: {len} of {most}");
+    for most in [5_000, 2_000, 500] {
+        let is_over = AtomicBool::new(false);
+        let said = thread::scope(|threads| {
+            for thread in 1..5 {
+                let (map, is_over) = (&map, &is_over);
+                threads.spawn(move || {
+                    let first = 1_000_000 * thread + 100_000 * most as u64;
+                    (first..).take_while(|_| !is_over.load(Relaxed)).for_each(|key| _ = map.insert(&key, key));
+                });
+            }
+            let said = map.set_capacity(most);
+            is_over.store(true, Relaxed);
+            said
+        });
+        assert!(said.is_ok() && map.len().abs_diff(most) < 50, "{said:?}: {} of {most}", map.len());
     }
 }
 
