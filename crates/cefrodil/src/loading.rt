@@ -13,16 +13,6 @@ use mc_door::{Shape, Why, open_with};
 use mc_words::Policy;
 use std::alloc::Global;
 
-fn status_of_left(why: Why) -> u32
-    ensures { result ≡ left_status why }
-{
-    match why {
-        Why::NoPath => NO_PATH,
-        Why::NoItem => NO_ITEM,
-        Why::Spent => SPENT,
-    }
-}
-
 // Whether there are as many words as `count` entries have.
 fn are_entries(words: usize, entry_words: usize, count: usize) -> bool
     requires { words < 2 ^ 63 }
@@ -64,7 +54,7 @@ fn tell_left(left: &[(usize, Why)], statuses: &mut [u32])
 {
     for told in 0..left.len() {
         let (index, why) = left[left.len() - 1 - told];
-        statuses[index] = status_of_left(why);
+        statuses[index] = left_status(why);
     }
 }
 

@@ -1,5 +1,6 @@
 pub mod Batches
 pub mod Beside
+pub mod Bounding
 pub mod Failing
 pub mod Openings
 pub mod Orders

@@ -22,6 +22,7 @@
 #![tactic(auto)]
 
 mod batches;
+mod bounding;
 mod cache;
 pub mod calls;
 mod closing;
@@ -39,6 +40,7 @@ mod taking;
 pub mod turn;
 mod writer;
 
+pub use bounding::{Bounded, BoundedError};
 pub use cache::Cache;
 pub use closing::StillOpen;
 pub use desk::{Desk, DeskError};

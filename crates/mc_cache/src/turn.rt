@@ -8,6 +8,7 @@ ghost use Rattle.mc_cache.specs.Resting.{IsAtRest};
 ghost use Rattle.mc_cache.specs.Turns.{HasLookedInTurn, HasMetAtDesk, HasTriedTo, HasTriedToList, HasTriedToPeek};
 ghost use Rattle.mc_words.specs.History.{key_count};
 
+use crate::bounding::Bounded;
 use crate::cache::Cache;
 use crate::desk::DeskError;
 use crate::reader::Reader;
@@ -20,7 +21,7 @@ use std::marker::PhantomData;
 /// The types of answers that have a const parameter. `TurnCall::make` names them, because the method of an `impl` could not return them
 /// otherwise. The value takes no place.
 pub type Answers<const V: usize> = PhantomData<
-    (Swapped<V>, Replaced<V>, Take<V>, Evict<V>, Entry<V>),
+    (Swapped<V>, Replaced<V>, Take<V>, Evict<V>, Entry<V>, Bounded<V>),
 >;
 
 /// A call of the writer, with its arguments.

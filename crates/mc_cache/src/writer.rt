@@ -1,5 +1,5 @@
 //! The writer.
-ghost use Rattle.std.specs.Prelude.{◌≡◌, ◌++◌, length};
+ghost use Rattle.std.specs.Prelude.{◌≡◌, ◌++◌, IfOk, length};
 ghost use Rattle.mc_words.specs.History.{key_count};
 ghost use Rattle.mc_theory.specs.Lists.{state_of};
 ghost use Rattle.mc_shared.specs.SeatFacts.{IsRun};
@@ -131,6 +131,7 @@ impl<const V: usize> Writer<V> {
         requires of { self.old.of ≡ cache.now }
         ensures called { HasCalled V cache.now.layout.shape (KeptCall key value.entry) self.old self.new (answer.Kept result) }
         ensures plain { history V self.new ≡ history V self.old ++ changes_by key value.entry result }
+        ensures at { IfOk result (λ done. moment_of done ≡ length (history V self.new)) }
     {
         match put_kept(&cache.cells, &mut self.seat, &mut self.books, key, &value) {
             Ok(done) => {

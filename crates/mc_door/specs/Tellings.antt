@@ -1,6 +1,8 @@
 -- How each answer of a call is returned: a status, and the numbers of a reply.
 use Rattle.std.specs.Prelude.{ℕ, Option, Some, None, Result, Ok, Err}
 use Rattle.std.specs.declared.convert.Infallible.{Infallible}
+use Rattle.mc_cache.specs.declared.bounding.Bounded.{Bounded}
+use Rattle.mc_cache.specs.declared.bounding.Bounded.TheVariants as bounded
 use Rattle.mc_cache.specs.declared.desk.DeskError.{DeskError}
 use Rattle.mc_cache.specs.declared.desk.DeskError.TheVariants as desk
 use Rattle.mc_plan.specs.declared.answer.AbsentError.{AbsentError}
@@ -16,6 +18,8 @@ use Rattle.mc_plan.specs.declared.answer.PutError.TheVariants as put_error
 use Rattle.mc_plan.specs.declared.answer.Remove.{Remove}
 use Rattle.mc_plan.specs.declared.answer.Remove.TheVariants as remove
 use Rattle.mc_plan.specs.declared.answer.Spent.{Spent}
+use Rattle.mc_plan.specs.declared.answer.Why.{Why}
+use Rattle.mc_plan.specs.declared.answer.Why.TheVariants as left
 use Rattle.mc_writer.specs.declared.entry.Entry.{Entry}
 use Rattle.mc_writer.specs.declared.entry.Evict.{Evict}
 use Rattle.mc_writer.specs.declared.entry.Evict.TheVariants.{Evicted, Empty}
@@ -27,7 +31,7 @@ use Rattle.mc_door.specs.declared.looked.Looked.{Looked}
 use Rattle.mc_door.specs.declared.looked.Looked.TheVariants as looked
 use Rattle.mc_door.specs.declared.outcome.RawReply.{RawReply}
 use Rattle.mc_door.specs.declared.outcome.Outcome.{Outcome}
-use Rattle.mc_door.specs.declared.status.TheConstants.{OK, ABSENT, BUSY, NO_PATH, ALL_RECENT, SPENT, CHANGED, HELD, PRESENT}
+use Rattle.mc_door.specs.declared.status.TheConstants.{OK, ABSENT, BUSY, NO_PATH, NO_ITEM, ALL_RECENT, SPENT, CHANGED, HELD, PRESENT}
 use Rattle.mc_door.specs.declared.outcome.TheConstants.{NOTHING, STORED, EVICTED, RENEWED}
 
 -- a status alone
@@ -98,6 +102,30 @@ abbrev pub swap_told : {V : ℕ} → Result (Swapped V) PutError → Outcome
 swap_told (Ok swapped) = with_stamp swapped.old (done_told swapped.put)
 swap_told (Err why) = not_put_told why
 
+-- why a put that evicts no other key was not made
+abbrev pub left_status : Why → ℕ
+left_status left.NoPath = NO_PATH
+left_status left.NoItem = NO_ITEM
+left_status left.Spent = SPENT
+
+abbrev pub kept_told : Result Put Why → Outcome
+kept_told (Ok done) = done_told done
+kept_told (Err why) = plain (left_status why)
+
+-- an entry had left before that: the reply names it, also if the put failed
+abbrev pub after_eviction : {V : ℕ} → Entry V → Outcome → Outcome
+after_eviction old told = record { status = told.status; reply = record { at = told.reply.at; since = old.since; evicted = old.key; moves = told.reply.moves; put = EVICTED } }
+
+-- none gave way
+abbrev pub not_evicted_told : EvictError → Outcome
+not_evicted_told evict_error.AllRecent = plain ALL_RECENT
+not_evicted_told evict_error.Spent = plain SPENT
+
+abbrev pub bounded_told : {V : ℕ} → Result (Bounded V) EvictError → Outcome
+bounded_told (Ok (bounded.Swapped told)) = swap_told told
+bounded_told (Ok (bounded.Evicted old put)) = after_eviction old (kept_told put)
+bounded_told (Err why) = not_evicted_told why
+
 abbrev pub swap_if_absent_told : {V : ℕ} → Result (Swapped V) AbsentError → Outcome
 swap_if_absent_told (Ok swapped) = swap_told (Ok swapped)
 swap_if_absent_told (Err why) = put_if_absent_told (Err why)
@@ -118,8 +146,7 @@ take_told (Err spent) = plain SPENT
 abbrev pub evict_told : {V : ℕ} → Result (Evict V) EvictError → Outcome
 evict_told (Ok (Evicted at old)) = record { status = OK; reply = record { at = at; since = old.since; evicted = old.key; moves = 0; put = NOTHING } }
 evict_told (Ok (Empty at)) = told_at ABSENT at
-evict_told (Err evict_error.AllRecent) = plain ALL_RECENT
-evict_told (Err evict_error.Spent) = plain SPENT
+evict_told (Err why) = not_evicted_told why
 
 -- the entry in an item, with its key
 abbrev pub shown_told : {V : ℕ} → Result (Option (Entry V)) Infallible → Outcome

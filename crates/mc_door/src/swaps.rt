@@ -11,7 +11,7 @@ use crate::words::array_of;
 use crate::write::Swap;
 use mc_cache::DeskError;
 use mc_cache::calls::{
-    Evicting, Showing, Swapping, SwappingIf, SwappingIfAbsent, Taking, TakingIf,
+    Evicting, Showing, Swapping, SwappingBounded, SwappingIf, SwappingIfAbsent, Taking, TakingIf,
 };
 
 #[inline(never)]
@@ -67,6 +67,25 @@ fn swap_if_absent<const V: usize, S: Caller<V>>(
     let value = array_of::<V>(value);
     let tried = side.try_call(SwappingIfAbsent(key, &value));
     in_turn!(tried, reply, made => tell::swap_if_absent(made, old, reply))
+}
+
+#[inline(never)]
+fn swap_bounded<const V: usize, S: Caller<V>>(
+    side: &mut S,
+    key: u64,
+    most: u32,
+    value: &[u64],
+    old: &mut [u64],
+    reply: &mut RawReply,
+) -> u32
+    requires width { IsWidth V }
+    requires value { length value.now ≡ V }
+    requires old { length old.old ≡ V }
+    ensures { SwapMeans V (S.role side.old) (S.role side.new) key (Swap.PutBounded most) value.now old.old old.new (record { status = result; reply = reply.new }) }
+{
+    let value = array_of::<V>(value);
+    let tried = side.try_call(SwappingBounded(key, most, &value));
+    in_turn!(tried, reply, made => tell::swap_bounded(made, old, reply))
 }
 
 #[inline(never)]
@@ -150,6 +169,7 @@ pub(crate) fn swap<const V: usize, S: Caller<V>>(
         Swap::Put => swap_in(side, key, value, old, reply),
         Swap::PutIf(since) => swap_if(side, key, since, value, old, reply),
         Swap::PutIfAbsent => swap_if_absent(side, key, value, old, reply),
+        Swap::PutBounded(most) => swap_bounded(side, key, most, value, old, reply),
         Swap::Remove => take::<V, S>(side, key, old, reply),
         Swap::RemoveIf(since) => take_if::<V, S>(side, key, since, old, reply),
         Swap::Evict => evict::<V, S>(side, key, old, reply),

@@ -1,14 +1,14 @@
 //! Writes the answer of a write to C's reply, each form of it by itself. A refusal and a put that failed are out of line, which saves
 //! registers.
 ghost use Rattle.std.specs.Prelude.{◌≡◌, Err, length};
-ghost use Rattle.mc_door.specs.Swaps.{left_by, old_of_evict, old_of_shown, old_of_swap, old_of_swap_if, old_of_swap_if_absent, old_of_take};
-ghost use Rattle.mc_door.specs.Tellings.{done_told, evict_told, not_put_told, plain, put_if_absent_told, put_if_told, put_told, removal_told, shown_told, swap_if_absent_told, swap_if_told, swap_told, stamped, take_if_told, take_told};
+ghost use Rattle.mc_door.specs.Swaps.{left_by, old_of_bounded, old_of_evict, old_of_shown, old_of_swap, old_of_swap_if, old_of_swap_if_absent, old_of_take};
+ghost use Rattle.mc_door.specs.Tellings.{bounded_told, done_told, evict_told, kept_told, left_status, not_evicted_told, not_put_told, plain, put_if_absent_told, put_if_told, put_told, removal_told, shown_told, swap_if_absent_told, swap_if_told, swap_told, stamped, take_if_told, take_told};
 
-use crate::outcome::{Outcome, RawReply};
+use crate::outcome::{EVICTED, Outcome, RawReply};
 use crate::status;
 use mc_cache::{
-    AbsentError, Entry, Evict, EvictError, IfError, Put, PutError, Remove, Replaced, Spent,
-    Swapped, Take,
+    AbsentError, Bounded, Entry, Evict, EvictError, IfError, Put, PutError, Remove, Replaced, Spent,
+    Swapped, Take, Why,
 };
 use std::convert::Infallible;
 
@@ -125,6 +125,57 @@ pub(crate) fn swap<const V: usize>(
     }
 }
 
+/// The status of a put that evicts no other key, and was not made.
+pub fn left_status(why: Why) -> u32
+    ensures { result ≡ left_status why }
+{
+    match why {
+        Why::NoPath => status::NO_PATH,
+        Why::NoItem => status::NO_ITEM,
+        Why::Spent => status::SPENT,
+    }
+}
+
+fn kept(made: Result<Put, Why>, reply: &mut RawReply) -> u32
+    ensures { record { status = result; reply = reply.new } ≡ kept_told made }
+{
+    match made {
+        Ok(put) => done(put, reply),
+        Err(why) => refused(left_status(why), reply),
+    }
+}
+
+fn not_evicted(why: EvictError, reply: &mut RawReply) -> u32
+    ensures { record { status = result; reply = reply.new } ≡ not_evicted_told why }
+{
+    match why {
+        EvictError::AllRecent => refused(status::ALL_RECENT, reply),
+        EvictError::Spent => refused(status::SPENT, reply),
+    }
+}
+
+pub(crate) fn swap_bounded<const V: usize>(
+    made: Result<Bounded<V>, EvictError>,
+    old: &mut [u64],
+    reply: &mut RawReply,
+) -> u32
+    requires { length old.old ≡ V }
+    ensures told { record { status = result; reply = reply.new } ≡ bounded_told made.entry }
+    ensures old { old.new ≡ left_by (old_of_bounded made.entry) old.old }
+{
+    match made {
+        Ok(Bounded::Swapped(swapped)) => swap(swapped, old, reply),
+        Ok(Bounded::Evicted { old: evicted, put }) => {
+            let status = kept(put, reply);
+            reply.evicted = evicted.key;
+            reply.put = EVICTED;
+            give(Some(evicted), old, reply);
+            status
+        }
+        Err(why) => not_evicted(why, reply),
+    }
+}
+
 pub(crate) fn swap_if_absent<const V: usize>(
     made: Result<Swapped<V>, AbsentError>,
     old: &mut [u64],
@@ -215,8 +266,7 @@ pub(crate) fn evict<const V: usize>(
             status
         }
         Ok(Evict::Empty { at }) => Outcome::at(status::ABSENT, at).tell(reply),
-        Err(EvictError::AllRecent) => refused(status::ALL_RECENT, reply),
-        Err(EvictError::Spent) => refused(status::SPENT, reply),
+        Err(why) => not_evicted(why, reply),
     }
 }
 

@@ -36,6 +36,8 @@ pub enum Swap {
     /// A put of a key whose last put was at this moment.
     PutIf(u64),
     PutIfAbsent,
+    /// A put into a shard that is to hold at most so many keys.
+    PutBounded(u32),
     /// A removal. It has no value.
     Remove,
     /// A removal of a key whose last put was at this moment. It has no value.

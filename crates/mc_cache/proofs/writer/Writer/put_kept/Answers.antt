@@ -9,6 +9,9 @@ returns-in-Ok-clause-plain g c = kept_means g.row.V c.args.cache.now c.cache.ins
 pub returns-in-Err-clause-plain : goal.returns-in-Err-clause-plain
 returns-in-Err-clause-plain g c = kept_means g.row.V c.args.cache.now c.cache.inside.cells c.args.self.now c.self.inside.seat c.cache.view_is c.self.view_is c.requires.of c.put_kept.new.seat c.args.key c.args.value (Err c.in-Err.why) c.in-Err.ensures.called
 
+pub returns-in-Ok-clause-at : goal.returns-in-Ok-clause-at
+returns-in-Ok-clause-at g c = kept_at g.row.V c.args.cache.now c.cache.inside.cells c.args.self.now c.self.inside.seat c.cache.view_is c.self.view_is c.requires.of c.put_kept.new.seat c.args.key c.args.value c.in-Ok.done c.in-Ok.ensures.called
+
 pub invariant_of-self : goal.invariant_of-self
 invariant_of-self g c =
     let at = kept_at g.row.V c.args.cache.now c.cache.inside.cells c.args.self.now c.self.inside.seat c.cache.view_is c.self.view_is c.requires.of c.put_kept.new.seat c.args.key c.args.value c.in-Ok.done c.in-Ok.ensures.called in
