@@ -1,15 +1,15 @@
 //! Handles are opened, with entries.
 ghost use Rattle.std.specs.Prelude.{◌≡◌, ◌≢◌, ◌<◌, ◌^◌, ◌↔◌, All, EachIndex, IsTrue, MatchResult, length, slice_index};
 ghost use Rattle.mc_words.specs.Places.{IsWidth};
-ghost use Rattle.cefrodil.specs.Loading.{AreEntries, AreLoaded, RefusesWith, entry_status, left_status};
+ghost use Rattle.cefrodil.specs.Loading.{AreEntries, AreLoaded, RefusesWith, entry_status};
 ghost use Rattle.cefrodil.specs.Openings.{IsClosed, RefusesAsked, RefusesHandles, RefusesOpen};
 ghost use Rattle.cefrodil.specs.RawShapes.{HasMix, HasPolicy, IsPolicyOf, IsShapeOf};
 
 use crate::opening::{MOST_WORDS, all_closed, asked, count_of, fill, status_of};
 use crate::raw_handle::RawHandle;
 use crate::shape::RawShape;
-use mc_door::status::{COUNT, IN_USE, NO_ITEM, NO_MEMORY, NO_PATH, OK, SPENT};
-use mc_door::{Shape, Why, open_with};
+use mc_door::status::{COUNT, IN_USE, NO_MEMORY, OK};
+use mc_door::{Shape, Why, left_status, open_with};
 use mc_words::Policy;
 use std::alloc::Global;
 

@@ -73,6 +73,23 @@ pub extern "C" fn cefrodil_swap_bounded(
     told_of_handle!(handle, reply, held => held.swap(key, Swap::PutBounded(most), value, old, reply))
 }
 
+/// Puts a key as `cefrodil_swap_bounded` does, but only if it is absent.
+#[tactic(auto, using(crate::proofs::Gives::gives_open, crate::proofs::Gives::gives_closed))]
+#[unsafe(no_mangle)]
+pub extern "C" fn cefrodil_swap_if_absent_bounded(
+    handle: &mut RawHandle,
+    key: u64,
+    most: u32,
+    value: &[u64],
+    old: &mut [u64],
+    reply: &mut RawReply,
+) -> u32
+    ensures open { handle.new.live ≡ handle.old.live }
+    ensures told { SwapGives (kept handle.old) (kept handle.new) key (Swap.PutIfAbsentBounded most) value.now old.old old.new (record { status = result; reply = reply.new }) }
+{
+    told_of_handle!(handle, reply, held => held.swap(key, Swap::PutIfAbsentBounded(most), value, old, reply))
+}
+
 /// Takes a key out, if its last put was at the moment `since`, and returns its entry.
 #[tactic(auto, using(crate::proofs::Gives::gives_open, crate::proofs::Gives::gives_closed))]
 #[unsafe(no_mangle)]

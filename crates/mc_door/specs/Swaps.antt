@@ -1,10 +1,11 @@
 -- What the writes mean that also return the entry which gives way, and the look at an item: a holder makes them, and a pass in a turn.
 use Rattle.std.specs.Prelude.{ℕ, ◌≡◌, ◌≢◌, ◌⊎◌, List, length, Option, Some, None, Result, Ok, Err}
 use Rattle.std.specs.declared.convert.Infallible.{Infallible}
-use Rattle.mc_cache.specs.CallContracts.{evict_contract, show_contract, swap_bounded_contract, swap_contract, swap_if_absent_contract, swap_if_contract, take_contract, take_if_contract}
+use Rattle.mc_cache.specs.CallContracts.{evict_contract, show_contract, swap_bounded_contract, swap_contract, swap_if_absent_bounded_contract, swap_if_absent_contract, swap_if_contract, take_contract, take_if_contract}
 use Rattle.mc_cache.specs.TurnCalls.{Contract}
 use Rattle.mc_cache.specs.declared.bounding.Bounded.{Bounded}
 use Rattle.mc_cache.specs.declared.bounding.Bounded.TheVariants as bounded
+use Rattle.mc_cache.specs.declared.bounding.BoundedError.{BoundedError}
 use Rattle.mc_cache.specs.declared.desk.DeskError.{DeskError}
 use Rattle.mc_cache.specs.declared.desk.DeskError.TheVariants as desk
 use Rattle.mc_writer.specs.declared.entry.Entry.{Entry}
@@ -20,7 +21,7 @@ use Rattle.mc_plan.specs.declared.answer.IfError.{IfError}
 use Rattle.mc_plan.specs.declared.answer.PutError.{PutError}
 use Rattle.mc_plan.specs.declared.answer.Spent.{Spent}
 use Rattle.mc_door.specs.Roles.{Role}
-use Rattle.mc_door.specs.Tellings.{bounded_told, evict_told, plain, shown_told, swap_if_absent_told, swap_if_told, swap_told, take_if_told, take_told, turn_told}
+use Rattle.mc_door.specs.Tellings.{absent_bounded_told, bounded_told, evict_told, plain, shown_told, swap_if_absent_told, swap_if_told, swap_told, take_if_told, take_told, turn_told}
 use Rattle.mc_door.specs.Tells.{HasTold}
 use Rattle.mc_door.specs.Turns.{HasCalledBy}
 use Rattle.mc_door.specs.declared.status.TheConstants.{WIDTH}
@@ -49,6 +50,10 @@ abbrev pub old_of_bounded : {V : ℕ} → Result (Bounded V) EvictError → Opti
 old_of_bounded (Ok (bounded.Swapped told)) = old_of_swap told
 old_of_bounded (Ok (bounded.Evicted old put)) = Some old
 old_of_bounded (Err why) = None
+
+abbrev pub old_of_absent_bounded : {V : ℕ} → Result (Bounded V) BoundedError → Option (Entry V)
+old_of_absent_bounded (Ok done) = old_of_bounded (Ok done)
+old_of_absent_bounded (Err why) = None
 
 abbrev pub old_of_swap_if : {V : ℕ} → Result (Replaced V) IfError → Option (Entry V)
 old_of_swap_if (Ok replaced) = Some replaced.old
@@ -85,6 +90,7 @@ SwapIs V Is key call.Put v = Is (Swapped V) PutError (swap_contract V key v) swa
 SwapIs V Is key (call.PutIf since) v = Is (Replaced V) IfError (swap_if_contract V key since v) swap_if_told old_of_swap_if
 SwapIs V Is key call.PutIfAbsent v = Is (Swapped V) AbsentError (swap_if_absent_contract V key v) swap_if_absent_told old_of_swap_if_absent
 SwapIs V Is key (call.PutBounded most) v = Is (Bounded V) EvictError (swap_bounded_contract V key most v) bounded_told old_of_bounded
+SwapIs V Is key (call.PutIfAbsentBounded most) v = Is (Bounded V) BoundedError (swap_if_absent_bounded_contract V key most v) absent_bounded_told old_of_absent_bounded
 SwapIs V Is key call.Remove v = Is (Take V) Spent (take_contract V key) take_told old_of_take
 SwapIs V Is key (call.RemoveIf since) v = Is (Replaced V) IfError (take_if_contract V key since) take_if_told old_of_swap_if
 SwapIs V Is key call.Evict v = Is (Evict V) EvictError (evict_contract V) evict_told old_of_evict

@@ -3,6 +3,8 @@ use Rattle.std.specs.Prelude.{ℕ, Option, Some, None, Result, Ok, Err}
 use Rattle.std.specs.declared.convert.Infallible.{Infallible}
 use Rattle.mc_cache.specs.declared.bounding.Bounded.{Bounded}
 use Rattle.mc_cache.specs.declared.bounding.Bounded.TheVariants as bounded
+use Rattle.mc_cache.specs.declared.bounding.BoundedError.{BoundedError}
+use Rattle.mc_cache.specs.declared.bounding.BoundedError.TheVariants as bounded_error
 use Rattle.mc_cache.specs.declared.desk.DeskError.{DeskError}
 use Rattle.mc_cache.specs.declared.desk.DeskError.TheVariants as desk
 use Rattle.mc_plan.specs.declared.answer.AbsentError.{AbsentError}
@@ -125,6 +127,11 @@ abbrev pub bounded_told : {V : ℕ} → Result (Bounded V) EvictError → Outcom
 bounded_told (Ok (bounded.Swapped told)) = swap_told told
 bounded_told (Ok (bounded.Evicted old put)) = after_eviction old (kept_told put)
 bounded_told (Err why) = not_evicted_told why
+
+abbrev pub absent_bounded_told : {V : ℕ} → Result (Bounded V) BoundedError → Outcome
+absent_bounded_told (Ok done) = bounded_told (Ok done)
+absent_bounded_told (Err (bounded_error.Present since)) = told_since PRESENT since
+absent_bounded_told (Err (bounded_error.Evict why)) = not_evicted_told why
 
 abbrev pub swap_if_absent_told : {V : ℕ} → Result (Swapped V) AbsentError → Outcome
 swap_if_absent_told (Ok swapped) = swap_told (Ok swapped)

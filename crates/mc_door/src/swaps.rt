@@ -11,7 +11,8 @@ use crate::words::array_of;
 use crate::write::Swap;
 use mc_cache::DeskError;
 use mc_cache::calls::{
-    Evicting, Showing, Swapping, SwappingBounded, SwappingIf, SwappingIfAbsent, Taking, TakingIf,
+    Evicting, Showing, Swapping, SwappingBounded, SwappingIf, SwappingIfAbsent,
+    SwappingIfAbsentBounded, Taking, TakingIf,
 };
 
 #[inline(never)]
@@ -86,6 +87,25 @@ fn swap_bounded<const V: usize, S: Caller<V>>(
     let value = array_of::<V>(value);
     let tried = side.try_call(SwappingBounded(key, most, &value));
     in_turn!(tried, reply, made => tell::swap_bounded(made, old, reply))
+}
+
+#[inline(never)]
+fn swap_if_absent_bounded<const V: usize, S: Caller<V>>(
+    side: &mut S,
+    key: u64,
+    most: u32,
+    value: &[u64],
+    old: &mut [u64],
+    reply: &mut RawReply,
+) -> u32
+    requires width { IsWidth V }
+    requires value { length value.now ≡ V }
+    requires old { length old.old ≡ V }
+    ensures { SwapMeans V (S.role side.old) (S.role side.new) key (Swap.PutIfAbsentBounded most) value.now old.old old.new (record { status = result; reply = reply.new }) }
+{
+    let value = array_of::<V>(value);
+    let tried = side.try_call(SwappingIfAbsentBounded(key, most, &value));
+    in_turn!(tried, reply, made => tell::swap_if_absent_bounded(made, old, reply))
 }
 
 #[inline(never)]
@@ -170,6 +190,9 @@ pub(crate) fn swap<const V: usize, S: Caller<V>>(
         Swap::PutIf(since) => swap_if(side, key, since, value, old, reply),
         Swap::PutIfAbsent => swap_if_absent(side, key, value, old, reply),
         Swap::PutBounded(most) => swap_bounded(side, key, most, value, old, reply),
+        Swap::PutIfAbsentBounded(most) => {
+            swap_if_absent_bounded(side, key, most, value, old, reply)
+        }
         Swap::Remove => take::<V, S>(side, key, old, reply),
         Swap::RemoveIf(since) => take_if::<V, S>(side, key, since, old, reply),
         Swap::Evict => evict::<V, S>(side, key, old, reply),

@@ -1,14 +1,14 @@
 //! Writes the answer of a write to C's reply, each form of it by itself. A refusal and a put that failed are out of line, which saves
 //! registers.
 ghost use Rattle.std.specs.Prelude.{◌≡◌, Err, length};
-ghost use Rattle.mc_door.specs.Swaps.{left_by, old_of_bounded, old_of_evict, old_of_shown, old_of_swap, old_of_swap_if, old_of_swap_if_absent, old_of_take};
-ghost use Rattle.mc_door.specs.Tellings.{bounded_told, done_told, evict_told, kept_told, left_status, not_evicted_told, not_put_told, plain, put_if_absent_told, put_if_told, put_told, removal_told, shown_told, swap_if_absent_told, swap_if_told, swap_told, stamped, take_if_told, take_told};
+ghost use Rattle.mc_door.specs.Swaps.{left_by, old_of_absent_bounded, old_of_bounded, old_of_evict, old_of_shown, old_of_swap, old_of_swap_if, old_of_swap_if_absent, old_of_take};
+ghost use Rattle.mc_door.specs.Tellings.{absent_bounded_told, bounded_told, done_told, evict_told, kept_told, left_status, not_evicted_told, not_put_told, plain, put_if_absent_told, put_if_told, put_told, removal_told, shown_told, swap_if_absent_told, swap_if_told, swap_told, stamped, take_if_told, take_told};
 
 use crate::outcome::{EVICTED, Outcome, RawReply};
 use crate::status;
 use mc_cache::{
-    AbsentError, Bounded, Entry, Evict, EvictError, IfError, Put, PutError, Remove, Replaced, Spent,
-    Swapped, Take, Why,
+    AbsentError, Bounded, BoundedError, Entry, Evict, EvictError, IfError, Put, PutError, Remove,
+    Replaced, Spent, Swapped, Take, Why,
 };
 use std::convert::Infallible;
 
@@ -173,6 +173,24 @@ pub(crate) fn swap_bounded<const V: usize>(
             status
         }
         Err(why) => not_evicted(why, reply),
+    }
+}
+
+pub(crate) fn swap_if_absent_bounded<const V: usize>(
+    made: Result<Bounded<V>, BoundedError>,
+    old: &mut [u64],
+    reply: &mut RawReply,
+) -> u32
+    requires { length old.old ≡ V }
+    ensures told { record { status = result; reply = reply.new } ≡ absent_bounded_told made.entry }
+    ensures old { old.new ≡ left_by (old_of_absent_bounded made.entry) old.old }
+{
+    match made {
+        Ok(done) => swap_bounded(Ok(done), old, reply),
+        Err(BoundedError::Present { since }) => {
+            Outcome::since(status::PRESENT, since).tell(reply)
+        }
+        Err(BoundedError::Evict(why)) => not_evicted(why, reply),
     }
 }
 

@@ -38,6 +38,8 @@ pub enum Swap {
     PutIfAbsent,
     /// A put into a shard that is to hold at most so many keys.
     PutBounded(u32),
+    /// The same, if the key is absent.
+    PutIfAbsentBounded(u32),
     /// A removal. It has no value.
     Remove,
     /// A removal of a key whose last put was at this moment. It has no value.
