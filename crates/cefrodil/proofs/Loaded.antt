@@ -13,8 +13,7 @@ use Rattle.mc_door.specs.Loading.{HaveSeenLoads, entries_in}
 use mathlib.Core.Bool.{cond}
 use lib.Dec.{eqb}
 use Rattle.mc_plan.specs.declared.answer.Why.{Why}
-use Rattle.cefrodil.specs.Loading.{entry_status}
-use Rattle.mc_door.specs.Tellings.{left_status}
+use Rattle.cefrodil.specs.Loading.{entry_status, left_status}
 
 -- a status is written, and the others stay
 written : (statuses : List ℕ) (index i status other : ℕ) → get_or statuses i 0 ≡ other → index < length statuses → (index ≡ i) ⊎ (index ≡ i → ⊥)

@@ -1,6 +1,7 @@
 -- Handles that were opened with entries.
 use Rattle.std.specs.Prelude.{ℕ, ◌≡◌, ◌⊎◌, ◌*◌, ◌+◌, ◌==◌, [], ◌∷◌, All, EachIndex, List, if◌then◌else◌, length, slice_index}
 use Rattle.mc_plan.specs.declared.answer.Why.{Why}
+use Rattle.mc_plan.specs.declared.answer.Why.TheVariants as why
 use Rattle.mc_words.specs.Places.{IsWidth}
 use Rattle.mc_shared.specs.Records.{ReaderRecord}
 use Rattle.mc_shards.specs.Sharded.{Sharded}
@@ -9,8 +10,12 @@ use Rattle.cefrodil.specs.Openings.{IsPassAt}
 use Rattle.cefrodil.specs.RawShapes.{GoAsAsked, IsShapeOf}
 use Rattle.cefrodil.specs.declared.shape.RawShape.{RawShape}
 use Rattle.cefrodil.specs.declared.raw_handle.RawHandle.{RawHandle}
-use Rattle.mc_door.specs.Tellings.{left_status}
-use Rattle.mc_door.specs.declared.status.TheConstants.{OK, COUNT}
+use Rattle.mc_door.specs.declared.status.TheConstants.{OK, COUNT, NO_ITEM, NO_PATH, SPENT}
+
+abbrev pub left_status : Why → ℕ
+left_status why.NoPath = NO_PATH
+left_status why.NoItem = NO_ITEM
+left_status why.Spent = SPENT
 
 -- the status of the entry with this index: why it was left, if it was
 abbrev pub entry_status : List (ℕ × Why) → ℕ → ℕ

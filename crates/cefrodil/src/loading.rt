@@ -1,17 +1,27 @@
 //! Handles are opened, with entries.
 ghost use Rattle.std.specs.Prelude.{◌≡◌, ◌≢◌, ◌<◌, ◌^◌, ◌↔◌, All, EachIndex, IsTrue, MatchResult, length, slice_index};
 ghost use Rattle.mc_words.specs.Places.{IsWidth};
-ghost use Rattle.cefrodil.specs.Loading.{AreEntries, AreLoaded, RefusesWith, entry_status};
+ghost use Rattle.cefrodil.specs.Loading.{AreEntries, AreLoaded, RefusesWith, entry_status, left_status};
 ghost use Rattle.cefrodil.specs.Openings.{IsClosed, RefusesAsked, RefusesHandles, RefusesOpen};
 ghost use Rattle.cefrodil.specs.RawShapes.{HasMix, HasPolicy, IsPolicyOf, IsShapeOf};
 
 use crate::opening::{MOST_WORDS, all_closed, asked, count_of, fill, status_of};
 use crate::raw_handle::RawHandle;
 use crate::shape::RawShape;
-use mc_door::status::{COUNT, IN_USE, NO_MEMORY, OK};
-use mc_door::{Shape, Why, left_status, open_with};
+use mc_door::status::{COUNT, IN_USE, NO_ITEM, NO_MEMORY, NO_PATH, OK, SPENT};
+use mc_door::{Shape, Why, open_with};
 use mc_words::Policy;
 use std::alloc::Global;
+
+fn status_of_left(why: Why) -> u32
+    ensures { result ≡ left_status why }
+{
+    match why {
+        Why::NoPath => NO_PATH,
+        Why::NoItem => NO_ITEM,
+        Why::Spent => SPENT,
+    }
+}
 
 // Whether there are as many words as `count` entries have.
 fn are_entries(words: usize, entry_words: usize, count: usize) -> bool
@@ -54,7 +64,7 @@ fn tell_left(left: &[(usize, Why)], statuses: &mut [u32])
 {
     for told in 0..left.len() {
         let (index, why) = left[left.len() - 1 - told];
-        statuses[index] = left_status(why);
+        statuses[index] = status_of_left(why);
     }
 }
 

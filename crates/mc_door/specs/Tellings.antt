@@ -33,7 +33,7 @@ use Rattle.mc_door.specs.declared.looked.Looked.{Looked}
 use Rattle.mc_door.specs.declared.looked.Looked.TheVariants as looked
 use Rattle.mc_door.specs.declared.outcome.RawReply.{RawReply}
 use Rattle.mc_door.specs.declared.outcome.Outcome.{Outcome}
-use Rattle.mc_door.specs.declared.status.TheConstants.{OK, ABSENT, BUSY, NO_PATH, NO_ITEM, ALL_RECENT, SPENT, CHANGED, HELD, PRESENT}
+use Rattle.mc_door.specs.declared.status.TheConstants.{OK, ABSENT, BUSY, NO_PATH, ALL_RECENT, SPENT, CHANGED, HELD, PRESENT}
 use Rattle.mc_door.specs.declared.outcome.TheConstants.{NOTHING, STORED, EVICTED, RENEWED}
 
 -- a status alone
@@ -104,15 +104,12 @@ abbrev pub swap_told : {V : ℕ} → Result (Swapped V) PutError → Outcome
 swap_told (Ok swapped) = with_stamp swapped.old (done_told swapped.put)
 swap_told (Err why) = not_put_told why
 
--- why a put that evicts no other key was not made
-abbrev pub left_status : Why → ℕ
-left_status left.NoPath = NO_PATH
-left_status left.NoItem = NO_ITEM
-left_status left.Spent = SPENT
-
+-- a put that evicts no other key: if every item is in use, none has given way
 abbrev pub kept_told : Result Put Why → Outcome
 kept_told (Ok done) = done_told done
-kept_told (Err why) = plain (left_status why)
+kept_told (Err left.NoPath) = plain NO_PATH
+kept_told (Err left.NoItem) = plain ALL_RECENT
+kept_told (Err left.Spent) = plain SPENT
 
 -- an entry had left before that: the reply names it, also if the put failed
 abbrev pub after_eviction : {V : ℕ} → Entry V → Outcome → Outcome

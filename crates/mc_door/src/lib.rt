@@ -41,5 +41,4 @@ pub use outcome::{EVICTED, NOTHING, Outcome, RENEWED, RawPut, RawReply, STORED};
 pub use rest::{Rest, open, open_with};
 pub use shared::MoreError;
 pub use side::{Hand, Side};
-pub use tell::left_status;
 pub use write::{Swap, Write};

@@ -2,7 +2,7 @@
 //! registers.
 ghost use Rattle.std.specs.Prelude.{◌≡◌, Err, length};
 ghost use Rattle.mc_door.specs.Swaps.{left_by, old_of_absent_bounded, old_of_bounded, old_of_evict, old_of_shown, old_of_swap, old_of_swap_if, old_of_swap_if_absent, old_of_take};
-ghost use Rattle.mc_door.specs.Tellings.{absent_bounded_told, bounded_told, done_told, evict_told, kept_told, left_status, not_evicted_told, not_put_told, plain, put_if_absent_told, put_if_told, put_told, removal_told, shown_told, swap_if_absent_told, swap_if_told, swap_told, stamped, take_if_told, take_told};
+ghost use Rattle.mc_door.specs.Tellings.{absent_bounded_told, bounded_told, done_told, evict_told, kept_told, not_evicted_told, not_put_told, plain, put_if_absent_told, put_if_told, put_told, removal_told, shown_told, swap_if_absent_told, swap_if_told, swap_told, stamped, take_if_told, take_told};
 
 use crate::outcome::{EVICTED, Outcome, RawReply};
 use crate::status;
@@ -125,23 +125,15 @@ pub(crate) fn swap<const V: usize>(
     }
 }
 
-/// The status of a put that evicts no other key, and was not made.
-pub fn left_status(why: Why) -> u32
-    ensures { result ≡ left_status why }
-{
-    match why {
-        Why::NoPath => status::NO_PATH,
-        Why::NoItem => status::NO_ITEM,
-        Why::Spent => status::SPENT,
-    }
-}
-
+// What a put did that evicts no other key. If every item is in use, none has given way.
 fn kept(made: Result<Put, Why>, reply: &mut RawReply) -> u32
     ensures { record { status = result; reply = reply.new } ≡ kept_told made }
 {
     match made {
         Ok(put) => done(put, reply),
-        Err(why) => refused(left_status(why), reply),
+        Err(Why::NoPath) => refused(status::NO_PATH, reply),
+        Err(Why::NoItem) => refused(status::ALL_RECENT, reply),
+        Err(Why::Spent) => refused(status::SPENT, reply),
     }
 }
 
