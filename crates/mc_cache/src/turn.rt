@@ -21,7 +21,14 @@ use std::marker::PhantomData;
 /// The types of answers that have a const parameter. `TurnCall::make` names them, because the method of an `impl` could not return them
 /// otherwise. The value takes no place.
 pub type Answers<const V: usize> = PhantomData<
-    (Swapped<V>, Replaced<V>, Take<V>, Evict<V>, Entry<V>, Bounded<V>),
+    (
+        Swapped<V>,
+        Replaced<V>,
+        Take<V>,
+        Evict<V>,
+        Entry<V>,
+        Bounded<V>,
+    ),
 >;
 
 /// A call of the writer, with its arguments.
