@@ -8,8 +8,9 @@ use super::pinned::{Over, Seen};
 use super::weights::Claim;
 use crate::error::InsertError;
 use crate::generation::NONE;
+use crate::handle::{bounded, gave, Gave};
 use crate::map::Inserted;
-use cefrodil::{Handle, PutIfError, Replaced, Swapped, TurnError};
+use cefrodil::{Handle, PutIfError, Replaced, TurnError};
 use std::hash::{BuildHasher, Hash};
 use std::sync::Arc;
 use std::time::Duration;
@@ -121,6 +122,8 @@ pub(crate) type Offered<O, E = Fail> = Result<Put, (<O as Held>::Owner, E)>;
 /// Why no put was made.
 pub(crate) enum Fail {
     Insert(InsertError),
+    /// It failed so, and the object with this word left for it all the same. That is to be retired.
+    Evicted(InsertError, u64),
     /// The key must be absent, and is not.
     Present,
     NotThere {
@@ -134,6 +137,10 @@ pub(crate) enum Fail {
 }
 
 impl Fail {
+    fn of_insert(why: InsertError, lost: Option<u64>) -> Fail {
+        lost.map_or(Fail::Insert(why), |word| Fail::Evicted(why, word))
+    }
+
     fn of_condition(why: TurnError<PutIfError>) -> Fail {
         match why {
             TurnError::Call(PutIfError::NotThere { at }) => Fail::NotThere { at },
@@ -150,7 +157,7 @@ impl Fail {
             Fail::Insert(InsertError::Spent) => IfError::Spent,
             Fail::Insert(InsertError::TooHeavy) => IfError::TooHeavy,
             Fail::Insert(InsertError::TooDeep) => IfError::TooDeep,
-            Fail::Insert(_) | Fail::Present | Fail::Detached => IfError::Held,
+            Fail::Insert(_) | Fail::Evicted(..) | Fail::Present | Fail::Detached => IfError::Held,
         }
     }
 }
@@ -222,9 +229,14 @@ impl<O: Held, S> ObjectInner<O, S> {
                 claim.keep();
                 Ok(self.end(hash, done, has_evicted, tries))
             }
-            // SAFETY: `into_word` made the word of this very object. A call of the index that returns an error has put nothing, and each `put`
-            // fails only if it has made no call, or its last one failed. So no other thread has seen the word.
-            Err(why) => Err((unsafe { O::of_word(word) }, why)),
+            Err(why) => {
+                // SAFETY: `into_word` made the word of this very object. A call of the index that returns an error has put nothing, and each
+                // `put` fails only if it has made no call, or its last one failed. So no other thread has seen the word.
+                let object = unsafe { O::of_word(word) };
+                let Fail::Evicted(why, lost) = why else { return Err((object, why)) };
+                self.leaving(hash, lost).tell(Reason::Evicted);
+                Err((object, Fail::Insert(why)))
+            }
         }
     }
 
@@ -237,7 +249,7 @@ impl<O: Held, S> ObjectInner<O, S> {
             self.take_ended(hash);
         }
         let claim = Claim::of(self.weights.as_ref(), hash, object.weight()).ok_or(InsertError::TooHeavy)?;
-        let has_evicted = (self.is_too_heavy() || self.core.bound.is_full()) && self.make_room(hash, tries)?;
+        let has_evicted = self.is_too_heavy() && self.make_room(hash, tries)?;
         Ok((claim, has_evicted))
     }
 
@@ -246,6 +258,7 @@ impl<O: Held, S> ObjectInner<O, S> {
         if let Some((word, reason)) = old {
             self.leaving(hash, word).tell(reason);
         }
+        put.did = self.core.keep_bound(put.did, hash, tries, |evicted| self.end_eviction(evicted, |_, _| ()));
         if self.is_too_heavy() {
             // If there is no turn, the next put does this.
             let _ = self.evict_to_bound(tries);
@@ -277,8 +290,14 @@ impl<O: Held, S> ObjectInner<O, S> {
     pub fn put_word(&self, hash: u64, word: u64, over: Over, tries: u32) -> Result<Done, Fail> {
         match over {
             Over::Any => {
-                let swapped = self.try_to_put(word, tries, |_| self.core.slots.call(|handle| handle.try_swap(hash, &[word])));
-                Ok(self.swapped(swapped.map_err(|why| Fail::Insert(InsertError::of(why)))?))
+                let mut lost = None;
+                let swapped = self.try_to_put(word, tries, |_| {
+                    self.core.slots.call(|handle| match self.core.bound.is_full() {
+                        true => self.core.bounded(bounded(handle.try_swap_bounded(hash, 1, &[word])), |word| lost = Some(word)),
+                        false => handle.try_swap(hash, &[word]).map(gave),
+                    })
+                });
+                Ok(self.swapped(swapped.map_err(|why| Fail::of_insert(InsertError::of(why), lost))?))
             }
             Over::Absent => self.put_absent(hash, word, tries, None),
             Over::AbsentIn(generation) => self.put_absent(hash, word, tries, Some(generation)),
@@ -291,26 +310,30 @@ impl<O: Held, S> ObjectInner<O, S> {
     }
 
     fn put_absent(&self, hash: u64, word: u64, tries: u32, made_in: Option<u64>) -> Result<Done, Fail> {
-        let swap = |handle: &mut Handle<1>| handle.try_swap_if_absent(hash, &[word]);
+        let mut lost = None;
+        let mut swap = |handle: &mut Handle<1>| match self.core.bound.is_full() {
+            true => self.core.bounded(bounded(handle.try_swap_if_absent_bounded(hash, 1, &[word])), |word| lost = Some(word)),
+            false => handle.try_swap_if_absent(hash, &[word]).map(gave),
+        };
         let swapped = self.try_to_put(word, tries, |_| match made_in {
-            None => self.core.slots.call(swap),
-            Some(generation) => self.core.in_generation(hash, generation, swap),
+            None => self.core.slots.call(&mut swap),
+            Some(generation) => self.core.in_generation(hash, generation, &mut swap),
         });
-        let swapped = swapped.map_err(|why| InsertError::of_absent(why).map_or(Fail::Present, Fail::Insert));
-        Ok(self.swapped(swapped?))
+        let fail = |why| InsertError::of_absent(why).map_or(Fail::Present, |why| Fail::of_insert(why, lost));
+        Ok(self.swapped(swapped.map_err(fail)?))
     }
 
     fn replaced(&self, Replaced { at, old }: Replaced<1>) -> Done {
-        self.core.count_put(Inserted::Renewed);
+        self.core.slots.count_put(Inserted::Renewed);
         let put = Put { did: Inserted::Renewed, at };
         Done { put, old: Some((old.value[0], Reason::Replaced)) }
     }
 
-    fn swapped(&self, Swapped { put, old }: Swapped<1>) -> Done {
+    fn swapped(&self, (put, old): Gave) -> Done {
         let (at, did) = (put.at(), Inserted::of(put));
-        self.core.count_put(did);
+        self.core.slots.count_put(did);
         let reason = if let Inserted::Evicted = did { Reason::Evicted } else { Reason::Replaced };
-        Done { put: Put { did, at }, old: old.map(|old| (old.value[0], reason)) }
+        Done { put: Put { did, at }, old: old.map(|word| (word, reason)) }
     }
 }
 
