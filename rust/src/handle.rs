@@ -1,6 +1,8 @@
 //! A thread's handle of a cache.
 use crate::counts::Meter;
-use crate::error::{BoundedError, EvictError, Held, ListError, MoreError, PutError, PutIfAbsentError, PutIfError, Spent, TurnError};
+use crate::error::{
+    BoundedError, EvictError, Held, ListError, MoreError, PutError, PutIfAbsentError, PutIfError, Spent, TurnError,
+};
 use crate::open_handle::{openings, OpenHandle};
 use crate::raw;
 use crate::reply::{self, Entry, Evict, Put, Removal, Replaced, Reply, Swapped, Take};
