@@ -110,22 +110,16 @@ impl<H: Index + 'static, V> Core<H, V> {
 
     /// Counts what left for the bound by this put of the index. If the put failed, calls `lost` with its word.
     pub fn bounded<E>(&self, put: Bounded<E>, lost: impl FnOnce(u64)) -> Result<Gave, TurnError<E>> {
-        match put {
-            Ok(did) => {
-                if let (Put::Stored { .. }, Some(_)) = did {
-                    self.slots.count(Kind::EvictedByCapacity);
-                }
-                Ok(did)
-            }
-            Err(TurnError::Held) => Err(TurnError::Held),
-            Err(TurnError::Call((why, left))) => {
-                if let Some(word) = left {
-                    self.count_left(Kind::Evicted, Kind::EvictedByCapacity);
-                    lost(word);
-                }
-                Err(TurnError::Call(why))
-            }
+        if let Ok((Put::Stored { .. }, Some(_))) = put {
+            self.slots.count(Kind::EvictedByCapacity);
         }
+        put.map_err(|why| match why {
+            TurnError::Held => TurnError::Held,
+            TurnError::Call((why, left)) => {
+                left.inspect(|_| self.count_left(Kind::Evicted, Kind::EvictedByCapacity)).map(lost);
+                TurnError::Call(why)
+            }
+        })
     }
 
     /// After a put under this hash that did this, and was counted: if there are too many entries then, evicts others. Returns what the put did with that.
@@ -140,18 +134,12 @@ impl<H: Index + 'static, V> Core<H, V> {
 
     // If other threads have turns that it needs, a later put does this. Returns whether it evicted some.
     #[inline(never)]
-    fn evict_above(&self, hash: u64, tries: u32, mut left: impl FnMut(Evicted)) -> bool {
+    fn evict_above(&self, hash: u64, tries: u32, left: impl FnMut(Evicted)) -> bool {
         // Of threads that put at the same time, the last one sees what all have counted.
         fence(SeqCst);
-        let mut has_evicted = false;
-        if self.slots.entries() >= self.bound.most() {
-            // The new key's shard comes last.
-            let _ = self.evict_to_bound(repeat(Some(hash.wrapping_add(1 << SHARD))), tries, |evicted| {
-                has_evicted = true;
-                left(evicted);
-            });
-        }
-        has_evicted
+        // The new key's shard comes last.
+        let next = hash.wrapping_add(1 << SHARD);
+        self.slots.entries() >= self.bound.most() && self.evict_to_bound(repeat(Some(next)), tries, left).0
     }
 
     /// Changes the bound, and evicts what is too much.
@@ -164,28 +152,23 @@ impl<H: Index + 'static, V> Core<H, V> {
         let hashes = self.list(self.tries, Index::keys).unwrap_or_default();
         let excess = hashes.len().saturating_sub(most);
         let spread = (0..excess).map(|number| Some(hashes[number * hashes.len() / excess])).chain(repeat(None));
-        self.evict_to_bound(spread, self.tries, left).map_err(|why| self.refused(CapacityError::Evict(why)))
+        self.evict_to_bound(spread, self.tries, left).1.map_err(|why| self.refused(CapacityError::Evict(why)))
     }
 
     // Evicts until the entries are within the bound: each in the shard of the next hash, if there is one, or in a later shard. It looks before each
-    // eviction, since other threads may evict the same excess. Notes whether the map is full then.
+    // eviction, since other threads may evict the same excess. Notes whether the map is full then. Returns whether it evicted some, and why no more.
     fn evict_to_bound(
         &self,
         mut hashes: impl Iterator<Item = Option<u64>>,
         tries: u32,
         mut left: impl FnMut(Evicted),
-    ) -> Result<(), RemoveError> {
-        let mut told = Ok(());
-        while self.slots.entries() > self.bound.most() {
+    ) -> (bool, Result<(), RemoveError>) {
+        let (mut has_evicted, mut last) = (false, Ok(Some(())));
+        while last == Ok(Some(())) && self.slots.entries() > self.bound.most() {
             let hash = hashes.next().flatten();
-            match self.evict(|| self.bound.shards_from(hash), tries, Kind::EvictedByCapacity) {
-                Ok(Some(evicted)) => left(evicted),
-                Ok(None) => break,
-                Err(why) => {
-                    told = Err(why);
-                    break;
-                }
-            }
+            let evicted = self.evict(|| self.bound.shards_from(hash), tries, Kind::EvictedByCapacity);
+            last = evicted.map(|evicted| evicted.map(&mut left));
+            has_evicted |= last == Ok(Some(()));
         }
         // Not if there are more: then the next put of a new key evicts them.
         let is_full = || self.bound.is_below_room() && self.slots.entries() == self.bound.most();
@@ -195,6 +178,6 @@ impl<H: Index + 'static, V> Core<H, V> {
         if self.bound.is_full() && !is_full() {
             self.bound.is_full.store(false, Relaxed);
         }
-        told
+        (has_evicted, last.map(drop))
     }
 }

@@ -121,9 +121,8 @@ pub(crate) type Offered<O, E = Fail> = Result<Put, (<O as Held>::Owner, E)>;
 
 /// Why no put was made.
 pub(crate) enum Fail {
-    Insert(InsertError),
-    /// It failed so, and the object with this word left for it all the same. That is to be retired.
-    Evicted(InsertError, u64),
+    /// With the word of an object that left for the put all the same: that is retired by `offer`.
+    Insert(InsertError, Option<u64>),
     /// The key must be absent, and is not.
     Present,
     NotThere {
@@ -137,16 +136,12 @@ pub(crate) enum Fail {
 }
 
 impl Fail {
-    fn of_insert(why: InsertError, lost: Option<u64>) -> Fail {
-        lost.map_or(Fail::Insert(why), |word| Fail::Evicted(why, word))
-    }
-
     fn of_condition(why: TurnError<PutIfError>) -> Fail {
         match why {
             TurnError::Call(PutIfError::NotThere { at }) => Fail::NotThere { at },
             TurnError::Call(PutIfError::Changed { since }) => Fail::Changed { since },
-            TurnError::Call(_) => Fail::Insert(InsertError::Spent),
-            TurnError::Held => Fail::Insert(InsertError::Held),
+            TurnError::Call(_) => Fail::Insert(InsertError::Spent, None),
+            TurnError::Held => Fail::Insert(InsertError::Held, None),
         }
     }
 
@@ -154,10 +149,10 @@ impl Fail {
         match self {
             Fail::NotThere { at } => IfError::NotThere { at },
             Fail::Changed { since } => IfError::Changed { since },
-            Fail::Insert(InsertError::Spent) => IfError::Spent,
-            Fail::Insert(InsertError::TooHeavy) => IfError::TooHeavy,
-            Fail::Insert(InsertError::TooDeep) => IfError::TooDeep,
-            Fail::Insert(_) | Fail::Evicted(..) | Fail::Present | Fail::Detached => IfError::Held,
+            Fail::Insert(InsertError::Spent, _) => IfError::Spent,
+            Fail::Insert(InsertError::TooHeavy, _) => IfError::TooHeavy,
+            Fail::Insert(InsertError::TooDeep, _) => IfError::TooDeep,
+            Fail::Insert(..) | Fail::Present | Fail::Detached => IfError::Held,
         }
     }
 }
@@ -167,7 +162,7 @@ impl<O: Held, S> ObjectInner<O, S> {
     pub fn put(&self, hash: u64, object: O::Owner, tries: u32) -> Offered<O, InsertError> {
         self.detach(hash);
         self.put_over(hash, object, Over::Any, tries).map_err(|(object, why)| match why {
-            Fail::Insert(why) => (object, why),
+            Fail::Insert(why, _) => (object, why),
             _ => unreachable!("this put does not ask what is there"),
         })
     }
@@ -186,7 +181,7 @@ impl<O: Held, S> ObjectInner<O, S> {
             self.detach(hash);
             match self.put_over(hash, object, over, self.core.tries) {
                 Ok(put) => return Ok(put),
-                Err((back, Fail::Insert(why))) => return Err((back, why.into())),
+                Err((back, Fail::Insert(why, _))) => return Err((back, why.into())),
                 Err((back, _)) => object = back,
             }
         }
@@ -221,7 +216,7 @@ impl<O: Held, S> ObjectInner<O, S> {
     pub fn offer(&self, hash: u64, object: O::Owner, tries: u32, put: impl FnOnce(u64) -> Result<Done, Fail>) -> Offered<O> {
         let (claim, has_evicted) = match self.admit(hash, &object, tries) {
             Ok(admitted) => admitted,
-            Err(why) => return Err((object, Fail::Insert(why))),
+            Err(why) => return Err((object, Fail::Insert(why, None))),
         };
         let word = O::into_word(object);
         match put(word) {
@@ -230,12 +225,12 @@ impl<O: Held, S> ObjectInner<O, S> {
                 Ok(self.end(hash, done, has_evicted, tries))
             }
             Err(why) => {
+                if let Fail::Insert(_, Some(lost)) = why {
+                    self.leaving(hash, lost).tell(Reason::Evicted);
+                }
                 // SAFETY: `into_word` made the word of this very object. A call of the index that returns an error has put nothing, and each
                 // `put` fails only if it has made no call, or its last one failed. So no other thread has seen the word.
-                let object = unsafe { O::of_word(word) };
-                let Fail::Evicted(why, lost) = why else { return Err((object, why)) };
-                self.leaving(hash, lost).tell(Reason::Evicted);
-                Err((object, Fail::Insert(why)))
+                Err((unsafe { O::of_word(word) }, why))
             }
         }
     }
@@ -297,7 +292,7 @@ impl<O: Held, S> ObjectInner<O, S> {
                         false => handle.try_swap(hash, &[word]).map(gave),
                     })
                 });
-                Ok(self.swapped(swapped.map_err(|why| Fail::of_insert(InsertError::of(why), lost))?))
+                Ok(self.swapped(swapped.map_err(|why| Fail::Insert(InsertError::of(why), lost))?))
             }
             Over::Absent => self.put_absent(hash, word, tries, None),
             Over::AbsentIn(generation) => self.put_absent(hash, word, tries, Some(generation)),
@@ -319,7 +314,7 @@ impl<O: Held, S> ObjectInner<O, S> {
             None => self.core.slots.call(&mut swap),
             Some(generation) => self.core.in_generation(hash, generation, &mut swap),
         });
-        let fail = |why| InsertError::of_absent(why).map_or(Fail::Present, |why| Fail::of_insert(why, lost));
+        let fail = |why| InsertError::of_absent(why).map_or(Fail::Present, |why| Fail::Insert(why, lost));
         Ok(self.swapped(swapped.map_err(fail)?))
     }
 
