@@ -158,9 +158,11 @@ class Table : public Entries<Packing<V, Times::moments>::words>, private Packing
     Stored put(const Identity &key, const V &value, const Life &life = {}) noexcept {
         sweep(key.index);
         const Ends ends = Times::ends(life);
+        if (this->is_full()) {
+            return kept(key.index, put_bounded(key, value, ends));
+        }
         return kept(key.index, this->locked(key.index, [this, key, ends, &value](Slot<words> &slot) {
-            const Words packed = pack_in(generations.now(), key, ends, value);
-            return this->is_full() ? slot.put_bounded(key.index, packed) : slot.put(key.index, packed);
+            return slot.put(key.index, pack_in(generations.now(), key, ends, value));
         }));
     }
     // Puts if the key is absent. An entry of an older generation gives way, and so does another key's entry under the same number.
@@ -246,11 +248,20 @@ class Table : public Entries<Packing<V, Times::moments>::words>, private Packing
     Status evict(uint64_t near) noexcept {
         return this->left(this->call([near](Slot<words> &slot) { return slot.evict(near, by_capacity).status; }));
     }
+    // In a full map. It is compiled apart: other puts are quicker then.
+    [[gnu::noinline]] Stored put_bounded(const Identity &key, const V &value, const Ends &ends) noexcept {
+        return told(this->locked(key.index, [this, &key, &ends, &value](Slot<words> &slot) {
+            return slot.put_bounded(key.index, pack_in(generations.now(), key, ends, value));
+        }));
+    }
+    // The answer of a put that may have failed once another entry had left for it.
+    Stored told(const Stored &put) noexcept {
+        put.evicted && put.status != Status::ok ? void(this->left(Status::ok)) : void();
+        return put;
+    }
     // The answer of a put, after which others are evicted if there are too many.
     [[gnu::always_inline]] Stored kept(uint64_t index, Stored put) noexcept {
-        if (put.status != Status::ok) {
-            this->left(put.evicted ? Status::ok : put.status);
-        } else if (!put.renewed && !put.evicted) {
+        if (!put.renewed && !put.evicted && put.status == Status::ok) {
             put.evicted = this->keep_bound(index, [this](uint64_t near) { return evict(near); });
         }
         return put;
@@ -341,7 +352,7 @@ class Table : public Entries<Packing<V, Times::moments>::words>, private Packing
         for (uint32_t repeat = 0;; repeat++) {
             const Stored put = this->locked(key.index, make);
             if (put.status != Status::present) {
-                return kept(key.index, put);
+                return kept(key.index, told(put));
             }
             const uint64_t generation = begun();
             const Identity known = in_generation(key, generation);
