@@ -97,6 +97,12 @@ OF_PROCESS(swap_if, (cefrodil_handle *handle, uint64_t key, uint64_t since, cons
 OF_PROCESS(swap_if_absent, (cefrodil_handle *handle, uint64_t key, const uint64_t *value, size_t words, uint64_t *old, size_t old_words,
                             cefrodil_reply *reply),
            (handle, key, value, words, old, old_words, reply))
+OF_PROCESS(swap_bounded, (cefrodil_handle *handle, uint64_t key, uint32_t most, const uint64_t *value, size_t words, uint64_t *old,
+                          size_t old_words, cefrodil_reply *reply),
+           (handle, key, most, value, words, old, old_words, reply))
+OF_PROCESS(swap_if_absent_bounded, (cefrodil_handle *handle, uint64_t key, uint32_t most, const uint64_t *value, size_t words, uint64_t *old,
+                                    size_t old_words, cefrodil_reply *reply),
+           (handle, key, most, value, words, old, old_words, reply))
 OF_PROCESS(take, (cefrodil_handle *handle, uint64_t key, uint64_t *old, size_t old_words, cefrodil_reply *reply),
            (handle, key, old, old_words, reply))
 OF_PROCESS(take_if, (cefrodil_handle *handle, uint64_t key, uint64_t since, uint64_t *old, size_t old_words, cefrodil_reply *reply),

@@ -13,13 +13,13 @@ METHODS = {
     ('Rust', 'writing'): (('rust/src/writing.rs', '', None),),
 }
 # What each_call.c passes for a parameter. Another one is passed by its own name.
-PASSED = {'handle': 'handle', 'near': 'key', 'item': '0', 'words': 'words', 'old_words': 'words', 'value_words': 'words', 'entry_words': 'ROOM',
-          'key_count': '1', 'answer_count': '1', 'reply': '&told.reply', 'len': '&told.len', 'moment': '&told.moment', 'capacity': '&told.capacity'}
+PASSED = {'handle': 'handle', 'near': 'key', 'item': '0', 'most': '1', 'words': 'words', 'old_words': 'words', 'value_words': 'words',
+          'entry_words': 'ROOM', 'key_count': '1', 'answer_count': '1', 'reply': '&told.reply', 'len': '&told.len', 'moment': '&told.moment', 'capacity': '&told.capacity'}
 # What a test in C++ passes for a parameter.
-IN_CXX = {'key': '1', 'near': '1', 'item': '0', 'since': '1', 'tries': '1', 'value': '{1}', 'keys': 'nullptr, 0', 'values': 'nullptr', 'answers': 'nullptr',
-          'moment': 'number', 'len': 'number', 'capacity': 'number', 'entries': 'list', 'handles': '1, handles'}
+IN_CXX = {'key': '1', 'near': '1', 'item': '0', 'most': '1', 'since': '1', 'tries': '1', 'value': '{1}', 'keys': 'nullptr, 0', 'values': 'nullptr',
+          'answers': 'nullptr', 'moment': 'number', 'len': 'number', 'capacity': 'number', 'entries': 'list', 'handles': '1, handles'}
 # What a test in Rust passes.
-IN_RUST = {'key': '7', 'near': '7', 'item': '0', 'since': '1', 'tries': '3', 'value': '&[71]'}
+IN_RUST = {'key': '7', 'near': '7', 'item': '0', 'most': '1', 'since': '1', 'tries': '3', 'value': '&[71]'}
 
 
 def row_of(row, calls):

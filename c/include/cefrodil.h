@@ -158,7 +158,8 @@ CEFRODIL_SAME_SIZE(sizeof(cefrodil_put_answer) == 40, "as the library lays it ou
 
 /* In the repository a program, .ci/calls, writes the lines from each mark with its name to the next `end`. Comments above prototypes are by hand. */
 
-/* The status that a call returns. After any status but OK, no key and no value was changed by the call. */
+/* The status that a call returns. After any status but OK, no key and no value was changed by the call, unless a bounded put says that a key
+ * has left. */
 typedef enum cefrodil_status {
     /* .ci/calls: statuses */
     CEFRODIL_OK = 0,           /* done: found, put, removed, opened or closed */
@@ -301,7 +302,7 @@ CEFRODIL_CALL cefrodil_status cefrodil_put_many(cefrodil_handle *handle, const u
 CEFRODIL_CALL cefrodil_status cefrodil_put_within(cefrodil_handle *handle, uint32_t tries, uint64_t key, const uint64_t *value,
                                                   size_t words, cefrodil_reply *reply);
 
-/* Like cefrodil_put, cefrodil_put_if, cefrodil_put_if_absent and cefrodil_remove, and they also return the entry that gives way: the key's
+/* Like cefrodil_put, cefrodil_put_if and cefrodil_put_if_absent, and they also return the entry that gives way: the key's
  * earlier one, or that of the key that was evicted. So a program that keeps objects behind the cache knows which to free. `old` has
  * `old_words` words. OK: as for those calls. If an entry gave way, `old` is its value, and `since` the `at` of its last put. If a new key
  * evicted none, `old` is unchanged, and `since` is 0. WIDTH: `words` or `old_words` does not match. Other statuses are theirs. Unless OK,
@@ -312,6 +313,20 @@ CEFRODIL_CALL cefrodil_status cefrodil_swap_if(cefrodil_handle *handle, uint64_t
                                                uint64_t *old, size_t old_words, cefrodil_reply *reply);
 CEFRODIL_CALL cefrodil_status cefrodil_swap_if_absent(cefrodil_handle *handle, uint64_t key, const uint64_t *value, size_t words,
                                                       uint64_t *old, size_t old_words, cefrodil_reply *reply);
+
+/* Like cefrodil_swap and cefrodil_swap_if_absent, in a shard that is to hold at most `most` keys. If the key is new and its shard holds as many,
+ * and one at least, another key of the shard is evicted first, though items are free. It is all done in one turn.
+ * OK: as for those calls. PUT_EVICTED: `evicted` is the key that left, `old` its value, `since` the `at` of its last put. NO_PATH, ALL_RECENT
+ * or SPENT: the key was not put. If `put` is PUT_EVICTED all the same, a key has left before: `evicted`, `old` and `since` have its entry, so
+ * free what you keep behind it. Otherwise `put` is PUT_NOTHING, and nothing was changed. Other statuses are those of these calls. */
+CEFRODIL_CALL cefrodil_status cefrodil_swap_bounded(cefrodil_handle *handle, uint64_t key, uint32_t most, const uint64_t *value,
+                                                    size_t words, uint64_t *old, size_t old_words, cefrodil_reply *reply);
+CEFRODIL_CALL cefrodil_status cefrodil_swap_if_absent_bounded(cefrodil_handle *handle, uint64_t key, uint32_t most, const uint64_t *value,
+                                                              size_t words, uint64_t *old, size_t old_words, cefrodil_reply *reply);
+
+/* Like cefrodil_remove, and returns the entry of the key, as cefrodil_swap does.
+ * OK: `at` is set, `old` is the value, and `since` the `at` of its last put. ABSENT: `at` is set. SPENT, HELD, CLOSED, WIDTH. Unless OK, `old` is
+ * unchanged. */
 CEFRODIL_CALL cefrodil_status cefrodil_take(cefrodil_handle *handle, uint64_t key, uint64_t *old, size_t old_words, cefrodil_reply *reply);
 
 /* Like cefrodil_take, if the key's last put was at `since`, as a lookup of the key returned it. So a program that found an entry too old

@@ -65,6 +65,12 @@ template <size_t Words> class Handle : public inside::Calls<Words> {
     [[nodiscard]] Swapped<Words> try_swap(uint64_t key, const Value &value) noexcept { return this->swap(key, value); }
     [[nodiscard]] Swapped<Words> try_swap_if(uint64_t key, uint64_t since, const Value &value) noexcept { return this->swap_if(key, since, value); }
     [[nodiscard]] Swapped<Words> try_swap_if_absent(uint64_t key, const Value &value) noexcept { return this->swap_if_absent(key, value); }
+    // The same in a shard that is to hold at most `most` keys. If the key is new and its shard holds as many, another key of it leaves first, though
+    // items are free. If the put fails then, `evicted` and `old` have what left all the same.
+    [[nodiscard]] Swapped<Words> try_swap_bounded(uint64_t key, uint32_t most, const Value &value) noexcept { return this->swap_bounded(key, most, value); }
+    [[nodiscard]] Swapped<Words> try_swap_if_absent_bounded(uint64_t key, uint32_t most, const Value &value) noexcept {
+        return this->swap_if_absent_bounded(key, most, value);
+    }
     [[nodiscard]] Swapped<Words> try_take(uint64_t key) noexcept { return this->take(key); }
     // Takes the entry whose put was at `since`, and no later one.
     [[nodiscard]] Swapped<Words> try_take_if(uint64_t key, uint64_t since) noexcept { return this->take_if(key, since); }
@@ -155,6 +161,8 @@ template <size_t Words> class Writing : private inside::Calls<Words> {
     using Calls::get, Calls::put, Calls::put_if, Calls::put_if_absent, Calls::remove;
     // Like put, put_if, put_if_absent and remove, and they also return the entry that gives way.
     using Calls::swap, Calls::swap_if, Calls::swap_if_absent, Calls::take;
+    // As Handle::try_swap_bounded and Handle::try_swap_if_absent_bounded.
+    using Calls::swap_bounded, Calls::swap_if_absent_bounded;
     // Takes the entry whose put was at `since`, and no later one.
     using Calls::take_if;
     // As Handle::try_evict and Handle::try_entry_at.

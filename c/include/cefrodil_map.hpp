@@ -69,9 +69,8 @@ template <class V> inline constexpr bool is_map_value = is_value<V> && words_of<
 // find no other: they are slower, and `shared_calls` counts their calls. Each thread that calls a map takes 4 kB more.
 struct MapOptions {
     uint32_t entries;         // 1 or more: the map has room for so many; `capacity` is about a tenth more at most
-    uint32_t shards = 0;      // a power of two, 1 to 256: so many threads can write at once. 0: one for each 2,500 entries, 16 at most. If others
-                              // have more room, the map holds a tenth more than `entries`, as by `set_capacity`: then a put of a new key into a full
-                              // map takes twice as long
+    uint32_t shards = 0;      // a power of two, 1 to 256: so many threads can write at once. 0: one for each 125 entries, 16 at most. If they have more
+                              // room, the map holds a tenth more than `entries`, as by `set_capacity`
     uint32_t passes = 1 + 64; // 1 to 1,024, with the shared one
     uint32_t tries = 10000;   // how often a call is repeated that other threads keep from its turn. This takes over a second. A lookup is repeated
                               // 1,000 times at most, which takes over a tenth of a second.
@@ -105,10 +104,10 @@ template <class Inner> class AnyMap {
     uint64_t size() const noexcept { return inner_ ? inner_->entries.keys() : 0; }
     // How many keys the map holds at most. Each shard evicts for itself, so the first eviction may come before the map is full.
     uint64_t capacity() const noexcept { return inner_ ? inner_->entries.capacity() : 0; }
-    // Changes that: to 1 and more, up to the room of all shards, which is the first `capacity` or more. It evicts keys until no more are left. Where a
-    // full map has room in its shards, a put of a new key first evicts what is too much, in its own shard first. If another thread has a turn just then, a
-    // later put does so. A put that fails may have made others leave. bad_capacity: nothing was done.
-    // held: not all have left, as other threads were first; later puts go on. Of an object_map, too_deep. closed.
+    // Changes that: to 1 and more, up to the room of all shards, which is the first `capacity` or more. It evicts keys until no more are left. In a
+    // full map another key of the same shard leaves for a new one. A put that fails may have made others leave. While threads put, there may be some
+    // keys more: a later put evicts these. bad_capacity: nothing was done. held: not all have left, as other threads were first; later puts go on. Of an
+    // object_map, too_deep. closed.
     [[nodiscard]] Status set_capacity(uint64_t most) noexcept { return inner_ ? inner_->entries.set_capacity(most) : Status::closed; }
     // How many calls of the index threads without a pass of their own made. They wait for each other. If there are many, open the map with more passes.
     uint64_t shared_calls() const noexcept { return inner_ ? inner_->entries.shared_calls() : 0; }

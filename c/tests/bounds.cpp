@@ -3,6 +3,7 @@
 #include "cefrodil_object_map.hpp"
 #include "in_threads.hpp"
 #include "must.h"
+#include "tracked.hpp"
 #include <cstdlib>
 #include <map>
 
@@ -18,12 +19,11 @@ template <class Map> static void fill(Map &map, uint64_t first, uint64_t count) 
     }
 }
 
-// A map has room for what was asked for, and for a tenth more at most: by the shards of the default, which may have a few more, and by others.
+// A map has room for what was asked for, and for a tenth more at most.
 template <class Map> static void sizes() {
     for (const cefrodil::MapOptions &options : {cefrodil::MapOptions{500}, {500, 1}, {500, 4}, {500, 16}, {10000}, {10000, 8}, {40000}}) {
         Map map;
-        const uint64_t tenth = options.entries / 10 + (options.shards == 0 ? options.entries / 400 : 0);
-        MUST(map.open(options) == Status::ok && map.capacity() >= options.entries && map.capacity() <= options.entries + tenth);
+        MUST(map.open(options) == Status::ok && map.capacity() >= options.entries && map.capacity() <= options.entries + options.entries / 10);
         fill(map, 0, options.entries);
         MUST(map.size() == options.entries && map.counts().evictions == 0);
         fill(map, options.entries, 4 * options.entries);
@@ -167,6 +167,95 @@ template <class Map> static void threads(uint64_t puts) {
     MUST(map.set_capacity(200) == Status::ok && map.size() <= 200 && map.insert(UINT64_MAX, 1).status == Status::ok && map.size() <= 200);
 }
 
+// Entries of a list, and their number by the counts. All threads have ended.
+template <class Map> static uint64_t listed(Map &map) {
+    uint64_t there = 0;
+    MUST(map.for_each([&](uint64_t, uint64_t) { there++; }) == Status::ok && there == map.size() && there == map.counts().entries);
+    return there;
+}
+
+// In a full map each new key drives out another one, also if threads put them at once.
+template <class Map> static void full(uint32_t thread_count, uint64_t puts) {
+    Map map;
+    MUST(map.open({1000}) == Status::ok && map.capacity() == 1100);
+    in_threads(thread_count, [&](uint64_t thread) {
+        for (uint64_t n = 0; n < puts; n++) {
+            const uint64_t key = n * thread_count + thread;
+            const auto stored = n % 2 == 0 ? map.insert(key, uint64_t(n)) : map.insert_or_assign(key, uint64_t(n));
+            MUST(stored.status == Status::ok && !stored.renewed);
+        }
+    });
+    const cefrodil::Counts counts = map.counts();
+    MUST(listed(map) == 1100 && counts.evictions == puts * thread_count - 1100 && counts.evicted_by_capacity == counts.evictions);
+    MUST(map.insert(UINT64_MAX, 1).evicted && map.find_or_compute(UINT64_MAX - 1, [] { return 1; }).computed && listed(map) == 1100);
+}
+
+// The map has so many entries, and a new key drives out another one.
+template <class Map> static void has_room_at(Map &map, uint64_t most) {
+    MUST(map.size() == most && map.insert(most * 1000000, 1).evicted && map.size() == most && listed(map) == most);
+}
+
+// Each way out of the map makes room for one new key, and for no more.
+template <class Map> static void left() {
+    Map map;
+    uint64_t next = 100000;
+    MUST(map.open({1000, 8}) == Status::ok);
+    fill(map, 0, 3000);
+    const auto has_room = [&](uint64_t keys) {
+        const uint64_t evictions = map.counts().evictions;
+        for (; keys != 0; keys--) {
+            MUST(!map.insert(next++, 1).evicted && map.counts().evictions == evictions);
+        }
+        MUST(map.insert(next++, 1).evicted && map.size() == 1100 && map.counts().evictions == evictions + 1);
+    };
+    has_room(0);
+    MUST(map.erase(next - 1) == Status::ok && map.erase(next - 1) == Status::absent);
+    has_room(1);
+    MUST(map.extract(next - 1).value && map.extract(next - 2).value);
+    has_room(2);
+    const auto erased = map.erase_if([next](uint64_t key, uint64_t) { return key + 3 >= next; });
+    MUST(erased.status == Status::ok && erased.count > 0);
+    has_room(erased.count);
+    MUST(map.clear() == Status::ok && map.size() == 0);
+    has_room(1100);
+    MUST(map.set_capacity(300) == Status::ok);
+    has_room_at(map, 300);
+    MUST(map.set_capacity(1000) == Status::ok);
+    fill(map, 200000, 700);
+    has_room_at(map, 1000);
+}
+
+// Of objects in a full map, the listener hears of each that leaves, and each is destroyed once.
+static void objects_in_threads(uint64_t puts) {
+    std::atomic<uint64_t> heard{0};
+    {
+        using Map = cefrodil::object_map<uint64_t, Tracked>;
+        Map map;
+        Map::Rules rules;
+        rules.listener = [&](uint64_t, const Tracked &, Left) { heard++; };
+        MUST(map.open({1000}, rules) == Status::ok);
+        in_threads(8, [&](uint64_t thread) {
+            for (uint64_t n = 0; n < puts; n++) {
+                const uint64_t key = (n * 8 + thread) * 7 % 5000;
+                if (n % 8 == 0) {
+                    const Status status = map.erase(key);
+                    MUST(status == Status::ok || status == Status::absent);
+                } else {
+                    const Status status = n % 8 == 1 ? map.insert(key, Tracked(key)).status : map.insert_or_assign(key, Tracked(key)).status;
+                    MUST(status == Status::ok || (status == Status::present && n % 8 == 1));
+                }
+            }
+        });
+        for (uint64_t key = 10000; key < 12000; key++) {
+            MUST(map.insert(key, Tracked(key)).status == Status::ok);
+        }
+        MUST(map.size() == 1100 && map.counts().evictions == map.counts().evicted_by_capacity && heard >= map.counts().evictions);
+        map.free_unused();
+        MUST(living == 1100 && map.waiting() == 0);
+    }
+    MUST(living == 0);
+}
+
 int main(int argc, char **argv) {
     const uint64_t less = argc > 1 ? std::strtoull(argv[1], nullptr, 10) : 1;
     sizes<Numbers>();
@@ -185,6 +274,13 @@ int main(int argc, char **argv) {
     }
     listeners();
     weights();
+    for (const uint32_t thread_count : {1, 8}) {
+        full<Numbers>(thread_count, 1200 + 20000 / less);
+        full<Objects>(thread_count, 1200 + 20000 / less);
+    }
+    left<Numbers>();
+    left<Objects>();
+    objects_in_threads(5000 / less);
     threads<Numbers>(20000 / less);
     threads<Objects>(20000 / less);
     no_more_than_must<Numbers>();

@@ -23,6 +23,8 @@
     row(swap, WIDTH | TURN | LIMIT | REPLY, (handle, key, value, words, told.old, words, &told.reply)) \
     row(swap_if, WIDTH | TURN | LIMIT | REPLY, (handle, key, since, value, words, told.old, words, &told.reply)) \
     row(swap_if_absent, WIDTH | TURN | LIMIT | REPLY, (handle, key, value, words, told.old, words, &told.reply)) \
+    row(swap_bounded, WIDTH | TURN | LIMIT | REPLY, (handle, key, 1, value, words, told.old, words, &told.reply)) \
+    row(swap_if_absent_bounded, WIDTH | TURN | LIMIT | REPLY, (handle, key, 1, value, words, told.old, words, &told.reply)) \
     row(take, WIDTH | TURN | LIMIT | REPLY, (handle, key, told.old, words, &told.reply)) \
     row(take_if, WIDTH | TURN | LIMIT | REPLY, (handle, key, since, told.old, words, &told.reply)) \
     row(evict, WIDTH | TURN | LIMIT | REPLY, (handle, key, told.old, words, &told.reply)) \

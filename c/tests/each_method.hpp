@@ -26,6 +26,8 @@ static std::vector<cefrodil::Handle<1>> handles;
     row(handle, try_swap, (1, {1})) \
     row(handle, try_swap_if, (1, 1, {1})) \
     row(handle, try_swap_if_absent, (1, {1})) \
+    row(handle, try_swap_bounded, (1, 1, {1})) \
+    row(handle, try_swap_if_absent_bounded, (1, 1, {1})) \
     row(handle, try_take, (1)) \
     row(handle, try_take_if, (1, 1)) \
     row(handle, try_evict, (1)) \
@@ -45,6 +47,8 @@ static std::vector<cefrodil::Handle<1>> handles;
     row(writing, swap, (1, {1})) \
     row(writing, swap_if, (1, 1, {1})) \
     row(writing, swap_if_absent, (1, {1})) \
+    row(writing, swap_bounded, (1, 1, {1})) \
+    row(writing, swap_if_absent_bounded, (1, 1, {1})) \
     row(writing, take, (1)) \
     row(writing, take_if, (1, 1)) \
     row(writing, evict, (1)) \

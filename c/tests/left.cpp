@@ -28,6 +28,29 @@ static cefrodil_status some_swap(cefrodil_handle *handle, uint64_t key, const ui
     }
     return cefrodil_swap(handle, key, value, words, old, old_words, reply);
 }
+// So many bounded puts from now on find no path once another key has left.
+static uint32_t pathless = 0;
+static cefrodil_status without_path(cefrodil_handle *handle, uint64_t key, uint64_t *old, size_t old_words, cefrodil_reply *reply) {
+    pathless--;
+    const cefrodil_status status = cefrodil_evict(handle, key, old, old_words, reply);
+    if (status != CEFRODIL_OK) {
+        return status;
+    }
+    reply->put = CEFRODIL_PUT_EVICTED;
+    return CEFRODIL_NO_PATH;
+}
+static cefrodil_status some_swap_bounded(cefrodil_handle *handle, uint64_t key, uint32_t most, const uint64_t *value, size_t words, uint64_t *old,
+                                         size_t old_words, cefrodil_reply *reply) {
+    return pathless != 0 ? without_path(handle, key, old, old_words, reply)
+                         : cefrodil_swap_bounded(handle, key, most, value, words, old, old_words, reply);
+}
+static cefrodil_status some_swap_if_absent_bounded(cefrodil_handle *handle, uint64_t key, uint32_t most, const uint64_t *value, size_t words,
+                                                   uint64_t *old, size_t old_words, cefrodil_reply *reply) {
+    return pathless != 0 ? without_path(handle, key, old, old_words, reply)
+                         : cefrodil_swap_if_absent_bounded(handle, key, most, value, words, old, old_words, reply);
+}
+#define cefrodil_swap_bounded some_swap_bounded
+#define cefrodil_swap_if_absent_bounded some_swap_if_absent_bounded
 #define cefrodil_evict some_evict
 #define cefrodil_swap some_swap
 #include "cefrodil_object_map.hpp"
@@ -220,6 +243,34 @@ static void listeners_that_erase() {
     MUST(map.erase(0) == Status::ok && map.size() == 84 && map.contains(16) && !map.contains(15));
 }
 
+// If a put into a full map fails once another entry has left for it, that one is counted, and there is room for one key.
+template <class Any> static void puts_without_a_path(Any &map) {
+    for (uint64_t key = 0; key < 3000; key++) {
+        MUST(map.insert(key, uint64_t(key)).status == Status::ok);
+    }
+    const uint64_t evictions = map.counts().evictions;
+    for (uint64_t key = 10000; key < 10010; key++) {
+        pathless = 1;
+        const auto stored = key % 2 == 0 ? map.insert(key, uint64_t(key)) : map.insert_or_assign(key, uint64_t(key));
+        MUST(stored.status == Status::no_path && stored.evicted && !stored.renewed && pathless == 0 && map.size() == 1099 && !map.contains(key));
+        MUST(!map.insert(key, uint64_t(key)).evicted && map.size() == 1100 && map.counts().evictions == evictions + key - 9999);
+    }
+    MUST(map.counts().evicted_by_capacity == map.counts().evictions && map.insert(20000, 1).evicted && map.size() == 1100);
+}
+
+static void without_a_path() {
+    cefrodil::map<uint64_t, uint64_t> numbers;
+    MUST(numbers.open({1000, 4}) == Status::ok);
+    puts_without_a_path(numbers);
+    Map map;
+    Map::Rules rules;
+    uint64_t heard = 0;
+    rules.listener = [&](uint64_t, uint64_t, Left why) { heard += why == Left::evicted ? 1 : 0; };
+    MUST(map.open({1000, 4}, rules) == Status::ok);
+    puts_without_a_path(map);
+    MUST(heard == map.counts().evictions && map.free_unused() != 0 && map.waiting() == 0);
+}
+
 int main() {
     what_waits_is_counted();
     few_wait_after_a_look();
@@ -231,5 +282,6 @@ int main() {
     closed_maps_leave_nothing();
     listeners_that_put();
     listeners_that_erase();
+    without_a_path();
     return outcome("left");
 }

@@ -80,14 +80,16 @@ static void openings() {
     MUST(moved.open({100, 1, 1}) == Status::ok && !moved.contains(1) && moved.insert(1, 11).status == Status::ok && moved.find(1) == 11u);
 }
 
-// By default there is a shard for each 2,500 entries, 16 at most, and their number is a power of two.
+// By default there is a shard for each 125 entries, 16 at most, and their number is a power of two. The room is theirs.
 static void shards_by_default() {
-    const uint32_t expected[][2] = {{1, 1}, {4999, 1}, {5000, 2}, {9999, 2}, {10000, 4}, {19999, 4}, {20000, 8}, {39999, 8}, {40000, 16}, {100000, 16}};
+    const uint32_t expected[][2] = {{1, 1}, {249, 1}, {250, 2}, {499, 2}, {500, 4}, {999, 4}, {1000, 8}, {1999, 8}, {2000, 16}, {100000, 16}};
     for (const auto &[entries, shards] : expected) {
         Numbers numbers;
         cefrodil_shape shape{};
         MUST(numbers.open({entries}) == Status::ok && cefrodil_shape_for_items(entries, shards, &shape) == CEFRODIL_OK);
-        MUST(numbers.capacity() == uint64_t(shape.items) * shards);
+        const uint64_t room = uint64_t(shape.items) * shards;
+        MUST(numbers.capacity() == std::min<uint64_t>(room, entries + entries / 10));
+        MUST(numbers.set_capacity(room) == Status::ok && numbers.set_capacity(room + 1) == Status::bad_capacity);
     }
 }
 

@@ -96,6 +96,25 @@ static void replace(void) {
     MUST(old == 71 && cefrodil_close(&handle) == CEFRODIL_OK);
 }
 
+/* In a shard that is to hold one key, another one leaves for a new one, though items are free. */
+static void bound(void) {
+    cefrodil_reply reply;
+    uint64_t value = 70, old = 0, len = 9;
+    MUST(cefrodil_swap_bounded(&handle, 7, 1, &value, 1, &old, 1, &reply) == CEFRODIL_OK && reply.put == CEFRODIL_PUT_STORED && reply.at == 1 && old == 0);
+    value = 71;
+    MUST(cefrodil_swap_bounded(&handle, 7, 1, &value, 1, &old, 1, &reply) == CEFRODIL_OK && reply.put == CEFRODIL_PUT_RENEWED && reply.at == 2);
+    MUST(reply.since == 1 && old == 70);
+    MUST(cefrodil_swap_if_absent_bounded(&handle, 7, 1, &value, 1, &old, 1, &reply) == CEFRODIL_PRESENT && reply.since == 2 && old == 70);
+    MUST(reply.put == CEFRODIL_PUT_NOTHING);
+    value = 80;
+    MUST(cefrodil_swap_bounded(&handle, 8, 1, &value, 1, &old, 1, &reply) == CEFRODIL_OK && reply.put == CEFRODIL_PUT_EVICTED && reply.at == 4);
+    MUST(reply.evicted == 7 && reply.since == 2 && old == 71);
+    value = 90;
+    MUST(cefrodil_swap_if_absent_bounded(&handle, 9, 1, &value, 1, &old, 1, &reply) == CEFRODIL_OK && reply.put == CEFRODIL_PUT_EVICTED);
+    MUST(reply.at == 6 && reply.evicted == 8 && reply.since == 4 && old == 80 && cefrodil_len(&handle, &len) == CEFRODIL_OK && len == 1);
+    MUST(cefrodil_swap_bounded(&handle, 7, 1, &value, 1, &old, 2, &reply) == CEFRODIL_WIDTH && old == 80 && cefrodil_close(&handle) == CEFRODIL_OK);
+}
+
 /* A cache with room for ITEMS keys, in one shard or in several. The handle tries, or holds the turns. */
 static void opened(uint32_t shards, bool hold) {
     cefrodil_shape shape;
@@ -110,6 +129,8 @@ int main(void) {
             keep_all();
             opened(shards, hold != 0);
             replace();
+            opened(1, hold != 0);
+            bound();
         }
     }
     return outcome("objects");

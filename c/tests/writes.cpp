@@ -13,6 +13,8 @@ struct ByWriting {
     Swapped<1> swap(uint64_t key, uint64_t value) { return writing.swap(key, {value}); }
     Swapped<1> swap_if(uint64_t key, uint64_t since, uint64_t value) { return writing.swap_if(key, since, {value}); }
     Swapped<1> swap_if_absent(uint64_t key, uint64_t value) { return writing.swap_if_absent(key, {value}); }
+    Swapped<1> swap_bounded(uint64_t key, uint64_t value) { return writing.swap_bounded(key, 1, {value}); }
+    Swapped<1> swap_if_absent_bounded(uint64_t key, uint64_t value) { return writing.swap_if_absent_bounded(key, 1, {value}); }
     Swapped<1> take(uint64_t key) { return writing.take(key); }
     Swapped<1> take_if(uint64_t key, uint64_t since) { return writing.take_if(key, since); }
     Swapped<1> evict() { return writing.evict(); }
@@ -29,6 +31,8 @@ struct ByHandle {
     Swapped<1> swap(uint64_t key, uint64_t value) { return handle.try_swap(key, {value}); }
     Swapped<1> swap_if(uint64_t key, uint64_t since, uint64_t value) { return handle.try_swap_if(key, since, {value}); }
     Swapped<1> swap_if_absent(uint64_t key, uint64_t value) { return handle.try_swap_if_absent(key, {value}); }
+    Swapped<1> swap_bounded(uint64_t key, uint64_t value) { return handle.try_swap_bounded(key, 1, {value}); }
+    Swapped<1> swap_if_absent_bounded(uint64_t key, uint64_t value) { return handle.try_swap_if_absent_bounded(key, 1, {value}); }
     Swapped<1> take(uint64_t key) { return handle.try_take(key); }
     Swapped<1> take_if(uint64_t key, uint64_t since) { return handle.try_take_if(key, since); }
     Swapped<1> evict() { return handle.try_evict(); }
@@ -104,6 +108,34 @@ template <class Calls> static void keys_that_give_way(Calls calls) {
     MUST(none.status == Status::absent && none.at == 18 && none.old_since == 0 && none.since == 0 && !none.old && !none.evicted);
 }
 
+// In a shard that is to hold one key, another one leaves for a new one.
+template <class Calls> static void a_key_that_leaves_for_the_bound(Calls calls, const Meter &meter) {
+    const uint64_t evictions = meter.counts().evictions;
+    const Swapped<1> stored = calls.swap_bounded(1, 10), renewed = calls.swap_bounded(1, 11), stays = calls.swap_if_absent_bounded(1, 12);
+    MUST(stored.status == Status::ok && !stored.old && !stored.evicted && stored.at == 1 && stored.old_since == 0);
+    MUST(renewed.status == Status::ok && renewed.old && (*renewed.old)[0] == 10 && !renewed.evicted && renewed.at == 2 && renewed.old_since == 1);
+    MUST(stays.status == Status::present && !stays.old && !stays.evicted && stays.since == 2);
+    const Swapped<1> first = calls.swap_bounded(2, 20), second = calls.swap_if_absent_bounded(3, 30);
+    MUST(first.status == Status::ok && first.evicted == uint64_t(1) && first.old && (*first.old)[0] == 11 && first.old_since == 2 && first.at == 4);
+    MUST(second.status == Status::ok && second.evicted == uint64_t(2) && second.old && (*second.old)[0] == 20 && second.old_since == 4 && second.at == 6);
+    MUST(meter.counts().evictions == evictions + 2 && calls.peek(3).value && !calls.peek(2).value);
+}
+
+// Both buckets of nine keys are the same two, and no key may move. The first key lies elsewhere. If it has left when the put finds no place, that is said.
+static void a_put_that_fails() {
+    std::vector<Handle<1>> handles;
+    const cefrodil_shape shape{uint64_t(1) << 62, 1024, 16, 1, 0, 2, CEFRODIL_MIX_NONE, CEFRODIL_POLICY_CLOCK};
+    MUST(open(shape, 1, 1, handles) == Status::ok && handles[0].try_put(1, {10}).status == Status::ok);
+    for (uint64_t key = 1; key < 9; key++) {
+        MUST(handles[0].try_put(1024 * key, {key}).status == Status::ok);
+    }
+    const Swapped<1> told = handles[0].try_swap_bounded(uint64_t(1024) * 9, 1, {9});
+    MUST(told.status == Status::no_path && told.old.has_value() == told.evicted.has_value());
+    MUST(!told.evicted || (told.evicted == uint64_t(1) && (*told.old)[0] == 10 && told.old_since == 1));
+    uint64_t len = 0;
+    MUST(handles[0].try_len(len) == Status::ok && len == (told.evicted ? 8 : 9));
+}
+
 template <class Calls> static void writes(Calls calls, const Meter &meter) {
     a_key_that_is_there(calls);
     a_key_that_is_taken(calls);
@@ -140,6 +172,15 @@ int main() {
         MUST(handles[0].try_remove(6).status == Status::ok && handles[0].try_len(len) == Status::ok && len == 0);
     }
     shape.policy = CEFRODIL_POLICY_SCAN_RESISTANT;
+    shape.items = 100;
+    MUST(open(shape, 1, 1, handles) == Status::ok && open(shape, 1, 1, others) == Status::ok);
+    a_key_that_leaves_for_the_bound(ByHandle{handles[0]}, handles[0].meter());
+    Writing<1> writing;
+    MUST(writing.own(std::move(others[0])) == Status::ok);
+    a_key_that_leaves_for_the_bound(ByWriting{writing}, writing.meter());
+    a_put_that_fails();
+    shape.items = 2;
+    MUST(open(shape, 1, 1, handles) == Status::ok);
     moves(shape, handles[0]);
     MUST(open(shape, 1, 1024, handles) == Status::ok && handles.size() == 1024);
     return outcome("writes");

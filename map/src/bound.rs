@@ -1,20 +1,20 @@
 //! The bound on the number of entries, which may be less than there is room for, and evictions that no put of the index makes.
 use crate::core::Core;
 use crate::error::{CapacityError, RemoveError};
-use crate::handle::Index;
+use crate::handle::{Bounded, Gave, Index};
 use crate::map::Inserted;
 use crate::stats::Kind;
-use cefrodil::{EvictError, TurnError};
+use cefrodil::{EvictError, Put, TurnError};
 use std::iter::repeat;
-use std::sync::atomic::{AtomicBool, AtomicUsize, Ordering::Relaxed};
+use std::sync::atomic::{fence, AtomicBool, AtomicUsize, Ordering::Relaxed, Ordering::SeqCst};
 
 /// How many entries a map holds at most.
 pub(crate) struct Bound {
-    // Relaxed. A put that sees an older one leaves an entry to the next put.
+    // Relaxed. A put that sees an older one leaves entries to the next put of a new key.
     most: AtomicUsize,
     // For how many entries the map was opened.
     room: usize,
-    // Whether a put of a new key made the map full, and no later one found room. Relaxed, as `most`.
+    // Whether there were so many entries, and none has left since but for another one. Relaxed, as `most`.
     is_full: AtomicBool,
     shards: u32,
     // The shard that evicts next, if it is not that of a key. Relaxed: a guess.
@@ -45,12 +45,13 @@ impl Bound {
         self.most.load(Relaxed)
     }
 
+    /// Changes it. Puts of new keys find out whether the map is full.
     pub fn set(&self, most: usize) {
         self.most.store(most, Relaxed);
-        self.is_full.store(most < self.room, Relaxed);
+        self.is_full.store(false, Relaxed);
     }
 
-    /// Whether a put must look at the bound first.
+    /// Whether an entry is to leave for a new key.
     #[inline]
     pub fn is_full(&self) -> bool {
         self.is_full.load(Relaxed)
@@ -79,7 +80,7 @@ impl<H: Index + 'static, V> Core<H, V> {
     ) -> Result<Option<Evicted>, RemoveError> {
         let evicted = self.slots.within(tries, || self.evict_once(shards())).unwrap_or(Err(RemoveError::Held))?;
         if evicted.is_some() {
-            self.slots.count_left(Kind::Evicted, cause);
+            self.count_left(Kind::Evicted, cause);
         }
         Ok(evicted)
     }
@@ -99,41 +100,46 @@ impl<H: Index + 'static, V> Core<H, V> {
         (!is_held).then_some(Ok(None))
     }
 
-    /// Whether nothing is under this hash. Otherwise that is a use of it.
-    pub fn is_new(&self, hash: u64) -> bool {
-        !self.slots.call(|handle| handle.has(hash))
-    }
-
-    /// Before a put of a new key with this hash into a map that is full: evicts what is too much with it, and calls `left` with each. If other threads
-    /// have turns that it needs, the next put does this. Returns whether it evicted some.
-    #[inline(never)]
-    pub fn make_room(&self, hash: u64, tries: u32, mut left: impl FnMut(Evicted)) -> bool {
-        if self.slots.entries() < self.bound.most() || !self.bound.is_below_room() {
+    /// Counts an entry that has left, but not by a put of the index. So there is room for a new one.
+    pub fn count_left(&self, whole: Kind, part: Kind) {
+        self.slots.count_left(whole, part);
+        if self.bound.is_full() {
             self.bound.is_full.store(false, Relaxed);
-            return false;
         }
-        let mut has_evicted = false;
-        let _ = self.evict_to_bound(1, repeat(Some(hash)), tries, |evicted| {
-            has_evicted = true;
-            left(evicted);
-        });
-        has_evicted
     }
 
-    /// Counts a put that did this, and notes if the map is full then.
+    /// Counts what left for the bound by this put of the index. If the put failed, calls `lost` with its word.
+    pub fn bounded<E>(&self, put: Bounded<E>, lost: impl FnOnce(u64)) -> Result<Gave, TurnError<E>> {
+        if let Ok((Put::Stored { .. }, Some(_))) = put {
+            self.slots.count(Kind::EvictedByCapacity);
+        }
+        put.map_err(|why| match why {
+            TurnError::Held => TurnError::Held,
+            TurnError::Call((why, left)) => {
+                left.inspect(|_| self.count_left(Kind::Evicted, Kind::EvictedByCapacity)).map(lost);
+                TurnError::Call(why)
+            }
+        })
+    }
+
+    /// After a put under this hash that did this, and was counted: if there are too many entries then, evicts others. Returns what the put did with that.
     #[inline]
-    pub fn count_put(&self, did: Inserted) {
-        self.slots.count_put(did);
-        if did == Inserted::New && self.bound.is_below_room() && !self.bound.is_full() {
-            self.note_full();
+    pub fn keep_bound(&self, did: Inserted, hash: u64, tries: u32, left: impl FnMut(Evicted)) -> Inserted {
+        if did == Inserted::New && self.bound.is_below_room() && self.evict_above(hash, tries, left) {
+            Inserted::Evicted
+        } else {
+            did
         }
     }
 
+    // If other threads have turns that it needs, a later put does this. Returns whether it evicted some.
     #[inline(never)]
-    fn note_full(&self) {
-        if self.slots.entries() >= self.bound.most() {
-            self.bound.is_full.store(true, Relaxed);
-        }
+    fn evict_above(&self, hash: u64, tries: u32, left: impl FnMut(Evicted)) -> bool {
+        // Of threads that put at the same time, the last one sees what all have counted.
+        fence(SeqCst);
+        // The new key's shard comes last.
+        let next = hash.wrapping_add(1 << SHARD);
+        self.slots.entries() >= self.bound.most() && self.evict_to_bound(repeat(Some(next)), tries, left).0
     }
 
     /// Changes the bound, and evicts what is too much.
@@ -146,25 +152,32 @@ impl<H: Index + 'static, V> Core<H, V> {
         let hashes = self.list(self.tries, Index::keys).unwrap_or_default();
         let excess = hashes.len().saturating_sub(most);
         let spread = (0..excess).map(|number| Some(hashes[number * hashes.len() / excess])).chain(repeat(None));
-        self.evict_to_bound(0, spread, self.tries, left).map_err(|why| self.refused(CapacityError::Evict(why)))
+        self.evict_to_bound(spread, self.tries, left).1.map_err(|why| self.refused(CapacityError::Evict(why)))
     }
 
-    // Evicts until so many entries more are within the bound: each in the shard of the next hash, if there is one, or in a later shard. It looks before each
-    // eviction, since other threads may evict the same excess.
+    // Evicts until the entries are within the bound: each in the shard of the next hash, if there is one, or in a later shard. It looks before each
+    // eviction, since other threads may evict the same excess. Notes whether the map is full then. Returns whether it evicted some, and why no more.
     fn evict_to_bound(
         &self,
-        more: usize,
         mut hashes: impl Iterator<Item = Option<u64>>,
         tries: u32,
         mut left: impl FnMut(Evicted),
-    ) -> Result<(), RemoveError> {
-        while self.slots.entries() + more > self.bound.most() {
+    ) -> (bool, Result<(), RemoveError>) {
+        let (mut has_evicted, mut last) = (false, Ok(Some(())));
+        while last == Ok(Some(())) && self.slots.entries() > self.bound.most() {
             let hash = hashes.next().flatten();
-            match self.evict(|| self.bound.shards_from(hash), tries, Kind::EvictedByCapacity)? {
-                Some(evicted) => left(evicted),
-                None => break,
-            }
+            let evicted = self.evict(|| self.bound.shards_from(hash), tries, Kind::EvictedByCapacity);
+            last = evicted.map(|evicted| evicted.map(&mut left));
+            has_evicted |= last == Ok(Some(()));
         }
-        Ok(())
+        // Not if there are more: then the next put of a new key evicts them.
+        let is_full = || self.bound.is_below_room() && self.slots.entries() == self.bound.most();
+        self.bound.is_full.store(is_full(), Relaxed);
+        fence(SeqCst);
+        // An entry may have left, or the bound may have changed, before others could see the store.
+        if self.bound.is_full() && !is_full() {
+            self.bound.is_full.store(false, Relaxed);
+        }
+        (has_evicted, last.map(drop))
     }
 }

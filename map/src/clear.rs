@@ -56,7 +56,7 @@ impl<K: Key + ?Sized, V: Copy, S> Map<K, V, S> {
             for key in core.list(tries, Index::keys)? {
                 let removed = core.slots.in_turn(tries, || core.in_lock(key, |handle| handle.remove(key)));
                 if let Removal::Removed { .. } = removed.map_err(ClearError::of_removal)? {
-                    core.slots.count_left(Kind::Removed, Kind::Removed);
+                    core.count_left(Kind::Removed, Kind::Removed);
                 }
             }
             Ok(())

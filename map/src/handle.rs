@@ -1,8 +1,8 @@
 //! A handle of the index, whose entries have any width, 1 to 8 words. The width is chosen at opening.
 use crate::words::{Layout, Seen, Words, MOST};
 use cefrodil::{
-    Cache, Entry, Evict, EvictError, Handle, ListError, OpenError, Put, PutError, PutIfAbsentError, PutIfError, Removal, Reply,
-    Shape, Spent, TurnError,
+    BoundedError, Cache, Entry, Evict, EvictError, Handle, ListError, OpenError, Put, PutError, PutIfAbsentError, PutIfError,
+    Removal, Reply, Shape, Spent, Swapped, TurnError,
 };
 use std::ops::DerefMut;
 
@@ -16,9 +16,6 @@ pub(crate) trait Index: Sized {
 
     fn capacity(&mut self) -> usize;
 
-    /// Whether the key is there. That is a use of it.
-    fn has(&mut self, key: u64) -> bool;
-
     /// The keys of all entries, in a turn at each shard.
     fn keys(&mut self) -> Result<Vec<u64>, TurnError<ListError>>;
 
@@ -27,6 +24,23 @@ pub(crate) trait Index: Sized {
 
     /// Evicts an entry in the shard of this key. Returns the moment, and the first word of the value. `None`: the shard is empty.
     fn evict(&mut self, near: u64) -> Result<Option<(u64, u64)>, TurnError<EvictError>>;
+}
+
+/// What a put did, and the first word of the entry that gave way.
+pub(crate) type Gave = (Put, Option<u64>);
+
+/// The same of a put into a full map. If it failed, an entry may have left all the same.
+pub(crate) type Bounded<E> = Result<Gave, TurnError<(E, Option<u64>)>>;
+
+pub(crate) fn gave<const WIDTH: usize>(Swapped { put, old }: Swapped<WIDTH>) -> Gave {
+    (put, old.map(|old| old.value[0]))
+}
+
+pub(crate) fn bounded<E, const WIDTH: usize>(put: Result<Swapped<WIDTH>, TurnError<BoundedError<WIDTH, E>>>) -> Bounded<E> {
+    put.map(gave).map_err(|why| match why {
+        TurnError::Call(BoundedError { why, evicted }) => TurnError::Call((why, evicted.map(|old| old.value[0]))),
+        TurnError::Held => TurnError::Held,
+    })
 }
 
 /// A handle by the width of its entries.
@@ -83,10 +97,6 @@ impl<const WIDTH: usize> Index for Handle<WIDTH> {
         Handle::capacity(self)
     }
 
-    fn has(&mut self, key: u64) -> bool {
-        matches!(self.get_or_turn(key), Reply::Found { .. })
-    }
-
     fn keys(&mut self) -> Result<Vec<u64>, TurnError<ListError>> {
         listed(self.try_entries()?, |(key, _)| key)
     }
@@ -118,10 +128,6 @@ impl Index for AnyHandle {
 
     fn capacity(&mut self) -> usize {
         any!(self, handle => handle.capacity())
-    }
-
-    fn has(&mut self, key: u64) -> bool {
-        any!(self, handle => handle.has(key))
     }
 
     fn keys(&mut self) -> Result<Vec<u64>, TurnError<ListError>> {
@@ -209,6 +215,15 @@ impl AnyHandle {
 
     pub fn put_if_absent(&mut self, key: u64, words: &Words) -> Result<Put, TurnError<PutIfAbsentError>> {
         any!(self, handle => handle.try_put_if_absent(key, narrow(words)))
+    }
+
+    /// Like `put`, but another entry of the shard leaves for a new key.
+    pub fn put_bounded(&mut self, key: u64, words: &Words) -> Bounded<PutError> {
+        any!(self, handle => bounded(handle.try_swap_bounded(key, 1, narrow(words))))
+    }
+
+    pub fn put_if_absent_bounded(&mut self, key: u64, words: &Words) -> Bounded<PutIfAbsentError> {
+        any!(self, handle => bounded(handle.try_swap_if_absent_bounded(key, 1, narrow(words))))
     }
 
     pub fn remove(&mut self, key: u64) -> Result<Removal, TurnError<Spent>> {

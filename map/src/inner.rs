@@ -8,7 +8,7 @@ use crate::map::Inserted;
 use crate::print::{Print, Printer};
 use crate::stats::{Counts, Kind};
 use crate::words::{check, deadline, set_check, Entry, Layout, Seen, Words};
-use cefrodil::{PutIfError, TurnError};
+use cefrodil::{Put, PutIfError, TurnError};
 use std::hash::BuildHasher;
 use std::time::Duration;
 
@@ -235,21 +235,25 @@ impl<K: Key + ?Sized, V: Copy, S: BuildHasher> Inner<K, V, S> {
         let mut words = self.words(print, value, self.deadline(life));
         self.core.flights.detach(print);
         self.take_ended(print.key);
-        let has_evicted = self.core.bound.is_full() && self.core.is_new(print.key) && self.makes_room(print.key, tries);
         let put = self.core.slots.in_turn(tries, || {
             self.core.in_lock(print.key, |handle| {
                 // By who has the lock: so nothing that was put in a later generation gives way to this.
                 set_check(&mut words, print.dated(self.core.generation.now()).check);
-                handle.put(print.key, &words)
+                match self.core.bound.is_full() {
+                    true => self.core.bounded(handle.put_bounded(print.key, &words), drop).map(|(put, _)| put),
+                    false => handle.put(print.key, &words),
+                }
             })
         });
-        match put.map(Inserted::of) {
-            Ok(did) => {
-                self.core.count_put(did);
-                Ok(if has_evicted && did == Inserted::New { Inserted::Evicted } else { did })
-            }
-            Err(why) => Err(self.core.refused(InsertError::of(why))),
-        }
+        put.map(|put| self.count_put(print, put, tries)).map_err(|why| self.core.refused(InsertError::of(why)))
+    }
+
+    /// Counts a put under this key, and keeps to the bound.
+    #[inline]
+    pub fn count_put(&self, print: Print, put: Put, tries: u32) -> Inserted {
+        let did = Inserted::of(put);
+        self.core.slots.count_put(did);
+        self.core.keep_bound(did, print.key, tries, drop)
     }
 
     /// Before a put under this key of the index: takes out what has expired at a few places, if the map has times.
@@ -267,12 +271,6 @@ impl<K: Key + ?Sized, V: Copy, S: BuildHasher> Inner<K, V, S> {
                 let _ = self.take_if(there.key, there.since, 1, Kind::Ended);
             }
         });
-    }
-
-    /// Before a put of a new key of the index: whether it evicts what is too much.
-    #[inline]
-    pub fn makes_room(&self, hash: u64, tries: u32) -> bool {
-        self.core.bound.is_full() && self.core.make_room(hash, tries, drop)
     }
 
     pub fn remove<Q: Key + ?Sized>(&self, key: &Q, tries: u32) -> Result<Option<V>, RemoveError> {
@@ -299,7 +297,7 @@ impl<K: Key + ?Sized, V: Copy, S: BuildHasher> Inner<K, V, S> {
     /// Removes the entry under this key of the index if it was put at the moment `since`. Counts it, and by its cause: `Removed` is none.
     pub fn take_if(&self, hash: u64, since: u64, tries: u32, cause: Kind) -> Result<(), TurnError<PutIfError>> {
         self.core.slots.in_turn(tries, || self.core.in_lock(hash, |handle| handle.take_if(hash, since)))?;
-        self.core.slots.count_left(Kind::Removed, cause);
+        self.core.count_left(Kind::Removed, cause);
         Ok(())
     }
 }

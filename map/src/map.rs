@@ -253,8 +253,8 @@ impl<K: ?Sized, V, S> Map<K, V, S> {
     /// Changes how many entries the map holds at most, and evicts until it has no more: those that would give way to new keys in a full map. `most` is at
     /// most the room with which the map was opened: its first capacity at least. The memory stays the same.
     ///
-    /// If the map is full while there is room in its shards, a put of a new key first evicts what is too much. If other threads have turns that it needs
-    /// for that, the next put does. So the map may have some more entries while several threads put.
+    /// In a full map another entry of the same shard leaves for a new key. While several threads put, the map may have some entries more. Then a later put
+    /// of a new key evicts these.
     ///
     /// ```
     /// let squares = cefrodil_map::Map::<u64, u64>::new(1_000)?;

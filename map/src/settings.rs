@@ -13,7 +13,7 @@ const MOST_THREADS: usize = 1023;
 const SPARE_HANDLES: usize = 64;
 
 /// How many entries a shard has at least, and how many shards there are at most, by default.
-const ENTRIES_OF_A_SHARD: usize = 2500;
+const ENTRIES_OF_A_SHARD: usize = 125;
 const MOST_SHARDS: usize = 16;
 
 /// The most stripes that all shards have together, but each may have `STRIPES_OF_A_SHARD`. Each stripe has a version of 8 bytes, and more of
@@ -58,14 +58,9 @@ impl<S> Settings<S> {
         Ok((shape, shards))
     }
 
-    /// The bound on the number of entries with which the map begins: their room, or a tenth more than was asked for if the shards that were named have more.
+    /// The bound on the number of entries with which the map begins: their room, or a tenth more than was asked for if that is less.
     pub fn bound(&self, shape: &Shape, shards: u32) -> usize {
-        let (room, most) = (shape.items as usize * shards as usize, self.capacity + self.capacity / 10);
-        if self.shards.is_some() {
-            room.min(most)
-        } else {
-            room
-        }
+        (shape.items as usize * shards as usize).min(self.capacity + self.capacity / 10)
     }
 
     /// How many handles to open: one that threads share, and one for each thread whose handle can't be opened when it comes.

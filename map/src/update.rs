@@ -3,7 +3,7 @@ use crate::error::{InsertError, UpdateError};
 use crate::handle::AnyHandle;
 use crate::inner::{Found, Inner};
 use crate::key::Key;
-use crate::map::{Inserted, Map};
+use crate::map::Map;
 use crate::print::Print;
 use crate::stats::Kind;
 use crate::words::Words;
@@ -191,11 +191,13 @@ impl<K: Key + ?Sized, V: Copy, S: BuildHasher> Inner<K, V, S> {
 
     // Puts the words if the key is absent, and this generation has not ended before that was so. `false`: it is not so.
     fn put_absent(&self, print: Print, generation: u64, words: &Words, tries: u32) -> Result<bool, InsertError> {
-        self.makes_room(print.key, tries);
-        let put = |handle: &mut AnyHandle| handle.put_if_absent(print.key, words);
+        let put = |handle: &mut AnyHandle| match self.core.bound.is_full() {
+            true => self.core.bounded(handle.put_if_absent_bounded(print.key, words), drop).map(|(put, _)| put),
+            false => handle.put_if_absent(print.key, words),
+        };
         match self.core.slots.in_turn(tries, || self.core.in_generation(print.key, generation, put)) {
             Ok(put) => {
-                self.core.count_put(Inserted::of(put));
+                self.count_put(print, put, tries);
                 Ok(true)
             }
             Err(why) => InsertError::of_absent(why).map_or(Ok(false), Err),

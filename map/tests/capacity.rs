@@ -2,6 +2,7 @@
 use cefrodil_map::{CapacityError, Inserted, Map};
 use std::sync::atomic::{AtomicBool, Ordering::Relaxed};
 use std::thread;
+use std::time::Duration;
 
 type Numbers = Map<u64, u64>;
 
@@ -143,4 +144,84 @@ fn threads_that_put_at_once_keep_to_it() {
     });
     put_all(&map, 10_000..14_000);
     assert_eq!(map.len(), 2_000);
+}
+
+fn listed(map: &Numbers) -> usize {
+    let mut number = 0;
+    map.for_each(|_, _| number += 1).unwrap();
+    number
+}
+
+// The counts are looked at when all threads have ended.
+#[test]
+fn a_full_map_has_just_as_many_entries_as_it_may() {
+    for threads in [1, 8] {
+        let map = Numbers::new(1_000).unwrap();
+        thread::scope(|scope| {
+            for thread in 0..threads {
+                let map = &map;
+                scope.spawn(move || put_all(map, thread * 100_000..thread * 100_000 + 16_000 / threads));
+            }
+        });
+        let stats = map.stats();
+        assert_eq!((map.capacity(), map.len(), listed(&map)), (1_100, 1_100, 1_100), "of {threads} threads");
+        assert_eq!((stats.added, stats.evicted, stats.evicted_by_capacity), (16_000, 14_900, 14_900));
+        assert_eq!((put_all(&map, 2_000_000..2_000_100), map.len()), (100, 1_100));
+    }
+}
+
+// Each way out of the map makes room for one new key.
+#[test]
+fn what_leaves_makes_room() {
+    let map: Numbers = Map::builder(1_000).time_to_live(Duration::MAX).open().unwrap();
+    put_all(&map, 0..3_000);
+    let there = |number| (0..3_000).filter(|key| map.contains_key(key)).take(number).collect::<Vec<_>>();
+    let mut next = 10_000;
+    let mut puts = |number: usize| {
+        next += number as u64;
+        put_all(&map, next - number as u64..next)
+    };
+    for number in [1, 5] {
+        there(number).iter().for_each(|key| assert!(map.remove(key).unwrap().is_some()));
+        assert_eq!((map.len(), puts(number), map.len()), (1_100 - number, 0, 1_100));
+        new_keys(&mut puts, &map);
+    }
+    let some = there(3);
+    assert_eq!((map.retain(|key, _| !some.contains(key)), map.len()), (Ok(3), 1_097));
+    assert_eq!(puts(3), 0);
+    new_keys(&mut puts, &map);
+    there(2).iter().for_each(|key| _ = map.insert_for(key, 1, Duration::ZERO));
+    assert_eq!((map.remove_expired(), puts(2)), (Ok(2), 0));
+    new_keys(&mut puts, &map);
+    map.clear().unwrap();
+    assert_eq!((puts(1_100), map.len()), (0, 1_100));
+    new_keys(&mut puts, &map);
+}
+
+// There is room for no new key more.
+fn new_keys(puts: &mut impl FnMut(usize) -> usize, map: &Numbers) {
+    assert_eq!((puts(1), map.len(), map.stats().entries), (1, 1_100, 1_100));
+}
+
+#[test]
+fn what_is_put_where_nothing_was_keeps_to_it() {
+    let map = Numbers::new(1_000).unwrap();
+    put_all(&map, 0..2_000);
+    let before = map.stats();
+    for key in 5_000..6_000 {
+        assert_eq!((map.get_or_insert_with(&key, || 1), map.update(&(key + 10_000), |old| old.unwrap_or(2))), (1, Ok(2)));
+        assert_eq!((map.get(&key), map.get(&(key + 10_000)), map.len()), (Some(1), Some(2), 1_100));
+    }
+    let stats = map.stats();
+    assert_eq!((stats.evicted - before.evicted, stats.evicted_by_capacity - before.evicted_by_capacity), (2_000, 2_000));
+    assert_eq!((stats.added - before.added, listed(&map)), (2_000, 1_100));
+}
+
+#[test]
+fn it_goes_down_and_up_again() {
+    let map = Numbers::new(1_000).unwrap();
+    put_all(&map, 0..2_000);
+    assert_eq!((map.set_capacity(300), map.len(), put_all(&map, 5_000..5_500), map.len()), (Ok(()), 300, 500, 300));
+    assert_eq!((map.set_capacity(1_000), put_all(&map, 6_000..6_700), map.len()), (Ok(()), 0, 1_000));
+    assert_eq!((put_all(&map, 7_000..7_100), map.len(), listed(&map)), (100, 1_000, 1_000));
 }

@@ -2,7 +2,7 @@
 use crate::handle::Handle;
 use crate::memory::NoMemory;
 use crate::raw;
-use crate::reply::not_told;
+use crate::reply::{not_told, Entry};
 use std::error::Error;
 use std::fmt::{self, Display, Formatter};
 
@@ -104,6 +104,15 @@ pub enum PutIfAbsentError {
     },
     /// The key is absent, and its put failed.
     Put(PutError),
+}
+
+/// Why a bounded put failed, and what left all the same.
+#[derive(Clone, Copy, Debug, PartialEq, Eq, Hash)]
+pub struct BoundedError<const WORDS: usize, E = PutError> {
+    /// Why the key was not put.
+    pub why: E,
+    /// The entry that was evicted to keep to the bound, before the put failed. `None`: nothing was changed.
+    pub evicted: Option<Entry<WORDS>>,
 }
 
 /// Why an entry was left out when a cache was opened with entries.
@@ -327,6 +336,12 @@ impl<const WORDS: usize> Display for NotHeld<WORDS> {
     }
 }
 
+impl<const WORDS: usize, E: Display> Display for BoundedError<WORDS, E> {
+    fn fmt(&self, text: &mut Formatter) -> fmt::Result {
+        self.why.fmt(text)
+    }
+}
+
 impl<E: Display> Display for TurnError<E> {
     fn fmt(&self, text: &mut Formatter) -> fmt::Result {
         match self {
@@ -346,5 +361,6 @@ impl Error for PutIfAbsentError {}
 impl Error for Spent {}
 impl Error for Held {}
 impl Error for ListError {}
+impl<const WORDS: usize, E: Error> Error for BoundedError<WORDS, E> {}
 impl<E: Error> Error for TurnError<E> {}
 impl<const WORDS: usize> Error for NotHeld<WORDS> {}

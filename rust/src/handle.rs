@@ -1,6 +1,8 @@
 //! A thread's handle of a cache.
 use crate::counts::Meter;
-use crate::error::{EvictError, Held, ListError, MoreError, PutError, PutIfAbsentError, PutIfError, Spent, TurnError};
+use crate::error::{
+    BoundedError, EvictError, Held, ListError, MoreError, PutError, PutIfAbsentError, PutIfError, Spent, TurnError,
+};
 use crate::open_handle::{openings, OpenHandle};
 use crate::raw;
 use crate::reply::{self, Entry, Evict, Put, Removal, Replaced, Reply, Swapped, Take};
@@ -216,6 +218,39 @@ impl<const WORDS: usize> Handle<WORDS> {
         let mut old = [0; WORDS];
         let told = self.0.swap_if_absent(key, value, &mut old);
         reply::turn(told, |told| reply::if_absent(told, |told| Swapped::of(key, old, told)))
+    }
+
+    /// Like [`try_put`](Handle::try_put), with [`Writing::swap_bounded`](crate::Writing::swap_bounded).
+    ///
+    /// # Errors
+    ///
+    /// [`TurnError`]: the key was not put. [`BoundedError::evicted`] says what has left all the same.
+    pub fn try_swap_bounded(
+        &mut self,
+        key: u64,
+        most: u32,
+        value: &[u64; WORDS],
+    ) -> Result<Swapped<WORDS>, TurnError<BoundedError<WORDS>>> {
+        let mut old = [0; WORDS];
+        let told = self.0.swap_bounded(key, most, value, &mut old);
+        reply::turn(told, |told| Swapped::bounded(old, told, |told| Swapped::of(key, old, told)))
+    }
+
+    /// Like [`try_put`](Handle::try_put), with [`Writing::swap_if_absent_bounded`](crate::Writing::swap_if_absent_bounded).
+    ///
+    /// # Errors
+    ///
+    /// [`TurnError`]: the key was not put. [`BoundedError::evicted`] says what has left all the same.
+    pub fn try_swap_if_absent_bounded(
+        &mut self,
+        key: u64,
+        most: u32,
+        value: &[u64; WORDS],
+    ) -> Result<Swapped<WORDS>, TurnError<BoundedError<WORDS, PutIfAbsentError>>> {
+        let mut old = [0; WORDS];
+        let told = self.0.swap_if_absent_bounded(key, most, value, &mut old);
+        let swapped = |told| reply::if_absent(told, |told| Swapped::of(key, old, told));
+        reply::turn(told, |told| Swapped::bounded(old, told, swapped))
     }
 
     /// Like [`try_put`](Handle::try_put), with [`Writing::take`](crate::Writing::take).

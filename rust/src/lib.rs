@@ -40,8 +40,8 @@ pub use audit::AuditLog;
 pub use cache::{Cache, Opened};
 pub use counts::{prometheus, Counts, Meter};
 pub use error::{
-    EvictError, Held, ListError, MayBeHeld, MoreError, NotHeld, OpenError, PutError, PutIfAbsentError, PutIfError, Spent,
-    TurnError, Why,
+    BoundedError, EvictError, Held, ListError, MayBeHeld, MoreError, NotHeld, OpenError, PutError, PutIfAbsentError, PutIfError,
+    Spent, TurnError, Why,
 };
 pub use filler::{FillError, Filler, Ticket, Tickets};
 pub use handle::Handle;

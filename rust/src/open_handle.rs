@@ -199,6 +199,24 @@ impl OpenHandle {
         (status, reply)
     }
 
+    pub fn swap_bounded(&mut self, key: u64, most: u32, value: &[u64], old: &mut [u64]) -> (u32, RawReply) {
+        let mut reply = RawReply::default();
+        let words = value.len();
+        let old_words = old.len();
+        let status = unsafe { raw::cefrodil_swap_bounded(&mut self.raw, key, most, value.as_ptr(), words, old.as_mut_ptr(), old_words, &mut reply) };
+        self.counter.wrote(status, &reply);
+        (status, reply)
+    }
+
+    pub fn swap_if_absent_bounded(&mut self, key: u64, most: u32, value: &[u64], old: &mut [u64]) -> (u32, RawReply) {
+        let mut reply = RawReply::default();
+        let words = value.len();
+        let old_words = old.len();
+        let status = unsafe { raw::cefrodil_swap_if_absent_bounded(&mut self.raw, key, most, value.as_ptr(), words, old.as_mut_ptr(), old_words, &mut reply) };
+        self.counter.wrote(status, &reply);
+        (status, reply)
+    }
+
     pub fn take(&mut self, key: u64, old: &mut [u64]) -> (u32, RawReply) {
         let mut reply = RawReply::default();
         let old_words = old.len();

@@ -204,6 +204,26 @@ unsafe extern "C" {
         old_words: usize,
         reply: *mut RawReply,
     ) -> u32;
+    pub fn cefrodil_swap_bounded(
+        handle: *mut RawHandle,
+        key: u64,
+        most: u32,
+        value: *const u64,
+        words: usize,
+        old: *mut u64,
+        old_words: usize,
+        reply: *mut RawReply,
+    ) -> u32;
+    pub fn cefrodil_swap_if_absent_bounded(
+        handle: *mut RawHandle,
+        key: u64,
+        most: u32,
+        value: *const u64,
+        words: usize,
+        old: *mut u64,
+        old_words: usize,
+        reply: *mut RawReply,
+    ) -> u32;
     pub fn cefrodil_take(handle: *mut RawHandle, key: u64, old: *mut u64, old_words: usize, reply: *mut RawReply) -> u32;
     pub fn cefrodil_take_if(
         handle: *mut RawHandle,

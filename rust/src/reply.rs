@@ -1,5 +1,5 @@
 //! Answers of calls.
-use crate::error::{EvictError, ListError, PutError, PutIfAbsentError, PutIfError, Spent, TurnError};
+use crate::error::{BoundedError, EvictError, ListError, PutError, PutIfAbsentError, PutIfError, Spent, TurnError};
 use crate::memory::room;
 use crate::open_handle::OpenHandle;
 use crate::raw::{self, RawAnswer, RawPut, RawReply};
@@ -301,6 +301,17 @@ impl<const WORDS: usize> Swapped<WORDS> {
             Put::Stored { evicted, .. } => evicted.and_then(entry),
         };
         Ok(Swapped { put, old })
+    }
+
+    /// The answer of a bounded put, which has evicted this value or none. `of` makes an answer of what was told.
+    pub(crate) fn bounded<E>(
+        value: [u64; WORDS],
+        told: Told,
+        of: impl FnOnce(Told) -> Result<Swapped<WORDS>, E>,
+    ) -> Result<Swapped<WORDS>, BoundedError<WORDS, E>> {
+        let RawReply { evicted: key, since, put, .. } = told.1;
+        let evicted = (put == raw::PUT_EVICTED).then_some(Entry { key, value, since });
+        of(told).map_err(|why| BoundedError { why, evicted })
     }
 }
 

@@ -1,6 +1,8 @@
 //! A program keeps objects behind the cache: the value of a key is the number of its object. Each object that it makes is in the cache, or was
 //! returned to be dropped, and none twice.
-use cefrodil::{Cache, Entry, Put, PutIfAbsentError, PutIfError, Reply, Shape, Take, TurnError};
+use cefrodil::{
+    BoundedError, Cache, Entry, Mix, Policy, Put, PutError, PutIfAbsentError, PutIfError, Reply, Shape, Take, TurnError,
+};
 
 const OBJECTS: u64 = 1_000;
 const KEYS: u64 = 300;
@@ -66,4 +68,71 @@ fn an_object_takes_the_place_of_the_one_that_was_seen() {
     assert_eq!(handle.get(7), Reply::Absent { at: 3 });
     assert_eq!(handle.try_swap_if_absent(7, &[72]).unwrap().put, Put::Stored { at: 4, moves: 0, evicted: None });
     assert_eq!(handle.try_swap_if_absent(7, &[73]), Err(TurnError::Call(PutIfAbsentError::Present { since: 4 })));
+}
+
+#[test]
+fn another_entry_leaves_for_a_new_key_though_items_are_free() {
+    let mut handles = Cache::<1>::open(&Shape::for_items(100, 1).unwrap(), 1, 2).unwrap();
+    let meter = handles[0].meter();
+    let (one, two) = handles.split_at_mut(1);
+    let (handle, other) = (&mut one[0], &mut two[0]);
+    // The first entry finds the shard empty.
+    let first = handle.try_swap_bounded(7, 1, &[70]).unwrap();
+    assert_eq!((first.put, first.old), (Put::Stored { at: 1, moves: 0, evicted: None }, None));
+    // A key that is there drives none out.
+    let renewed = handle.try_swap_bounded(7, 1, &[71]).unwrap();
+    assert_eq!((renewed.put, renewed.old), (Put::Renewed { at: 2 }, Some(Entry { key: 7, value: [70], since: 1 })));
+    let why = PutIfAbsentError::Present { since: 2 };
+    let told = handle.try_swap_if_absent_bounded(7, 1, &[72]);
+    assert_eq!(told, Err(TurnError::Call(BoundedError { why, evicted: None })));
+    // The eviction is a change of its own.
+    let evicting = handle.try_swap_bounded(8, 1, &[80]).unwrap();
+    assert_eq!(evicting.put, Put::Stored { at: 4, moves: 0, evicted: Some(7) });
+    assert_eq!(evicting.old, Some(Entry { key: 7, value: [71], since: 2 }));
+    let absent = handle.try_swap_if_absent_bounded(9, 1, &[90]).unwrap();
+    assert_eq!((absent.put.at(), absent.old), (6, Some(Entry { key: 8, value: [80], since: 4 })));
+    assert_eq!(
+        (handle.try_len(), handle.get(9), meter.counts().evictions),
+        (Ok(1), Reply::Found { value: [90], at: 6, since: 6 }, 2)
+    );
+    let mut writing = other.hold().unwrap();
+    assert_eq!(handle.try_swap_bounded(1, 1, &[1]), Err(TurnError::Held));
+    assert_eq!(handle.try_swap_if_absent_bounded(1, 1, &[1]), Err(TurnError::Held));
+    assert_eq!(writing.swap_bounded(1, 1, &[10]).unwrap().old, Some(Entry { key: 9, value: [90], since: 6 }));
+    assert_eq!(writing.swap_if_absent_bounded(2, 1, &[20]).unwrap().old, Some(Entry { key: 1, value: [10], since: 8 }));
+    assert_eq!(writing.len(), 1);
+}
+
+// Both buckets of nine keys are the same two, and no key may move. The first key lies elsewhere, and leaves first.
+#[test]
+fn what_left_is_told_though_the_put_failed() {
+    let open = || {
+        let shape = Shape {
+            buckets: 1024,
+            items: 16,
+            stripes: 1,
+            depth: 0,
+            mix: Mix::None,
+            policy: Policy::Clock,
+            ..Shape::for_items(16, 1).unwrap()
+        };
+        let mut handle = Cache::<1>::open(&shape, 1, 1).unwrap().remove(0);
+        handle.try_put(1, &[10]).unwrap();
+        (1..9).for_each(|key| _ = handle.try_put(1024 * key, &[key]).unwrap());
+        handle
+    };
+    let left = Some(Entry { key: 1, value: [10], since: 1 });
+    let mut handle = open();
+    let told = handle.try_swap_bounded(1024 * 9, 1, &[9]);
+    if told == Err(TurnError::Call(BoundedError { why: PutError::NoPath, evicted: left })) {
+        assert_eq!((handle.try_len(), handle.meter().counts().evictions), (Ok(8), 1));
+    } else {
+        assert_eq!(told, Err(TurnError::Call(BoundedError { why: PutError::NoPath, evicted: None })));
+        assert_eq!((handle.try_len(), handle.meter().counts().evictions), (Ok(9), 0));
+    }
+    let told = open().try_swap_if_absent_bounded(1024 * 9, 1, &[9]).unwrap_err();
+    let TurnError::Call(BoundedError { why, evicted }) = told else { panic!("{told:?}") };
+    assert_eq!(why, PutIfAbsentError::Put(PutError::NoPath));
+    assert!(evicted.is_none() || evicted == left);
+    assert_eq!(told.to_string(), "no path");
 }

@@ -112,7 +112,7 @@ impl<K: Hash + Eq, V, S: BuildHasher> ObjectInner<Object<K, V>, S> {
             };
             match put {
                 Ok(put) => return Ok(put),
-                Err((_, Fail::Insert(why))) => return Err(why.into()),
+                Err((_, Fail::Insert(why, _))) => return Err(why.into()),
                 Err((object, _)) => (key, _) = Object::parts(object),
             }
         }
@@ -141,7 +141,7 @@ impl<K: Hash + Eq, V, S: BuildHasher> ObjectInner<Object<K, V>, S> {
             };
             match put {
                 Ok(put) => return Ok(Some(put)),
-                Err((_, Fail::Insert(why))) => return Err(why.into()),
+                Err((_, Fail::Insert(why, _))) => return Err(why.into()),
                 Err(_) => {}
             }
         }

@@ -152,7 +152,7 @@ impl<K: Eq, V: Clone, S> ObjectInner<Object<K, V>, S> {
                     let written = self.find(hash, &object.key, tries);
                     return written.map_or(Published::Outdated(value), Published::Other);
                 }
-                Err((_, Fail::Insert(fail))) => {
+                Err((_, Fail::Insert(fail, _))) => {
                     why = fail.into();
                     break;
                 }

@@ -6,6 +6,7 @@ use super::weights::Weights;
 use crate::bound::Evicted;
 use crate::error::{CapacityError, InsertError, RemoveError};
 use crate::stats::Kind;
+use cefrodil::Reply;
 
 impl<O: Held, S> ObjectInner<O, S> {
     /// Evicts the object that would give way next in a shard with many objects, so that each keeps its share. If other threads are only about to
@@ -15,7 +16,8 @@ impl<O: Held, S> ObjectInner<O, S> {
         Ok(self.core.evict(shards, tries, cause)?.map(|evicted| self.end_eviction(evicted, see)))
     }
 
-    fn end_eviction<R>(&self, Evicted { near, at, word }: Evicted, see: impl FnOnce(&O, u64) -> R) -> R {
+    /// Ends an eviction: the object is retired.
+    pub fn end_eviction<R>(&self, Evicted { near, at, word }: Evicted, see: impl FnOnce(&O, u64) -> R) -> R {
         let left = self.leaving(near, word);
         let seen = see(left.object(), at);
         left.tell(Reason::Evicted);
@@ -43,15 +45,13 @@ impl<O: Held, S> ObjectInner<O, S> {
     /// leave, and `evict_to_bound` comes after the put. Returns whether objects were evicted.
     #[inline(never)]
     pub fn make_room(&self, hash: u64, tries: u32) -> Result<bool, InsertError> {
-        if !self.core.is_new(hash) {
+        if let Reply::Found { .. } = self.core.slots.call(|handle| handle.get_or_turn(hash)) {
             return Ok(false);
         }
-        let has_evicted = self.evict_to_bound(tries).map_err(|why| match why {
+        self.evict_to_bound(tries).map_err(|why| match why {
             RemoveError::Spent => InsertError::Spent,
             _ => InsertError::Held,
-        })?;
-        let makes_room = self.core.bound.is_full();
-        Ok(makes_room && self.core.make_room(hash, tries, |evicted| self.end_eviction(evicted, |_, _| ())) || has_evicted)
+        })
     }
 
     /// Evicts objects until the others weigh no more than they may. Returns whether it evicted some.

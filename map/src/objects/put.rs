@@ -8,8 +8,9 @@ use super::pinned::{Over, Seen};
 use super::weights::Claim;
 use crate::error::InsertError;
 use crate::generation::NONE;
+use crate::handle::{bounded, gave, Gave};
 use crate::map::Inserted;
-use cefrodil::{Handle, PutIfError, Replaced, Swapped, TurnError};
+use cefrodil::{Handle, PutIfError, Replaced, TurnError};
 use std::hash::{BuildHasher, Hash};
 use std::sync::Arc;
 use std::time::Duration;
@@ -120,7 +121,8 @@ pub(crate) type Offered<O, E = Fail> = Result<Put, (<O as Held>::Owner, E)>;
 
 /// Why no put was made.
 pub(crate) enum Fail {
-    Insert(InsertError),
+    /// With the word of an object that left for the put all the same: that is retired by `offer`.
+    Insert(InsertError, Option<u64>),
     /// The key must be absent, and is not.
     Present,
     NotThere {
@@ -138,8 +140,8 @@ impl Fail {
         match why {
             TurnError::Call(PutIfError::NotThere { at }) => Fail::NotThere { at },
             TurnError::Call(PutIfError::Changed { since }) => Fail::Changed { since },
-            TurnError::Call(_) => Fail::Insert(InsertError::Spent),
-            TurnError::Held => Fail::Insert(InsertError::Held),
+            TurnError::Call(_) => Fail::Insert(InsertError::Spent, None),
+            TurnError::Held => Fail::Insert(InsertError::Held, None),
         }
     }
 
@@ -147,10 +149,10 @@ impl Fail {
         match self {
             Fail::NotThere { at } => IfError::NotThere { at },
             Fail::Changed { since } => IfError::Changed { since },
-            Fail::Insert(InsertError::Spent) => IfError::Spent,
-            Fail::Insert(InsertError::TooHeavy) => IfError::TooHeavy,
-            Fail::Insert(InsertError::TooDeep) => IfError::TooDeep,
-            Fail::Insert(_) | Fail::Present | Fail::Detached => IfError::Held,
+            Fail::Insert(InsertError::Spent, _) => IfError::Spent,
+            Fail::Insert(InsertError::TooHeavy, _) => IfError::TooHeavy,
+            Fail::Insert(InsertError::TooDeep, _) => IfError::TooDeep,
+            Fail::Insert(..) | Fail::Present | Fail::Detached => IfError::Held,
         }
     }
 }
@@ -160,7 +162,7 @@ impl<O: Held, S> ObjectInner<O, S> {
     pub fn put(&self, hash: u64, object: O::Owner, tries: u32) -> Offered<O, InsertError> {
         self.detach(hash);
         self.put_over(hash, object, Over::Any, tries).map_err(|(object, why)| match why {
-            Fail::Insert(why) => (object, why),
+            Fail::Insert(why, _) => (object, why),
             _ => unreachable!("this put does not ask what is there"),
         })
     }
@@ -179,7 +181,7 @@ impl<O: Held, S> ObjectInner<O, S> {
             self.detach(hash);
             match self.put_over(hash, object, over, self.core.tries) {
                 Ok(put) => return Ok(put),
-                Err((back, Fail::Insert(why))) => return Err((back, why.into())),
+                Err((back, Fail::Insert(why, _))) => return Err((back, why.into())),
                 Err((back, _)) => object = back,
             }
         }
@@ -214,7 +216,7 @@ impl<O: Held, S> ObjectInner<O, S> {
     pub fn offer(&self, hash: u64, object: O::Owner, tries: u32, put: impl FnOnce(u64) -> Result<Done, Fail>) -> Offered<O> {
         let (claim, has_evicted) = match self.admit(hash, &object, tries) {
             Ok(admitted) => admitted,
-            Err(why) => return Err((object, Fail::Insert(why))),
+            Err(why) => return Err((object, Fail::Insert(why, None))),
         };
         let word = O::into_word(object);
         match put(word) {
@@ -222,9 +224,14 @@ impl<O: Held, S> ObjectInner<O, S> {
                 claim.keep();
                 Ok(self.end(hash, done, has_evicted, tries))
             }
-            // SAFETY: `into_word` made the word of this very object. A call of the index that returns an error has put nothing, and each `put`
-            // fails only if it has made no call, or its last one failed. So no other thread has seen the word.
-            Err(why) => Err((unsafe { O::of_word(word) }, why)),
+            Err(why) => {
+                if let Fail::Insert(_, Some(lost)) = why {
+                    self.leaving(hash, lost).tell(Reason::Evicted);
+                }
+                // SAFETY: `into_word` made the word of this very object. A call of the index that returns an error has put nothing, and each
+                // `put` fails only if it has made no call, or its last one failed. So no other thread has seen the word.
+                Err((unsafe { O::of_word(word) }, why))
+            }
         }
     }
 
@@ -237,7 +244,7 @@ impl<O: Held, S> ObjectInner<O, S> {
             self.take_ended(hash);
         }
         let claim = Claim::of(self.weights.as_ref(), hash, object.weight()).ok_or(InsertError::TooHeavy)?;
-        let has_evicted = (self.is_too_heavy() || self.core.bound.is_full()) && self.make_room(hash, tries)?;
+        let has_evicted = self.is_too_heavy() && self.make_room(hash, tries)?;
         Ok((claim, has_evicted))
     }
 
@@ -246,6 +253,7 @@ impl<O: Held, S> ObjectInner<O, S> {
         if let Some((word, reason)) = old {
             self.leaving(hash, word).tell(reason);
         }
+        put.did = self.core.keep_bound(put.did, hash, tries, |evicted| self.end_eviction(evicted, |_, _| ()));
         if self.is_too_heavy() {
             // If there is no turn, the next put does this.
             let _ = self.evict_to_bound(tries);
@@ -277,8 +285,14 @@ impl<O: Held, S> ObjectInner<O, S> {
     pub fn put_word(&self, hash: u64, word: u64, over: Over, tries: u32) -> Result<Done, Fail> {
         match over {
             Over::Any => {
-                let swapped = self.try_to_put(word, tries, |_| self.core.slots.call(|handle| handle.try_swap(hash, &[word])));
-                Ok(self.swapped(swapped.map_err(|why| Fail::Insert(InsertError::of(why)))?))
+                let mut lost = None;
+                let swapped = self.try_to_put(word, tries, |_| {
+                    self.core.slots.call(|handle| match self.core.bound.is_full() {
+                        true => self.core.bounded(bounded(handle.try_swap_bounded(hash, 1, &[word])), |word| lost = Some(word)),
+                        false => handle.try_swap(hash, &[word]).map(gave),
+                    })
+                });
+                Ok(self.swapped(swapped.map_err(|why| Fail::Insert(InsertError::of(why), lost))?))
             }
             Over::Absent => self.put_absent(hash, word, tries, None),
             Over::AbsentIn(generation) => self.put_absent(hash, word, tries, Some(generation)),
@@ -291,26 +305,30 @@ impl<O: Held, S> ObjectInner<O, S> {
     }
 
     fn put_absent(&self, hash: u64, word: u64, tries: u32, made_in: Option<u64>) -> Result<Done, Fail> {
-        let swap = |handle: &mut Handle<1>| handle.try_swap_if_absent(hash, &[word]);
+        let mut lost = None;
+        let mut swap = |handle: &mut Handle<1>| match self.core.bound.is_full() {
+            true => self.core.bounded(bounded(handle.try_swap_if_absent_bounded(hash, 1, &[word])), |word| lost = Some(word)),
+            false => handle.try_swap_if_absent(hash, &[word]).map(gave),
+        };
         let swapped = self.try_to_put(word, tries, |_| match made_in {
-            None => self.core.slots.call(swap),
-            Some(generation) => self.core.in_generation(hash, generation, swap),
+            None => self.core.slots.call(&mut swap),
+            Some(generation) => self.core.in_generation(hash, generation, &mut swap),
         });
-        let swapped = swapped.map_err(|why| InsertError::of_absent(why).map_or(Fail::Present, Fail::Insert));
-        Ok(self.swapped(swapped?))
+        let fail = |why| InsertError::of_absent(why).map_or(Fail::Present, |why| Fail::Insert(why, lost));
+        Ok(self.swapped(swapped.map_err(fail)?))
     }
 
     fn replaced(&self, Replaced { at, old }: Replaced<1>) -> Done {
-        self.core.count_put(Inserted::Renewed);
+        self.core.slots.count_put(Inserted::Renewed);
         let put = Put { did: Inserted::Renewed, at };
         Done { put, old: Some((old.value[0], Reason::Replaced)) }
     }
 
-    fn swapped(&self, Swapped { put, old }: Swapped<1>) -> Done {
+    fn swapped(&self, (put, old): Gave) -> Done {
         let (at, did) = (put.at(), Inserted::of(put));
-        self.core.count_put(did);
+        self.core.slots.count_put(did);
         let reason = if let Inserted::Evicted = did { Reason::Evicted } else { Reason::Replaced };
-        Done { put: Put { did, at }, old: old.map(|old| (old.value[0], reason)) }
+        Done { put: Put { did, at }, old: old.map(|word| (word, reason)) }
     }
 }
 

@@ -112,7 +112,7 @@ impl<O: Held, S> ObjectInner<O, S> {
             Reason::Expired => self.core.in_lock(hash, take),
             _ => self.core.slots.call(take),
         })?;
-        self.core.slots.count_left(Kind::Removed, if reason == Reason::Expired { Kind::Ended } else { Kind::Removed });
+        self.core.count_left(Kind::Removed, if reason == Reason::Expired { Kind::Ended } else { Kind::Removed });
         self.leaving(hash, taken.old.value[0]).tell(reason);
         Ok(taken.at)
     }

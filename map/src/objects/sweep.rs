@@ -105,7 +105,7 @@ impl<K, V, S> ObjectMap<K, V, S> {
         for hash in inner.core.list(inner.core.tries, Index::keys)? {
             let taken = inner.core.slots.in_turn(inner.core.tries, || inner.core.slots.call(|handle| handle.try_take(hash)));
             if let Take::Taken { old, .. } = taken.map_err(ClearError::of_removal)? {
-                inner.core.slots.count_left(Kind::Removed, Kind::Removed);
+                inner.core.count_left(Kind::Removed, Kind::Removed);
                 inner.leaving(hash, old.value[0]).tell(Reason::Removed);
             }
         }

@@ -14,23 +14,24 @@ fn many_shards_have_few_stripes_each() {
     }
 }
 
-// One for each 2,500 entries, a power of two, and 16 at most.
+// One for each 125 entries, a power of two, and 16 at most.
 #[test]
 fn there_are_so_many_shards_by_default() {
     let expected =
-        [(1, 1), (4_999, 1), (5_000, 2), (9_999, 2), (10_000, 4), (20_000, 8), (39_999, 8), (40_000, 16), (3_000_000, 16)];
+        [(1, 1), (249, 1), (250, 2), (499, 2), (500, 4), (999, 4), (1_000, 8), (1_999, 8), (2_000, 16), (3_000_000, 16)];
     for (capacity, shards) in expected {
         assert_eq!(Settings::new(capacity).shape().unwrap().1, shards, "of {capacity}");
     }
 }
 
-// A shard's mean share is rounded up, and its deviation too, which counts five times.
 #[test]
-fn by_default_there_is_room_for_a_tenth_more_at_most() {
-    for capacity in (1..100_000).step_by(13).chain([500, 5_000, 10_000, 20_000, 40_000]) {
-        let (shape, shards) = Settings::new(capacity).shape().unwrap();
-        let (room, most) = (shape.items as usize * shards as usize, capacity + capacity / 10 + 6 * shards as usize);
-        assert!((capacity..=most).contains(&room), "{room} for {capacity}");
+fn by_default_a_map_holds_a_tenth_more_at_most() {
+    for capacity in (1..100_000).step_by(13).chain([249, 250, 500, 1_000, 2_000, 40_000]) {
+        let settings = Settings::new(capacity);
+        let (shape, shards) = settings.shape().unwrap();
+        let (bound, room) = (settings.bound(&shape, shards), shape.items as usize * shards as usize);
+        assert_eq!(bound, room.min(capacity + capacity / 10), "for {capacity}");
+        assert!(capacity <= bound, "{bound} for {capacity}");
     }
 }
 

@@ -27,10 +27,6 @@ impl Index for Opens {
         0
     }
 
-    fn has(&mut self, _: u64) -> bool {
-        false
-    }
-
     fn keys(&mut self) -> Result<Vec<u64>, TurnError<ListError>> {
         Err(TurnError::Held)
     }

@@ -1,7 +1,9 @@
 //! The capacity of a map of objects, when it is changed.
 use crate::ledger::{Ledger, Owned};
 use cefrodil_map::{CapacityError, Inserted, ObjectMap, Reason};
+use std::sync::atomic::{AtomicU64, Ordering::Relaxed};
 use std::sync::{Arc, Mutex};
+use std::thread;
 
 type Heard = Arc<Mutex<Vec<(u64, Reason)>>>;
 
@@ -82,4 +84,55 @@ fn weights_bound_it_too() {
     (150..250).for_each(|key| drop(map.insert(key, 100)));
     let stats = map.stats();
     assert_eq!((map.weight(), stats.evicted), (500, stats.evicted_by_weight + stats.evicted_by_capacity));
+}
+
+// By eight threads, whose puts, loads and removals meet in a full map. What the listener hears of is what has left, and all of it is dropped once.
+#[test]
+fn threads_lose_no_object_in_a_full_map() {
+    let (heard, ledger) = (Arc::new(AtomicU64::new(0)), Ledger::new(60_000));
+    let hears = Arc::clone(&heard);
+    let map: ObjectMap<u64, Owned> =
+        ObjectMap::builder(1_000).listener(move |_, _: &Owned, _| _ = hears.fetch_add(1, Relaxed)).open().unwrap();
+    thread::scope(|threads| {
+        for thread in 0..8 {
+            let map = &map;
+            threads.spawn(move || {
+                for number in 0..2_000 {
+                    let key = (number * 8 + thread) * 7 % 5_000;
+                    match number % 8 {
+                        0 => _ = map.remove_with(&key, |_| ()),
+                        1 => _ = map.insert_if_absent(key, ledger.make(key)),
+                        2 => _ = map.update(key, |_| ledger.make(key)),
+                        _ => _ = map.insert(key, ledger.make(key)),
+                    }
+                }
+            });
+        }
+    });
+    for key in 10_000..12_000 {
+        map.insert(key, ledger.make(key)).unwrap();
+    }
+    let (mut there, stats) = (0, map.stats());
+    map.for_each(|_, _| there += 1).unwrap();
+    assert_eq!((there, map.len(), map.capacity()), (1_100, 1_100, 1_100));
+    assert_eq!((stats.evicted, stats.added), (stats.evicted_by_capacity, 1_100 + stats.evicted + stats.removed));
+    assert_eq!(heard.load(Relaxed), stats.evicted + stats.removed + stats.renewed);
+    drop(map);
+    ledger.each_once();
+}
+
+#[test]
+fn a_removal_makes_room_for_one_object() {
+    let (map, heard, ledger) = open(1_000, 8);
+    let put = |key| map.insert(key, ledger.make(key)).unwrap();
+    (0..3_000).for_each(|key| _ = put(key));
+    assert_eq!((map.len(), heard.lock().unwrap().len()), (1_100, 1_900));
+    let there = (0..3_000).find(|key| map.contains_key(key)).unwrap();
+    map.remove_with(&there, |_| ()).unwrap();
+    assert_eq!((put(5_000), map.len(), map.stats().evicted), (Inserted::New, 1_100, 1_900));
+    assert_eq!((put(5_001), map.len(), map.stats().evicted_by_capacity), (Inserted::Evicted, 1_100, 1_901));
+    map.insert_if_absent(5_002, ledger.make(5_002)).unwrap();
+    assert_eq!((map.len(), map.stats().evicted_by_capacity, heard.lock().unwrap().len()), (1_100, 1_902, 1_903));
+    map.clear().unwrap();
+    assert_eq!(((6_000..7_100).filter(|key| put(*key) == Inserted::New).count(), put(8_000)), (1_100, Inserted::Evicted));
 }

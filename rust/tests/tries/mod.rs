@@ -20,6 +20,8 @@ pub const TRIES: &[Try] = &[
     ("try_swap", |handle| is_held(handle.try_swap(7, &[71]))),
     ("try_swap_if", |handle| is_held(handle.try_swap_if(7, 1, &[71]))),
     ("try_swap_if_absent", |handle| is_held(handle.try_swap_if_absent(7, &[71]))),
+    ("try_swap_bounded", |handle| is_held(handle.try_swap_bounded(7, 1, &[71]))),
+    ("try_swap_if_absent_bounded", |handle| is_held(handle.try_swap_if_absent_bounded(7, 1, &[71]))),
     ("try_take", |handle| is_held(handle.try_take(7))),
     ("try_take_if", |handle| is_held(handle.try_take_if(7, 1))),
     ("try_evict", |handle| is_held(handle.try_evict(7))),

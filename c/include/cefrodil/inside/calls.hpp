@@ -24,11 +24,10 @@ inline Written written(cefrodil_status status, const cefrodil_reply &reply) noex
     return {static_cast<Status>(status), evicted, reply.at, reply.since, reply.put == CEFRODIL_PUT_RENEWED};
 }
 
-// `gone`: an entry gives way if the call is done.
+// `gone`: an entry has given way.
 template <size_t Words> Swapped<Words> swapped(const Written &write, const std::array<uint64_t, Words> &old, bool gone) noexcept {
-    const bool done = write.status == Status::ok && gone;
-    Swapped<Words> told{write.status, write.evicted, std::nullopt, write.at, done ? write.since : 0, done ? 0 : write.since};
-    if (done) {
+    Swapped<Words> told{write.status, write.evicted, std::nullopt, write.at, gone ? write.since : 0, gone ? 0 : write.since};
+    if (gone) {
         told.old = old;
     }
     return told;
@@ -100,13 +99,13 @@ template <size_t Words> class Calls : public OpenHandle {
         cefrodil_reply reply;
         Value old{};
         const cefrodil_status status = cefrodil_swap(raw(), key, value.data(), Words, old.data(), Words, &reply);
-        return swapped<Words>(wrote(status, reply), old, reply.put != CEFRODIL_PUT_STORED);
+        return swapped<Words>(wrote(status, reply), old, reply.put > CEFRODIL_PUT_STORED);
     }
     [[nodiscard]] Swapped<Words> swap_if(uint64_t key, uint64_t since, const Value &value) noexcept {
         cefrodil_reply reply;
         Value old{};
         const cefrodil_status status = cefrodil_swap_if(raw(), key, since, value.data(), Words, old.data(), Words, &reply);
-        return swapped<Words>(wrote(status, reply), old, true);
+        return swapped<Words>(wrote(status, reply), old, status == CEFRODIL_OK);
     }
     [[nodiscard]] Swapped<Words> swap_if_absent(uint64_t key, const Value &value) noexcept {
         cefrodil_reply reply;
@@ -114,17 +113,29 @@ template <size_t Words> class Calls : public OpenHandle {
         const cefrodil_status status = cefrodil_swap_if_absent(raw(), key, value.data(), Words, old.data(), Words, &reply);
         return swapped<Words>(wrote(status, reply), old, reply.put == CEFRODIL_PUT_EVICTED);
     }
+    [[nodiscard]] Swapped<Words> swap_bounded(uint64_t key, uint32_t most, const Value &value) noexcept {
+        cefrodil_reply reply;
+        Value old{};
+        const cefrodil_status status = cefrodil_swap_bounded(raw(), key, most, value.data(), Words, old.data(), Words, &reply);
+        return swapped<Words>(wrote(status, reply), old, reply.put > CEFRODIL_PUT_STORED);
+    }
+    [[nodiscard]] Swapped<Words> swap_if_absent_bounded(uint64_t key, uint32_t most, const Value &value) noexcept {
+        cefrodil_reply reply;
+        Value old{};
+        const cefrodil_status status = cefrodil_swap_if_absent_bounded(raw(), key, most, value.data(), Words, old.data(), Words, &reply);
+        return swapped<Words>(wrote(status, reply), old, reply.put == CEFRODIL_PUT_EVICTED);
+    }
     [[nodiscard]] Swapped<Words> take(uint64_t key) noexcept {
         cefrodil_reply reply;
         Value old{};
         const cefrodil_status status = cefrodil_take(raw(), key, old.data(), Words, &reply);
-        return swapped<Words>(wrote(status, reply), old, true);
+        return swapped<Words>(wrote(status, reply), old, status == CEFRODIL_OK);
     }
     [[nodiscard]] Swapped<Words> take_if(uint64_t key, uint64_t since) noexcept {
         cefrodil_reply reply;
         Value old{};
         const cefrodil_status status = cefrodil_take_if(raw(), key, since, old.data(), Words, &reply);
-        return swapped<Words>(wrote(status, reply), old, true);
+        return swapped<Words>(wrote(status, reply), old, status == CEFRODIL_OK);
     }
     [[nodiscard]] Swapped<Words> evict(uint64_t near = 0) noexcept {
         cefrodil_reply reply;
@@ -134,7 +145,7 @@ template <size_t Words> class Calls : public OpenHandle {
         if (status == CEFRODIL_OK) {
             write.evicted = reply.evicted;
         }
-        return swapped<Words>(write, old, true);
+        return swapped<Words>(write, old, status == CEFRODIL_OK);
     }
 
     [[nodiscard]] Shown<Words> entry_at(uint64_t near, uint32_t item) noexcept {

@@ -109,7 +109,7 @@ template <size_t Words, class Beside = NothingBeside> class Entries : public Tur
     // The status of the removal of an entry that had ended. It is counted.
     Status ended_by(Status taken) noexcept {
         this->count(this->own_slot(), by_end, taken == Status::ok ? 1 : 0);
-        return taken;
+        return this->left(taken);
     }
     // Looks a few keys up.
     void get_few(const Identity *keys, size_t count, std::array<uint64_t, Words> *found, cefrodil_answer *answers) noexcept {

@@ -128,7 +128,7 @@ template <class K, class V> class Objects : public Entries<1, Epochs>, public Ob
         const auto is_new = [&] { return !has(index); };
         return offered(index, object, change, is_new, [&](OwnSlot &slot) {
             object->end_making(object->kind(), generations.now());
-            return counted(slot, slot.handle.try_swap(index, object->word()));
+            return slot.swap(index, object->word(), is_full());
         });
     }
     // Puts where nothing is, if the moment is 0, or else over what has ended and was put then. present: something is there. stale: the object was
@@ -140,7 +140,7 @@ template <class K, class V> class Objects : public Entries<1, Epochs>, public Ob
                 return refusal<Swapped<1>>(Status::stale);
             }
             return since != 0 ? slot.handle.try_swap_if(index, since, object->word())
-                              : counted(slot, slot.handle.try_swap_if_absent(index, object->word()));
+                              : slot.swap_if_absent(index, object->word(), is_full());
         });
     }
     // Puts over what was put at that moment, in the generation that the object has.
@@ -222,11 +222,6 @@ template <class K, class V> class Objects : public Entries<1, Epochs>, public Ob
 
   private:
     static uint64_t allowed_weight(uint64_t most) noexcept { return std::min(most, Rules().most_weight); }
-    // Counts a new key, unless another one gave way to it.
-    static Swapped<1> counted(OwnSlot &slot, const Swapped<1> &tried) noexcept {
-        slot.add(tried.status == Status::ok && !tried.old ? 1 : 0);
-        return tried;
-    }
     // With the key's lock. The object gets the generation of now, or, if it was computed, must have that.
     bool begins(Each &object, bool is_computed) noexcept {
         const uint64_t now = generations.now(), own = object.generation();
@@ -246,7 +241,7 @@ template <class K, class V> class Objects : public Entries<1, Epochs>, public Ob
         if (taken.old) {
             change.old = out(index, *taken.old, change);
         }
-        return taken.status;
+        return left(taken.status);
     }
     // The index has it no more. Returns it, by its word and any key of its shard.
     Each *out(uint64_t key, const std::array<uint64_t, 1> &word, Change &change) noexcept {
@@ -267,9 +262,6 @@ template <class K, class V> class Objects : public Entries<1, Epochs>, public Ob
         if (this->has_lives()) {
             sweep(index, change);
         }
-        if (is_full()) {
-            make_room_for(index, change, is_new);
-        }
         return rules_.weigher ? offered_weighed(index, object, change, is_new, make) : ended(index, object, change, locked(index, make));
     }
     // Removes what has ended at two places of the key's shard, so that no other object leaves for a new one.
@@ -281,11 +273,6 @@ template <class K, class V> class Objects : public Entries<1, Epochs>, public Ob
                 change.old = nullptr;
             }
         });
-    }
-    template <class IsNew> [[gnu::cold]] [[gnu::noinline]] void make_room_for(uint64_t index, Change &change, const IsNew &is_new) noexcept {
-        if (is_new()) {
-            make_room(index, [&](uint64_t near) { return evict(near, by_capacity, change); });
-        }
     }
     // Others leave for a new key before it is put, so that it is not itself what gives way.
     template <class IsNew, class Make>
@@ -320,7 +307,7 @@ template <class K, class V> class Objects : public Entries<1, Epochs>, public Ob
             static_cast<void>(out(near, *taken.old, change));
             change.evicted = true;
         }
-        return taken.status;
+        return left(taken.status);
     }
     void end(Change &change) noexcept {
         for (Retired *next = change.first; next != nullptr;) {
@@ -354,14 +341,21 @@ template <class K, class V> class Objects : public Entries<1, Epochs>, public Ob
     // The index has the object now, unless the put failed.
     Status ended(uint64_t index, Own &object, Change &change, const Swapped<1> &swapped) noexcept {
         if (swapped.status != Status::ok) {
+            if (swapped.old) {
+                // It left for the object, which then found no place.
+                static_cast<void>(out(index, *swapped.old, change));
+                change.evicted = true;
+                static_cast<void>(left(Status::ok));
+            }
             return swapped.status;
         }
         static_cast<void>(object.release());
-        swapped.old ? void() : note_new();
         if (swapped.old) {
             change.old = out(index, *swapped.old, change);
             change.renewed = !swapped.evicted, change.evicted = change.evicted || swapped.evicted;
             change.why = change.renewed ? Left::replaced : Left::evicted;
+        } else {
+            keep_bound(index, [&](uint64_t near) { return evict(near, by_capacity, change); });
         }
         return Status::ok;
     }

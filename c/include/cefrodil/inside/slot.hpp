@@ -56,6 +56,16 @@ template <size_t Words, class Beside = NothingBeside> struct alignas(128) Slot {
         cefrodil_reply reply;
         return stored(cefrodil_put_if_absent(handle.raw(), key, value.data(), Words, &reply), reply);
     }
+    // The same by a call in which another key of the shard leaves for a new one. That is counted, also if the put fails then.
+    [[gnu::noinline]] Stored put_bounded(uint64_t key, const Value &value) noexcept { return stored(swap(key, value, true)); }
+    [[gnu::noinline]] Stored put_if_absent_bounded(uint64_t key, const Value &value) noexcept { return stored(swap_if_absent(key, value, true)); }
+    // Puts, and returns what gave way.
+    Swapped<Words> swap(uint64_t key, const Value &value, bool bounded) noexcept {
+        return swapped(bounded ? handle.try_swap_bounded(key, 1, value) : handle.try_swap(key, value), bounded);
+    }
+    Swapped<Words> swap_if_absent(uint64_t key, const Value &value, bool bounded) noexcept {
+        return swapped(bounded ? handle.try_swap_if_absent_bounded(key, 1, value) : handle.try_swap_if_absent(key, value), bounded);
+    }
     Status remove(uint64_t key) noexcept { return removed(handle.try_remove(key).status); }
     Status take_if(uint64_t key, uint64_t since) noexcept { return removed(handle.try_take_if(key, since).status); }
     // Evicts a key of this one's shard. It is counted, and why.
@@ -80,6 +90,13 @@ template <size_t Words, class Beside = NothingBeside> struct alignas(128) Slot {
     [[gnu::cold]] [[gnu::noinline]] Stored failed(cefrodil_status status, const cefrodil_reply &reply) noexcept {
         Counting::counter(handle).wrote(status, reply);
         return {static_cast<Status>(status), false, reply.put == CEFRODIL_PUT_EVICTED};
+    }
+    static Stored stored(const Swapped<Words> &put) noexcept { return {put.status, put.old && !put.evicted, put.evicted.has_value()}; }
+    Swapped<Words> swapped(const Swapped<Words> &put, bool bounded) noexcept {
+        const bool is_new = put.status == Status::ok && (!put.old || put.evicted);
+        add(int64_t(is_new) - int64_t(put.evicted.has_value()));
+        count(by_capacity, bounded && put.evicted ? 1 : 0);
+        return put;
     }
     Status removed(Status status) noexcept {
         add(status == Status::ok ? -1 : 0);

@@ -158,11 +158,12 @@ class Table : public Entries<Packing<V, Times::moments>::words>, private Packing
     Stored put(const Identity &key, const V &value, const Life &life = {}) noexcept {
         sweep(key.index);
         const Ends ends = Times::ends(life);
-        const bool has_evicted = this->is_full() && make_room_for(key.index);
-        const Stored put = this->locked(key.index, [this, key, ends, &value](Slot<words> &slot) {
+        if (this->is_full()) {
+            return kept(key.index, put_bounded(key, value, ends));
+        }
+        return kept(key.index, this->locked(key.index, [this, key, ends, &value](Slot<words> &slot) {
             return slot.put(key.index, pack_in(generations.now(), key, ends, value));
-        });
-        return told(put, has_evicted);
+        }));
     }
     // Puts if the key is absent. An entry of an older generation gives way, and so does another key's entry under the same number.
     Stored put_if_absent(const Identity &key, const V &value, const Life &life = {}) noexcept {
@@ -211,7 +212,7 @@ class Table : public Entries<Packing<V, Times::moments>::words>, private Packing
     Status clear() noexcept {
         this->flights.outdate_all();
         return each_listed([this](uint64_t index, const Words &) {
-            return this->locked(index, [index](Slot<words> &slot) { return slot.remove(index); });
+            return this->left(this->locked(index, [index](Slot<words> &slot) { return slot.remove(index); }));
         });
     }
     // Calls with the number and the words of each entry that has not expired.
@@ -245,17 +246,24 @@ class Table : public Entries<Packing<V, Times::moments>::words>, private Packing
 
   private:
     Status evict(uint64_t near) noexcept {
-        return this->call([near](Slot<words> &slot) { return slot.evict(near, by_capacity).status; });
+        return this->left(this->call([near](Slot<words> &slot) { return slot.evict(near, by_capacity).status; }));
     }
-    [[gnu::cold]] [[gnu::noinline]] bool make_room_for(uint64_t index) noexcept {
-        return !this->has(index) && this->make_room(index, [this](uint64_t near) { return evict(near); });
+    // In a full map. It is compiled apart: other puts are quicker then.
+    [[gnu::noinline]] Stored put_bounded(const Identity &key, const V &value, const Ends &ends) noexcept {
+        return told(this->locked(key.index, [this, &key, &ends, &value](Slot<words> &slot) {
+            return slot.put_bounded(key.index, pack_in(generations.now(), key, ends, value));
+        }));
     }
-    // The answer of a put before which others were evicted or not.
-    [[gnu::always_inline]] Stored told(Stored put, bool has_evicted) noexcept {
+    // The answer of a put that may have failed once another entry had left for it.
+    Stored told(const Stored &put) noexcept {
+        put.evicted && put.status != Status::ok ? void(this->left(Status::ok)) : void();
+        return put;
+    }
+    // The answer of a put, after which others are evicted if there are too many.
+    [[gnu::always_inline]] Stored kept(uint64_t index, Stored put) noexcept {
         if (!put.renewed && !put.evicted && put.status == Status::ok) {
-            this->note_new();
+            put.evicted = this->keep_bound(index, [this](uint64_t near) { return evict(near); });
         }
-        put.evicted = put.evicted || has_evicted;
         return put;
     }
     // The key as its entries of the present generation have it.
@@ -335,14 +343,16 @@ class Table : public Entries<Packing<V, Times::moments>::words>, private Packing
     template <class Begun> Stored put_new(const Identity &key, const V &value, const Ends &ends, const Begun &begun) noexcept {
         const auto make = [this, key, ends, begun, &value](Slot<words> &slot) {
             const uint64_t generation = begun();
-            const bool goes_on = generation == generations.now();
-            return goes_on ? slot.put_if_absent(key.index, pack_in(generation, key, ends, value)) : refusal<Stored>(Status::stale);
+            if (generation != generations.now()) {
+                return refusal<Stored>(Status::stale);
+            }
+            const Words packed = pack_in(generation, key, ends, value);
+            return this->is_full() ? slot.put_if_absent_bounded(key.index, packed) : slot.put_if_absent(key.index, packed);
         };
-        const bool has_evicted = this->is_full() && make_room_for(key.index);
         for (uint32_t repeat = 0;; repeat++) {
             const Stored put = this->locked(key.index, make);
             if (put.status != Status::present) {
-                return told(put, has_evicted);
+                return kept(key.index, told(put));
             }
             const uint64_t generation = begun();
             const Identity known = in_generation(key, generation);
@@ -366,7 +376,7 @@ class Table : public Entries<Packing<V, Times::moments>::words>, private Packing
         return this->locked(key.index, [index = key.index, since, &packed](Slot<words> &slot) { return slot.put_if(index, since, packed); }).status;
     }
     Status take_if(uint64_t index, uint64_t since) noexcept {
-        return this->locked(index, [index, since](Slot<words> &slot) { return slot.take_if(index, since); });
+        return this->left(this->locked(index, [index, since](Slot<words> &slot) { return slot.take_if(index, since); }));
     }
     // Puts what the function makes of an entry's value, if the entry is still the same.
     template <class Function> Found<V> renew(const Identity &known, const Entry &entry, const Function &function, const Life &life) {

@@ -4,6 +4,7 @@
 
 #include "hash.hpp"
 #include "passes.hpp"
+#include "threads.hpp"
 #include <algorithm>
 #include <array>
 #include <atomic>
@@ -61,9 +62,8 @@ struct Seen {
     uint64_t since;
 };
 
-// By default a shard has so many entries or more, and there are so many shards at most. So the room for keys that come
-// together in a shard is about a tenth.
-inline constexpr uint32_t most_shards = 16, entries_of_a_shard = 2500;
+// By default a shard has so many entries or more, and there are so many shards at most.
+inline constexpr uint32_t most_shards = 16, entries_of_a_shard = 125;
 inline uint32_t shards_for(uint32_t entries) noexcept {
     uint32_t shards = 1;
     while (shards < most_shards && shards * 2 <= entries / entries_of_a_shard) {
@@ -80,7 +80,7 @@ template <size_t Words, class Beside = NothingBeside> class Turns : public Passe
     using Base::lines;
     using typename Base::OwnSlot;
 
-    // 0 shards: as many as these entries ask for. If others have room for more than a tenth more entries, that is the bound.
+    // 0 shards: as many as these entries ask for. If all have room for more than a tenth more entries, that is the bound.
     [[nodiscard]] Status open(uint32_t entries, uint32_t asked_shards, uint32_t passes, uint32_t tries) noexcept {
         if (!same_version()) {
             return Status::other_version;
@@ -97,7 +97,7 @@ template <size_t Words, class Beside = NothingBeside> class Turns : public Passe
         looks_ = std::min(tries, most_looks);
         shards_ = shards;
         room_ = uint64_t(shape.items) * shards;
-        set_bound(asked_shards == 0 ? room_ : std::min(room_, uint64_t(entries) + entries / 10));
+        set_bound(std::min(room_, uint64_t(entries) + entries / 10));
         return Base::open(shape, shards, passes);
     }
 
@@ -121,7 +121,7 @@ template <size_t Words, class Beside = NothingBeside> class Turns : public Passe
     uint32_t shards() const noexcept { return shards_; }
     // How many keys a shard has room for.
     uint32_t places() const noexcept { return static_cast<uint32_t>(room_ / shards_); }
-    // Whether a put of a new key must first make room. Relaxed, as the bound is: a put that sees an older one leaves a key to the next put.
+    // Whether a key is to leave for a new one. Relaxed, as the bound is: a put that sees an older one leaves keys to the next put of a new key.
     bool is_full() const noexcept { return is_full_.load(std::memory_order_relaxed); }
     uint64_t capacity() const noexcept { return bound_.load(std::memory_order_relaxed); }
 
@@ -139,23 +139,18 @@ template <size_t Words, class Beside = NothingBeside> class Turns : public Passe
             }
             evict_above(most, 0, evict) ? void(held = 0) : wait_before(held++);
         }
+        note_full();
         return Status::ok;
     }
-    // Before a put of a new key, if the index is full: evicts what is too much with it, in its shard, or in the next ones. So the key is not itself what
-    // gives way. If other threads have a turn then, it leaves that to the next put. Whether it has evicted.
-    template <class Evict> bool make_room(uint64_t key, const Evict &evict) noexcept {
-        const uint64_t most = capacity();
-        if (this->keys() < most || most == room_) {
+    // After a put of a new key for which none gave way: evicts what is too much then. If other threads have turns that it needs, a later put does this.
+    // Whether it has evicted.
+    template <class Evict> bool keep_bound(uint64_t key, const Evict &evict) noexcept { return capacity() != room_ && evict_excess(key, evict); }
+    // The status of a call by which a key has left, if it is ok, and none came for it. So there is room for a new one.
+    Status left(Status status) noexcept {
+        if (status == Status::ok && is_full()) {
             is_full_.store(false, std::memory_order_relaxed);
-            return false;
         }
-        return evict_above(most - 1, key, evict);
-    }
-    // After a put of a new key for which none gave way.
-    void note_new() noexcept {
-        if (capacity() != room_ && !is_full()) {
-            note_full();
-        }
+        return status;
     }
     // Whether the index has the key. It tries once: if other threads keep it from that, the key counts as a new one.
     bool has(uint64_t key) noexcept {
@@ -164,14 +159,30 @@ template <size_t Words, class Beside = NothingBeside> class Turns : public Passe
     }
 
   private:
-    [[gnu::cold]] [[gnu::noinline]] void note_full() noexcept {
-        if (this->keys() >= capacity()) {
-            is_full_.store(true, std::memory_order_relaxed);
+    template <class Evict> [[gnu::cold]] [[gnu::noinline]] bool evict_excess(uint64_t key, const Evict &evict) noexcept {
+        // Of threads that put at the same time, the last one sees what all have counted.
+        Threads::fence();
+        if (this->keys() < capacity()) {
+            return false;
+        }
+        // The new key's shard comes last.
+        const bool has_evicted = evict_above(capacity(), key + key_of_shard(1), evict);
+        note_full();
+        return has_evicted;
+    }
+    // Not if there are more: then the next put of a new key evicts them.
+    void note_full() noexcept {
+        const auto is_so = [this] { return capacity() != room_ && this->keys() == capacity(); };
+        is_full_.store(is_so(), std::memory_order_relaxed);
+        Threads::fence();
+        // A key may have left, or the bound may have changed, before others could see the store.
+        if (is_full() && !is_so()) {
+            is_full_.store(false, std::memory_order_relaxed);
         }
     }
     void set_bound(uint64_t most) noexcept {
         bound_.store(most, std::memory_order_relaxed);
-        is_full_.store(most != room_, std::memory_order_relaxed);
+        is_full_.store(false, std::memory_order_relaxed);
     }
     // Evicts keys while there are more than so many: one in the shard of this key, and each later one in the next shard. It ends when no shard gives one. It
     // looks before each eviction, since other threads may evict the same excess. Whether it has evicted.
@@ -223,7 +234,7 @@ template <size_t Words, class Beside = NothingBeside> class Turns : public Passe
     // How many keys there is room for, and how many there may be.
     uint64_t room_ = 0;
     std::atomic<uint64_t> bound_{0};
-    // Whether a put made so many of them, and no later one found room. If the bound is the room, the index itself evicts.
+    // Whether there were so many of them, and none has left since but for another one. If the bound is the room, the index itself evicts.
     std::atomic<bool> is_full_{false};
 };
 
