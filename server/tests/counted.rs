@@ -125,6 +125,8 @@ fn removals() {
         ("md n C1 q\n", "cmd_meta delete_hits"),
         ("md n C9\n", "cmd_meta"),
         ("md none\n", "cmd_meta delete_misses"),
+        ("md n I\n", "cmd_meta"),
+        ("md none I\n", "cmd_meta delete_misses"),
         ("flush_all\n", "cmd_flush"),
         ("flush_all 100\n", "cmd_flush"),
         ("flush_all noreply\n", "cmd_flush"),

@@ -274,3 +274,29 @@ fn a_look_ends_when_others_keep_a_removal_waiting() {
     client.expire();
     assert_eq!(client.store.index.len(), 0);
 }
+
+/// Dead keys of another lock go meanwhile.
+#[test]
+fn a_look_goes_on_behind_a_key_that_is_locked() {
+    let mut client = Client::new(MEGABYTE);
+    let index = client.store.clone();
+    let lock = |key: &str| index.index.hash_of(key.as_bytes()) % 64;
+    let keys = |is_locked: bool| (0..).map(|key| format!("k{key}")).filter(move |key| (lock(key) == lock("k")) == is_locked);
+    let (locked, others): (Vec<_>, Vec<_>) = keys(true).zip(keys(false)).take(20).unzip();
+    // Their sizes differ, so each two are in a chunk of their own.
+    for (number, (locked, other)) in locked.iter().zip(&others).enumerate() {
+        let (length, value) = (40 * (number + 1), "x".repeat(40 * (number + 1)));
+        let set = |key: &str| format!("set {key} 0 -1 {length}\n{value}\n");
+        assert_eq!(client.ask(&(set(locked) + &set(other))), "STORED\nSTORED\n");
+    }
+    client.ask("set k 0 -1 1\n5\n");
+    let added = client.ask_beside("add k 0 0 1\n6\n", |other| {
+        // There may be items of other tests.
+        (0..10).for_each(|_| other.store.expire());
+        assert_eq!(other.store.index.len(), 21);
+    });
+    assert_eq!(added, "STORED\n");
+    client.expire();
+    assert_eq!(client.ask("get k\n"), "VALUE k 0 1\n6\nEND\n");
+    assert_eq!(client.store.index.len(), 1);
+}

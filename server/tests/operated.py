@@ -52,40 +52,53 @@ def signals(program):
         assert server.wait(TIMEOUT) == 0
 
 
-def full_output(program):
-    """Nobody reads where the server listens: it goes on. A question has failed then."""
-    with socket.create_server(('127.0.0.1', 0)) as free:
-        port = free.getsockname()[1]
-    with open('/dev/full', 'w', encoding='ascii') as full:
-        for word in ['--help', '--version']:
-            ran = subprocess.run([program, *USER, word], stdout=full, stderr=subprocess.PIPE, text=True, timeout=TIMEOUT, check=False)
-            assert ran.returncode == 1 and ran.stderr.startswith('cefrodild: standard output: '), ran
-        server = subprocess.Popen([program, *USER, '-p', str(port)], stdout=full)
-    try:
-        with connect_at_last(server, port) as client:
-            assert ask(client, b'mn\r\n') == b'MN\r\n'
-    finally:
-        server.kill()
-        server.wait()
-
-
-def full_log(program):
-    """Nobody reads the log, which is a full pipe: lines are left out. The server goes on, and ends when it is to."""
+@contextlib.contextmanager
+def full_pipe():
+    """The end of a pipe that takes no more, and that nobody reads."""
     reader, writer = os.pipe()
     os.set_blocking(writer, False)
     with contextlib.suppress(BlockingIOError):
         while True:
             os.write(writer, bytes(4096))
     os.set_blocking(writer, True)
-    with running(program, '-c', '1', '-vv', stderr=writer) as (server, port):
+    try:
+        yield writer
+    finally:
+        os.close(reader)
+        os.close(writer)
+
+
+def free_port():
+    with socket.create_server(('127.0.0.1', 0)) as free:
+        return free.getsockname()[1]
+
+
+def full_output(program):
+    """Nobody reads where the server listens: it goes on. A question has failed then."""
+    with open('/dev/full', 'w', encoding='ascii') as full, full_pipe() as pipe:
+        for word in ['--help', '--version']:
+            ran = subprocess.run([program, *USER, word], stdout=full, stderr=subprocess.PIPE, text=True, timeout=TIMEOUT, check=False)
+            assert ran.returncode == 1 and ran.stderr.startswith('cefrodild: standard output: '), ran
+        for output in [full, pipe]:
+            port = free_port()
+            server = subprocess.Popen([program, *USER, '-p', str(port)], stdout=output)
+            try:
+                with connect_at_last(server, port) as client:
+                    assert ask(client, b'mn\r\n') == b'MN\r\n'
+            finally:
+                server.kill()
+                server.wait()
+
+
+def full_log(program):
+    """Nobody reads the log, which is a full pipe: lines are left out. The server goes on, and ends when it is to."""
+    with full_pipe() as log, running(program, '-c', '1', '-vv', stderr=log) as (server, port):
         with connect(port) as client:
             assert ask(client, b'mn\r\n') == b'MN\r\n'
             with connect(port) as late:
                 assert rest(late) == b'ERROR Too many open connections\r\n'
             server.terminate()
             assert rest(client) == b'' and server.wait(TIMEOUT) == 0
-    os.close(reader)
-    os.close(writer)
 
 
 def connect_at_last(server, port):
