@@ -107,6 +107,7 @@ fn numbers() {
         ("ma none\n", "cmd_meta incr_misses"),
         ("ma none MD\n", "cmd_meta decr_misses"),
         ("ma none N0\n", "cmd_set cmd_meta total_items"),
+        ("ma none N0 C9\n", "cmd_set cmd_meta total_items"),
         ("ma none N0 MD\n", "cmd_set cmd_meta total_items"),
         ("ma n N0\n", "cmd_meta incr_hits"),
         ("ma n C9\n", "cmd_meta"),

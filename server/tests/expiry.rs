@@ -9,7 +9,7 @@ use std::thread::sleep;
 use std::time::{Duration, Instant};
 
 /// Each gives `k` this time to live, or makes it with that.
-const COMMANDS: [&str; 14] = [
+const COMMANDS: [&str; 16] = [
     "set k 0 TIME 1\n5\n",
     "replace k 0 TIME 1\n5\n",
     "cas k 0 TIME 1 1\n5\n",
@@ -20,6 +20,8 @@ const COMMANDS: [&str; 14] = [
     "ms k 1 TTIME\n5\n",
     "ms k 1 MR TTIME\n5\n",
     "mg k TTIME\n",
+    "delete k\nmg k NTIME\n",
+    "delete k\nmg k N50 TTIME\n",
     "ma k TTIME\n",
     "delete k\nma k NTIME\n",
     "delete k\nma k T0 NTIME\n",
@@ -31,7 +33,8 @@ fn left(command: &str, time: &str) -> String {
     let mut client = Client::new(MEGABYTE);
     client.ask("set k 0 0 1\n5\n");
     assert!(!client.ask(&command.replace("TIME", time)).contains("ERROR"), "{command} {time}");
-    client.ask("mg k t\n")
+    // The client that made an item with `N` is to fetch its value, and others are told that.
+    client.ask("mg k t\n").replace(" Z", "")
 }
 
 /// Makes the claim of what takes less than a second. If the thread had to wait, it is made again.

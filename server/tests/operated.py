@@ -101,6 +101,19 @@ def full_log(program):
             assert rest(client) == b'' and server.wait(TIMEOUT) == 0
 
 
+def repeated_lines(program):
+    """What happens again and again is told once a minute."""
+    with running(program, '-c', '1', stderr=subprocess.PIPE) as (server, port):
+        with connect(port) as client:
+            assert ask(client, b'mn\r\n') == b'MN\r\n'
+            for _ in range(5):
+                with connect(port) as late:
+                    assert rest(late) == b'ERROR Too many open connections\r\n'
+        server.terminate()
+        told = server.communicate(timeout=TIMEOUT)[1]
+        assert told == 'cefrodild: clients are turned away: 1 are connected (-c)\n', told
+
+
 def connect_at_last(server, port):
     while True:
         with contextlib.suppress(ConnectionRefusedError):
@@ -139,7 +152,7 @@ def main():
     with running(program) as (_, port):
         web_pages(port)
         binary_clients(port)
-    for test in [signals, full_output, full_log, open_files, idle_clients]:
+    for test in [signals, full_output, full_log, repeated_lines, open_files, idle_clients]:
         test(program)
 
 
