@@ -3,6 +3,7 @@ mod plain;
 use cefrodild::connection::Next;
 use cefrodild::counts::Count;
 use cefrodild::item::new_item;
+use cefrodild::output::Output;
 use cefrodild::request::How;
 use cefrodild::store::Store;
 use plain::both::Both;
@@ -281,4 +282,22 @@ fn answers_that_are_not_read_count_as_their_client_s() {
     assert!((1_000..200_000).contains(&client.store.books.budget.buffers()), "{}", client.store.books.budget.buffers());
     assert!(late.read(&client.store).len() > 1_000_000);
     assert_eq!(client.store.books.budget.buffers(), 0);
+}
+
+/// Though what follows it still waits.
+#[test]
+fn a_value_that_is_sent_is_not_held() {
+    let _turn = turn();
+    let item = new_item(1, 0, 0, b"k", &[&[b'x'; 50_000]]).expect("there is memory");
+    let mut output = Output::default();
+    assert!(output.borrow());
+    output.block(&item);
+    for (bytes, is_held) in [(2 + 49_999, true), (1, false)] {
+        assert_eq!(output.send(&mut &mut vec![0; bytes][..]).expect("there is room"), bytes);
+        assert!(output.give_back());
+        assert_eq!(output.item().is_some(), is_held, "{bytes}");
+    }
+    let mut rest = Vec::new();
+    assert_eq!(output.send(&mut rest).expect("there is room"), 2);
+    assert!(rest == b"\r\n" && output.is_empty());
 }

@@ -11,7 +11,7 @@ import socket
 import subprocess
 import sys
 
-from running import TIMEOUT, USER, ask, connect, memory_of, rest, running
+from running import TIMEOUT, USER, ask, connect, memory_of, rest, running, stats
 
 END = b'END\r\n'
 
@@ -102,13 +102,15 @@ def full_log(program):
 
 
 def repeated_lines(program):
-    """What happens again and again is told once a minute."""
+    """What happens again and again is told once a minute, and counted each time."""
     with running(program, '-c', '1', stderr=subprocess.PIPE) as (server, port):
         with connect(port) as client:
             assert ask(client, b'mn\r\n') == b'MN\r\n'
             for _ in range(5):
                 with connect(port) as late:
                     assert rest(late) == b'ERROR Too many open connections\r\n'
+            counts = stats(client)
+            assert (counts['rejected_connections'], counts['total_connections'], counts['curr_connections']) == (5, 1, 1), counts
         server.terminate()
         told = server.communicate(timeout=TIMEOUT)[1]
         assert told == 'cefrodild: clients are turned away: 1 are connected (-c)\n', told
@@ -127,8 +129,8 @@ def limited(soft, hard):
 
 
 def open_files(program):
-    """The limit is raised, as far as that is allowed."""
-    with running(program, '-c', '300', before=limited(64, 1000)) as (_, port), contextlib.ExitStack() as stack:
+    """The limit is raised, as far as that is allowed. The workers need some files, too."""
+    with running(program, '-c', '300', '-t', '64', before=limited(64, 1000)) as (_, port), contextlib.ExitStack() as stack:
         clients = [stack.enter_context(connect(port)) for _ in range(300)]
         assert all(ask(client, b'mn\r\n') == b'MN\r\n' for client in clients)
     ran = subprocess.run([program, *USER, '-p', '0', '-c', '300'], preexec_fn=limited(64, 300), capture_output=True, text=True, timeout=TIMEOUT, check=False)
