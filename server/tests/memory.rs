@@ -203,3 +203,18 @@ fn a_worker_looks_at_the_memory_though_nothing_is_stored() {
     client.store.tidy_up();
     assert!(client.store.books.budget.limit() < limit);
 }
+
+/// Though the next value has the place of another one.
+#[test]
+fn no_value_is_changed_while_too_much_waits_to_be_freed() {
+    let mut client = room_for(100, 0);
+    set(&mut client, "a");
+    let store = client.store.clone();
+    let (budget, bytes) = (&store.books.budget, 2 * store.books.budget.limit());
+    budget.claim(bytes).keep();
+    budget.leave(bytes);
+    assert_eq!(client.ask("append a 0 0 1\n6\n"), FULL);
+    assert_eq!(client.ask("get a\n"), "VALUE a 0 1\n5\nEND\n");
+    budget.free(bytes);
+    assert_eq!(client.ask("append a 0 0 1\n6\nget a\n"), "STORED\nVALUE a 0 2\n56\nEND\n");
+}

@@ -32,10 +32,20 @@ fn commands_are_refused_while_the_lock_of_their_key_is_kept() {
                 scope.spawn(move || busy(client, command));
             }
         });
+        let begin = Instant::now();
         busy(other.beside(), commands[4]);
+        let (of_both, begin) = (begin.elapsed(), Instant::now());
         assert_eq!(other.ask("gat 100 n\n"), "END\n");
+        assert!(
+            4 * begin.elapsed() < of_both,
+            "a lookup gives up much earlier than a change: {:?} of {of_both:?}",
+            begin.elapsed()
+        );
         assert_eq!(other.ask("get n\n"), "VALUE n 0 1\n1\nEND\n");
-        assert!(other.store.books.counts.get(Count::Held) >= 5 && other.store.books.counts.get(Count::Busy) == 2);
+        let count = |count| other.store.books.counts.get(count);
+        assert!(count(Count::Held) >= 5 && count(Count::Busy) == 2);
+        // Those of `mg`, `gat` and `get`.
+        assert_eq!([Count::Gets, Count::GetHits, Count::GetMisses].map(count), [3, 1, 2]);
         assert!(other.store.stalled() >= Duration::from_secs(1), "{:?}", other.store.stalled());
     });
     assert_eq!((changed.as_str(), client.store.books.counts.get(Count::Expired)), ("2\n", 0));
