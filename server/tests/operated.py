@@ -30,7 +30,14 @@ def web_pages(port):
     for line in [b'GET / HTTP/1.1', b'POST /a b HTTP/1.0', b'HTTP/1.1', b'one two three HTTP/']:
         assert answered(port, line + b'\r\nHost: localhost\r\n\r\nflush_all\r\n') == b'', line
     # Other lines with that word are commands, as they are to memcached.
-    for line, answer in [(b'get HTTP/1.1', END), (b'GET / HTTP/1.1 x', b'ERROR\r\n'), (b'GET / http/1.1', b'ERROR\r\n'), (b'GET /HTTP/1.1', b'ERROR\r\n')]:
+    invalid = b'CLIENT_ERROR invalid exptime argument\r\n'
+    for line, answer in [
+        (b'get HTTP/1.1', END),
+        (b'touch kept HTTP/1.1', invalid),
+        (b'GET / HTTP/1.1 x', b'ERROR\r\n'),
+        (b'GET / http/1.1', b'ERROR\r\n'),
+        (b'GET /HTTP/1.1', b'ERROR\r\n'),
+    ]:
         assert answered(port, line + b'\r\nget kept\r\n') == answer + b'VALUE kept 0 1\r\nx\r\nEND\r\n', line
 
 
