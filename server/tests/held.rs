@@ -301,3 +301,17 @@ fn a_value_that_is_sent_is_not_held() {
     assert_eq!(output.send(&mut rest).expect("there is room"), 2);
     assert!(rest == b"\r\n" && output.is_empty());
 }
+
+/// The answer holds one value at most. A second one is copied.
+#[test]
+fn an_answer_may_have_two_values() {
+    let _turn = turn();
+    let item = |byte| new_item(1, 0, 0, b"k", &[&[byte; 20_000]]).expect("there is memory");
+    let (mut output, mut sent) = (Output::default(), Vec::new());
+    (b'x'..=b'y').for_each(|byte| output.block(&item(byte)));
+    while !output.is_empty() {
+        assert!(output.send(&mut sent).is_ok());
+    }
+    let block = |byte| [b"\r\n", &[byte; 20_000][..], b"\r\n"].concat();
+    assert!(sent == [block(b'x'), block(b'y')].concat());
+}

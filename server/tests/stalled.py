@@ -91,16 +91,15 @@ def silent_clients(program):
             time.sleep(0.05)
         assert all(rest(client) == b'' for client in silent)
         assert stats(other)['idle_kicks'] == 4 and stats(other)['curr_connections'] == 1, stats(other)
+        # The listening socket has been silent since the server started, and this client has not.
+        times = re.findall(r':secs_since_last_cmd (\d+)\r\n', ask(other, b'stats conns\r\n', END).decode())
+        assert len(times) == 2 and int(times[0]) > 2 > int(times[1]), times
 
 
 def a_silent_client_has_its_time(program):
     with running(program, '-o', 'idle_timeout=1') as (_, port):
         while not has_its_second(port):
             pass
-        # So has one that sends no command.
-        begin = time.monotonic()
-        with connect(port) as client:
-            assert rest(client) == b'' and time.monotonic() - begin > 1
 
 
 def has_its_second(port):
