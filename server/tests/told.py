@@ -10,6 +10,7 @@ import signal
 import socket
 import subprocess
 import sys
+import tempfile
 import time
 
 from running import USER, ask, connect, rest, running
@@ -91,6 +92,15 @@ def idle_options(program):
     assert told == ''.join(f'cefrodild: {name} changes nothing here\n' for name in names), told
 
 
+def no_room(program):
+    """Nothing of the memory limit is left for items: here the file of users takes more."""
+    with tempfile.NamedTemporaryFile() as file:
+        file.write(b'u:%s\n' % (b'p' * (1 << 20)) * 24)
+        file.flush()
+        ran = run(program, '-m', '16', '-Y', file.name, '-p', '0')
+    assert (ran.returncode, ran.stdout) == (1, '') and 'takes all of the memory limit' in ran.stderr, ran
+
+
 def full_audit(program):
     """A log that could not be written to its end is an error."""
     with running(program, '--audit', '/dev/full', stderr=subprocess.PIPE) as (server, port), connect(port) as client:
@@ -143,7 +153,7 @@ def threads(program):
 
 
 def main():
-    tests = [questions, faults, addresses, idle_options, full_audit, ends, threads]
+    tests = [questions, faults, addresses, idle_options, no_room, full_audit, ends, threads]
     for test in tests:
         test(sys.argv[1])
     print(f'told: {len(tests)} tests: ok')
