@@ -20,6 +20,8 @@ use std::io::{ErrorKind, Read, Write};
 use std::ptr;
 use std::sync::atomic::Ordering::SeqCst;
 use std::sync::{Arc, Mutex, MutexGuard, Once, PoisonError};
+use std::thread::yield_now;
+use std::time::{Duration, Instant};
 
 /// Refuses some allocations of one thread.
 struct Refusing;
@@ -136,7 +138,8 @@ struct Ran {
 /// Carries the script out, with some refusals. Returns what came of it, and whether an allocation was refused.
 fn run(store: &Store, script: &[Step], first: usize, refused: usize) -> (Ran, bool) {
     let mut room = vec![0; 700_000];
-    refusing(first, refused, || {
+    let before = store.books.counts.get(Count::NoBuffers);
+    let (ran, was_refused) = refusing(first, refused, || {
         let (mut client, mut ran) = (Both::of(store), Ran::default());
         for Step { command, answer } in script {
             let Some(length) = ask(&mut client, store, command, &mut room) else {
@@ -151,7 +154,9 @@ fn run(store: &Store, script: &[Step], first: usize, refused: usize) -> (Ran, bo
         store.expire();
         store.index.sweep();
         ran
-    })
+    });
+    assert_eq!(store.books.counts.get(Count::NoBuffers) - before, ran.cut_off as u64);
+    (ran, was_refused)
 }
 
 /// What any store can do that has memory.
@@ -332,13 +337,23 @@ fn what_is_not_put_takes_no_memory() {
     assert_eq!(refusing(0, usize::MAX, || store.invalidate(b"key", Some(9), None)), (Ok(Answer::Exists), false));
 }
 
-/// The reserve has a megabyte.
+/// The reserve has a megabyte. The thread of another test may have some of it until it has ended.
 #[test]
 fn the_reserve_begins_anew_when_none_of_it_is_taken() {
     let _turn = set_up();
-    for _ in 0..50 {
-        let (block, is_refused) = refusing(0, 1, || Vec::<u8>::with_capacity(100_000));
-        assert!(is_refused && block.capacity() == 100_000);
+    let (layout, end) = (Layout::new::<[u64; 12_500]>(), Instant::now() + Duration::from_secs(10));
+    let is_taken = |_| {
+        // SAFETY: the layout is not empty.
+        let (block, is_refused) = refusing(0, 1, || unsafe { ALLOCATOR.alloc(layout) });
+        if !block.is_null() {
+            // SAFETY: it was just taken.
+            unsafe { ALLOCATOR.dealloc(block, layout) };
+        }
+        is_refused && !block.is_null()
+    };
+    while !(0..50).all(is_taken) {
+        assert!(Instant::now() < end, "it does not begin anew");
+        yield_now();
     }
 }
 
