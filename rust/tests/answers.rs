@@ -88,6 +88,13 @@ fn a_put_reports_moves_evictions_and_refusals() -> Result<(), Box<dyn Error>> {
         assert!(matches!(writing.put(key, &[1])?, Put::Stored { moves: 0, evicted: None, .. }));
     }
     assert_eq!(writing.put(28, &[28])?, Put::Stored { at: 9, moves: 1, evicted: None });
+    // The same, and a key of other buckets is evicted.
+    let mut handles = Cache::<1>::open(&Shape { items: 9, ..SMALL }, 1, 1)?;
+    let mut writing = handles[0].hold()?;
+    for key in [2, 1 << 56, 0, 4, 8, 12, 16, 20, 24] {
+        assert!(matches!(writing.put(key, &[1])?, Put::Stored { moves: 0, evicted: None, .. }));
+    }
+    assert_eq!(writing.put(28, &[28])?, Put::Stored { at: 11, moves: 1, evicted: Some(2) });
     let mut handles = Cache::<1>::open(&Shape { items: 2, ..SMALL }, 1, 1)?;
     let mut writing = handles[0].hold()?;
     writing.put(0, &[10])?;

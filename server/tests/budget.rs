@@ -128,6 +128,8 @@ fn who_holds_most_for_longest_is_cut_off() {
     assert_eq!(are_cut([&first, &second, &third]), [false; 3], "all fit");
     third.hold(FREE + 101, None);
     assert_eq!(are_cut([&first, &second, &third]), [true, false, false]);
+    // It may come to its end while it holds something else.
+    first.hold(FREE + 700, None);
     second.hold(FREE + 899, None);
     assert_eq!(are_cut([&first, &second, &third]), [true, false, false], "what is cut off is not counted");
     first.hold(FREE, None);

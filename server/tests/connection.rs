@@ -156,8 +156,8 @@ fn a_client_that_does_not_read_is_left_alone_until_it_does() {
 fn a_client_that_quits_gets_all_its_answers() {
     let mut both = Both::new();
     let waiting = both.fill();
+    // The system may have more room by now, and end it at once.
     let (mut bytes, mut next) = (0, both.send(b"quit\r\n"));
-    assert_eq!(next, Next::Event);
     while next != Next::Nothing {
         bytes += both.read().len();
         next = both.turn();

@@ -79,7 +79,11 @@ fn a_value_that_has_come_whole_is_not_refused_for_what_its_client_holds() {
     dialogue.refuse_block();
     let whole = b"set a 0 0 1\r\n1\r\n";
     assert_eq!(dialogue.turn(&store, whole, &mut answers), (whole.len(), Turn::Needs(1)));
-    assert_eq!(&answers[..], b"STORED\r\n");
+    // Nor is the value behind it, which has not.
+    dialogue.refuse_block();
+    let both = b"set a 0 0 1\r\n2\r\nset b 0 0 5\r\n12";
+    assert_eq!(dialogue.turn(&store, both, &mut answers), (16, Turn::Needs(13 + 7)));
+    assert_eq!(&answers[..], b"STORED\r\nSTORED\r\n");
 }
 
 #[test]

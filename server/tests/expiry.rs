@@ -9,7 +9,7 @@ use std::thread::sleep;
 use std::time::{Duration, Instant};
 
 /// Each gives `k` this time to live, or makes it with that.
-const COMMANDS: [&str; 14] = [
+const COMMANDS: [&str; 16] = [
     "set k 0 TIME 1\n5\n",
     "replace k 0 TIME 1\n5\n",
     "cas k 0 TIME 1 1\n5\n",
@@ -20,6 +20,8 @@ const COMMANDS: [&str; 14] = [
     "ms k 1 TTIME\n5\n",
     "ms k 1 MR TTIME\n5\n",
     "mg k TTIME\n",
+    "delete k\nmg k NTIME\n",
+    "delete k\nmg k N50 TTIME\n",
     "ma k TTIME\n",
     "delete k\nma k NTIME\n",
     "delete k\nma k T0 NTIME\n",
@@ -31,7 +33,8 @@ fn left(command: &str, time: &str) -> String {
     let mut client = Client::new(MEGABYTE);
     client.ask("set k 0 0 1\n5\n");
     assert!(!client.ask(&command.replace("TIME", time)).contains("ERROR"), "{command} {time}");
-    client.ask("mg k t\n")
+    // The client that made an item with `N` is to fetch its value, and others are told that.
+    client.ask("mg k t\n").replace(" Z", "")
 }
 
 /// Makes the claim of what takes less than a second. If the thread had to wait, it is made again.
@@ -273,4 +276,30 @@ fn a_look_ends_when_others_keep_a_removal_waiting() {
     assert_eq!((client.control.removals_to_refuse.swap(0, SeqCst), client.store.index.len()), (999, 10));
     client.expire();
     assert_eq!(client.store.index.len(), 0);
+}
+
+/// Dead keys of another lock go meanwhile.
+#[test]
+fn a_look_goes_on_behind_a_key_that_is_locked() {
+    let mut client = Client::new(MEGABYTE);
+    let index = client.store.clone();
+    let lock = |key: &str| index.index.hash_of(key.as_bytes()) % 64;
+    let keys = |is_locked: bool| (0..).map(|key| format!("k{key}")).filter(move |key| (lock(key) == lock("k")) == is_locked);
+    let (locked, others): (Vec<_>, Vec<_>) = keys(true).zip(keys(false)).take(20).unzip();
+    // Their sizes differ, so each two are in a chunk of their own.
+    for (number, (locked, other)) in locked.iter().zip(&others).enumerate() {
+        let (length, value) = (40 * (number + 1), "x".repeat(40 * (number + 1)));
+        let set = |key: &str| format!("set {key} 0 -1 {length}\n{value}\n");
+        assert_eq!(client.ask(&(set(locked) + &set(other))), "STORED\nSTORED\n");
+    }
+    client.ask("set k 0 -1 1\n5\n");
+    let added = client.ask_beside("add k 0 0 1\n6\n", |other| {
+        // There may be items of other tests.
+        (0..10).for_each(|_| other.store.expire());
+        assert_eq!(other.store.index.len(), 21);
+    });
+    assert_eq!(added, "STORED\n");
+    client.expire();
+    assert_eq!(client.ask("get k\n"), "VALUE k 0 1\n6\nEND\n");
+    assert_eq!(client.store.index.len(), 1);
 }

@@ -3,12 +3,14 @@ mod plain;
 use cefrodild::connection::Next;
 use cefrodild::counts::Count;
 use cefrodild::item::new_item;
+use cefrodild::output::Output;
 use cefrodild::request::How;
 use cefrodild::store::Store;
 use plain::both::Both;
 use plain::client::{order, Client, MEGABYTE};
 use std::io::Write;
 use std::sync::atomic::{AtomicBool, Ordering::SeqCst};
+use std::sync::mpsc::channel;
 use std::sync::{Mutex, MutexGuard, PoisonError};
 use std::thread;
 
@@ -220,4 +222,96 @@ fn who_reads_an_item_that_stays_is_not_cut_off() {
     let mut others = stalled(&client.store, 12);
     others.iter_mut().for_each(|both| assert_eq!(both.turn(&client.store), Next::Event));
     assert!(late.read(&client.store) == answer.as_bytes());
+}
+
+/// Values that are removed become the clients' though nobody stores one. Who has waited longest is cut off.
+#[test]
+fn a_worker_sees_that_removed_values_are_kept() {
+    let _turn = turn();
+    let mut client = Client::with(16 * MEGABYTE, "-t1 -m 16");
+    let mut late: Vec<_> = (0..12).map(|_| Both::of(&client.store)).collect();
+    for (key, both) in late.iter_mut().enumerate() {
+        client.ask(&format!("set {key} 0 0 1000000\n{}\n", "x".repeat(1_000_000)));
+        both.stream.write_all(format!("get {key}\r\n").as_bytes()).expect("it takes a command");
+        assert_eq!(both.turn(&client.store), Next::Event);
+    }
+    (0..12).for_each(|key| assert_eq!(client.ask(&format!("delete {key}\n")), "DELETED\n"));
+    client.store.tidy_up();
+    assert_eq!(late[0].turn(&client.store), Next::Nothing);
+    assert_eq!(late[11].turn(&client.store), Next::Event);
+}
+
+/// One that does not read is cut off, whatever it has sent behind that.
+#[test]
+fn who_does_not_read_is_cut_off_though_a_value_has_begun() {
+    let _turn = turn();
+    let (mut client, _) = stored();
+    let mut late = Both::of(&client.store);
+    late.stream.write_all(b"get k\r\nset a 0 0 1000000\r\nxxx").expect("it takes commands");
+    assert_eq!(late.turn(&client.store), Next::Event);
+    client.ask("delete k\n");
+    let others = stalled(&client.store, 8);
+    assert_eq!(late.turn(&client.store), Next::Nothing);
+    drop(others);
+}
+
+/// Also within the turn in which it comes to its end.
+#[test]
+fn a_value_counts_as_its_client_s_until_it_is_stored() {
+    const SIZE: usize = 200_000;
+    let _turn = turn();
+    let (client, _) = stored();
+    let (mut both, other, (told, held)) = (Both::of(&client.store), client.beside(), channel());
+    *client.control.meanwhile.lock().unwrap() = Some(Box::new(move || {
+        told.send(other.store.books.budget.buffers()).expect("it is received");
+    }));
+    assert!(both.ask(&client.store, &[b"add a 0 0 200000\r\n", &[b'x'; 100_000][..]].concat()).is_empty());
+    assert_eq!(both.ask(&client.store, &[&[b'x'; SIZE - 100_000][..], b"\r\n"].concat()), b"STORED\r\n");
+    let held = held.recv().expect("it was sent") as usize;
+    assert!((SIZE..2 * SIZE).contains(&held), "{held}");
+}
+
+#[test]
+fn answers_that_are_not_read_count_as_their_client_s() {
+    let _turn = turn();
+    let (mut client, _) = stored();
+    client.ask(&format!("set s 0 0 10000\n{}\n", "x".repeat(10_000)));
+    let mut late = Both::of(&client.store);
+    late.stream.write_all("get s\r\n".repeat(100).as_bytes()).expect("it takes commands");
+    assert_eq!(late.turn(&client.store), Next::Event);
+    assert!((1_000..200_000).contains(&client.store.books.budget.buffers()), "{}", client.store.books.budget.buffers());
+    assert!(late.read(&client.store).len() > 1_000_000);
+    assert_eq!(client.store.books.budget.buffers(), 0);
+}
+
+/// Though what follows it still waits.
+#[test]
+fn a_value_that_is_sent_is_not_held() {
+    let _turn = turn();
+    let item = new_item(1, 0, 0, b"k", &[&[b'x'; 50_000]]).expect("there is memory");
+    let mut output = Output::default();
+    assert!(output.borrow());
+    output.block(&item);
+    for (bytes, is_held) in [(2 + 49_999, true), (1, false)] {
+        assert_eq!(output.send(&mut &mut vec![0; bytes][..]).expect("there is room"), bytes);
+        assert!(output.give_back());
+        assert_eq!(output.item().is_some(), is_held, "{bytes}");
+    }
+    let mut rest = Vec::new();
+    assert_eq!(output.send(&mut rest).expect("there is room"), 2);
+    assert!(rest == b"\r\n" && output.is_empty());
+}
+
+/// The answer holds one value at most. A second one is copied.
+#[test]
+fn an_answer_may_have_two_values() {
+    let _turn = turn();
+    let item = |byte| new_item(1, 0, 0, b"k", &[&[byte; 20_000]]).expect("there is memory");
+    let (mut output, mut sent) = (Output::default(), Vec::new());
+    (b'x'..=b'y').for_each(|byte| output.block(&item(byte)));
+    while !output.is_empty() {
+        assert!(output.send(&mut sent).is_ok());
+    }
+    let block = |byte| [b"\r\n", &[byte; 20_000][..], b"\r\n"].concat();
+    assert!(sent == [block(b'x'), block(b'y')].concat());
 }

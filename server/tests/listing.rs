@@ -1,6 +1,7 @@
 //! Lists of items, by `stats cachedump` and `lru_crawler metadump`.
 mod plain;
 use cefrodild::clock::unix_time;
+use plain::both::Both;
 use plain::client::{Client, MEGABYTE};
 
 /// The lines of a list, in the order of their keys.
@@ -91,6 +92,9 @@ fn a_long_list_is_whole() {
     assert!(lines.into_iter().eq((0..ITEMS).map(|number| format!("ITEM {} [1 b; 0 s]", key(number)))));
     let lines = list(&mut client, "lru_crawler metadump all");
     assert!(lines.len() == ITEMS && lines[7].starts_with(&format!("key={} exp=-1 la=", key(7))), "{}", lines[7]);
+    // So is that of a client whose connection goes on by itself, since nothing more comes.
+    let answer = Both::of(&client.store).ask(&client.store, b"stats cachedump 1 0\r\n");
+    assert!(answer.ends_with(b"END\r\n") && answer.split(|byte| *byte == b'\n').count() == ITEMS + 2, "{} bytes", answer.len());
 }
 
 /// All but the time of the last access, which is that when the item was stored here.

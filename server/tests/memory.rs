@@ -2,7 +2,11 @@
 mod plain;
 use cefrodild::budget::cost;
 use cefrodild::counts::Count;
-use plain::client::{Client, MEGABYTE};
+use cefrodild::request::How;
+use cefrodild::rss_limit::RssLimit;
+use cefrodild::store::{Answer, Fault};
+use plain::client::{exceed, order, Client, MEGABYTE};
+use std::mem::forget;
 use std::sync::atomic::Ordering::SeqCst;
 
 const FULL: &str = "SERVER_ERROR out of memory storing object\n";
@@ -147,4 +151,70 @@ fn an_item_is_refused_if_no_other_one_goes() {
     client.control.refuses_removals.store(true, SeqCst);
     assert_eq!(client.ask("set a 0 0 1\n5\n"), FULL);
     assert!(client.store.books.budget.used() <= client.store.books.budget.limit());
+}
+
+/// Stores a value of so many bytes.
+fn store(client: &Client, key: &str, length: usize) -> Result<Answer, Fault> {
+    client.store.store(&order(How::Set, key.as_bytes(), length), &vec![b'x'; length])
+}
+
+#[test]
+fn what_gives_way_as_the_process_exceeds_its_limit_is_freed() {
+    let client = Client::new(0);
+    exceed(&client.store, MEGABYTE);
+    assert!(store(&client, "a", 1).is_ok());
+    assert!(client.control.sweeps.load(SeqCst) > 0);
+}
+
+/// Each look takes up to four times its bytes from the others.
+#[test]
+fn more_gives_way_to_a_large_item_as_the_process_exceeds_its_limit() {
+    let client = Client::new(8 * MEGABYTE);
+    (0..300).for_each(|key| assert!(store(&client, &key.to_string(), 10_000).is_ok()));
+    exceed(&client.store, 4 * MEGABYTE);
+    assert!(store(&client, "large", 100_000).is_ok());
+    let used = client.store.books.budget.used();
+    assert!((1_400_000..2_000_000).contains(&used), "{used}");
+}
+
+/// The process would exceed its limit when the item is there.
+#[test]
+fn an_item_is_refused_for_which_the_process_has_no_memory() {
+    const ALL: usize = 64 * MEGABYTE;
+    let (client, values) = (Client::with(0, "-t1 -m 256 -I 64m"), vec![b'x'; ALL]);
+    let store = |length| client.store.store(&order(How::Set, b"a", length), &values[..length]);
+    let taken = RssLimit::new(0).and_then(|limit| limit.resident()).expect("the system tells");
+    let budget = &client.store.books.budget;
+    budget.bound_process(taken + ALL as u64).expect("the system tells");
+    // It takes half of that for something else.
+    let mut other = budget.claim(ALL as u64 / 2);
+    other.expect();
+    forget(other);
+    budget.leave(ALL as u64 / 2);
+    budget.free(ALL as u64 / 2);
+    assert_eq!(store(3 * ALL / 4), Err(Fault::NoRoom));
+    assert!(matches!(store(ALL / 4), Ok(Answer::Done(_))));
+}
+
+#[test]
+fn a_worker_looks_at_the_memory_though_nothing_is_stored() {
+    let client = Client::new(0);
+    let limit = exceed(&client.store, 64 * MEGABYTE);
+    client.store.tidy_up();
+    assert!(client.store.books.budget.limit() < limit);
+}
+
+/// Though the next value has the place of another one.
+#[test]
+fn no_value_is_changed_while_too_much_waits_to_be_freed() {
+    let mut client = room_for(100, 0);
+    set(&mut client, "a");
+    let store = client.store.clone();
+    let (budget, bytes) = (&store.books.budget, 2 * store.books.budget.limit());
+    budget.claim(bytes).keep();
+    budget.leave(bytes);
+    assert_eq!(client.ask("append a 0 0 1\n6\n"), FULL);
+    assert_eq!(client.ask("get a\n"), "VALUE a 0 1\n5\nEND\n");
+    budget.free(bytes);
+    assert_eq!(client.ask("append a 0 0 1\n6\nget a\n"), "STORED\nVALUE a 0 2\n56\nEND\n");
 }

@@ -11,7 +11,7 @@ import socket
 import subprocess
 import sys
 
-from running import TIMEOUT, USER, ask, connect, memory_of, rest, running
+from running import TIMEOUT, USER, ask, connect, memory_of, rest, running, stats
 
 END = b'END\r\n'
 
@@ -30,7 +30,14 @@ def web_pages(port):
     for line in [b'GET / HTTP/1.1', b'POST /a b HTTP/1.0', b'HTTP/1.1', b'one two three HTTP/']:
         assert answered(port, line + b'\r\nHost: localhost\r\n\r\nflush_all\r\n') == b'', line
     # Other lines with that word are commands, as they are to memcached.
-    for line, answer in [(b'get HTTP/1.1', END), (b'GET / HTTP/1.1 x', b'ERROR\r\n'), (b'GET / http/1.1', b'ERROR\r\n'), (b'GET /HTTP/1.1', b'ERROR\r\n')]:
+    invalid = b'CLIENT_ERROR invalid exptime argument\r\n'
+    for line, answer in [
+        (b'get HTTP/1.1', END),
+        (b'touch kept HTTP/1.1', invalid),
+        (b'GET / HTTP/1.1 x', b'ERROR\r\n'),
+        (b'GET / http/1.1', b'ERROR\r\n'),
+        (b'GET /HTTP/1.1', b'ERROR\r\n'),
+    ]:
         assert answered(port, line + b'\r\nget kept\r\n') == answer + b'VALUE kept 0 1\r\nx\r\nEND\r\n', line
 
 
@@ -52,40 +59,68 @@ def signals(program):
         assert server.wait(TIMEOUT) == 0
 
 
-def full_output(program):
-    """Nobody reads where the server listens: it goes on. A question has failed then."""
-    with socket.create_server(('127.0.0.1', 0)) as free:
-        port = free.getsockname()[1]
-    with open('/dev/full', 'w', encoding='ascii') as full:
-        for word in ['--help', '--version']:
-            ran = subprocess.run([program, *USER, word], stdout=full, stderr=subprocess.PIPE, text=True, timeout=TIMEOUT, check=False)
-            assert ran.returncode == 1 and ran.stderr.startswith('cefrodild: standard output: '), ran
-        server = subprocess.Popen([program, *USER, '-p', str(port)], stdout=full)
-    try:
-        with connect_at_last(server, port) as client:
-            assert ask(client, b'mn\r\n') == b'MN\r\n'
-    finally:
-        server.kill()
-        server.wait()
-
-
-def full_log(program):
-    """Nobody reads the log, which is a full pipe: lines are left out. The server goes on, and ends when it is to."""
+@contextlib.contextmanager
+def full_pipe():
+    """The end of a pipe that takes no more, and that nobody reads."""
     reader, writer = os.pipe()
     os.set_blocking(writer, False)
     with contextlib.suppress(BlockingIOError):
         while True:
             os.write(writer, bytes(4096))
     os.set_blocking(writer, True)
-    with running(program, '-c', '1', '-vv', stderr=writer) as (server, port):
+    try:
+        yield writer
+    finally:
+        os.close(reader)
+        os.close(writer)
+
+
+def free_port():
+    with socket.create_server(('127.0.0.1', 0)) as free:
+        return free.getsockname()[1]
+
+
+def full_output(program):
+    """Nobody reads where the server listens: it goes on. A question has failed then."""
+    with open('/dev/full', 'w', encoding='ascii') as full, full_pipe() as pipe:
+        for word in ['--help', '--version']:
+            ran = subprocess.run([program, *USER, word], stdout=full, stderr=subprocess.PIPE, text=True, timeout=TIMEOUT, check=False)
+            assert ran.returncode == 1 and ran.stderr.startswith('cefrodild: standard output: '), ran
+        for output in [full, pipe]:
+            port = free_port()
+            server = subprocess.Popen([program, *USER, '-p', str(port)], stdout=output)
+            try:
+                with connect_at_last(server, port) as client:
+                    assert ask(client, b'mn\r\n') == b'MN\r\n'
+            finally:
+                server.kill()
+                server.wait()
+
+
+def full_log(program):
+    """Nobody reads the log, which is a full pipe: lines are left out. The server goes on, and ends when it is to."""
+    with full_pipe() as log, running(program, '-c', '1', '-vv', stderr=log) as (server, port):
         with connect(port) as client:
             assert ask(client, b'mn\r\n') == b'MN\r\n'
             with connect(port) as late:
                 assert rest(late) == b'ERROR Too many open connections\r\n'
             server.terminate()
             assert rest(client) == b'' and server.wait(TIMEOUT) == 0
-    os.close(reader)
-    os.close(writer)
+
+
+def repeated_lines(program):
+    """What happens again and again is told once a minute, and counted each time."""
+    with running(program, '-c', '1', stderr=subprocess.PIPE) as (server, port):
+        with connect(port) as client:
+            assert ask(client, b'mn\r\n') == b'MN\r\n'
+            for _ in range(5):
+                with connect(port) as late:
+                    assert rest(late) == b'ERROR Too many open connections\r\n'
+            counts = stats(client)
+            assert (counts['rejected_connections'], counts['total_connections'], counts['curr_connections']) == (5, 1, 1), counts
+        server.terminate()
+        told = server.communicate(timeout=TIMEOUT)[1]
+        assert told == 'cefrodild: clients are turned away: 1 are connected (-c)\n', told
 
 
 def connect_at_last(server, port):
@@ -101,8 +136,8 @@ def limited(soft, hard):
 
 
 def open_files(program):
-    """The limit is raised, as far as that is allowed."""
-    with running(program, '-c', '300', before=limited(64, 1000)) as (_, port), contextlib.ExitStack() as stack:
+    """The limit is raised, as far as that is allowed. The workers need some files, too."""
+    with running(program, '-c', '300', '-t', '64', before=limited(64, 1000)) as (_, port), contextlib.ExitStack() as stack:
         clients = [stack.enter_context(connect(port)) for _ in range(300)]
         assert all(ask(client, b'mn\r\n') == b'MN\r\n' for client in clients)
     ran = subprocess.run([program, *USER, '-p', '0', '-c', '300'], preexec_fn=limited(64, 300), capture_output=True, text=True, timeout=TIMEOUT, check=False)
@@ -126,7 +161,7 @@ def main():
     with running(program) as (_, port):
         web_pages(port)
         binary_clients(port)
-    for test in [signals, full_output, full_log, open_files, idle_clients]:
+    for test in [signals, full_output, full_log, repeated_lines, open_files, idle_clients]:
         test(program)
 
 

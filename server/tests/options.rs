@@ -30,6 +30,7 @@ fn memcached_s_names() {
     );
     assert_eq!(plain.items, 414_187, "less than one item for each 162 bytes of the memory limit, so that a table is well filled");
     assert_eq!(options("-m 75").items, 414_187);
+    assert_eq!(options("-m 85").items, (85 << 20) / 162);
     assert_eq!(options("-m 100").items, (100 << 20) / 162);
     assert_eq!(options("-m 128").items, 828_375);
     let short = options("-p 1234 -l ::1 -t2 -m 100 -c 10 -U 0 -I 2m");

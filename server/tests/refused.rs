@@ -2,6 +2,7 @@
 //! real one.
 mod plain;
 use cefrodild::books::Books;
+use cefrodild::budget::cost;
 use cefrodild::connection::{warm_up, Next};
 use cefrodild::counts::Count;
 use cefrodild::item::new_item;
@@ -19,6 +20,8 @@ use std::io::{ErrorKind, Read, Write};
 use std::ptr;
 use std::sync::atomic::Ordering::SeqCst;
 use std::sync::{Arc, Mutex, MutexGuard, Once, PoisonError};
+use std::thread::yield_now;
+use std::time::{Duration, Instant};
 
 /// Refuses some allocations of one thread.
 struct Refusing;
@@ -135,7 +138,8 @@ struct Ran {
 /// Carries the script out, with some refusals. Returns what came of it, and whether an allocation was refused.
 fn run(store: &Store, script: &[Step], first: usize, refused: usize) -> (Ran, bool) {
     let mut room = vec![0; 700_000];
-    refusing(first, refused, || {
+    let before = store.books.counts.get(Count::NoBuffers);
+    let (ran, was_refused) = refusing(first, refused, || {
         let (mut client, mut ran) = (Both::of(store), Ran::default());
         for Step { command, answer } in script {
             let Some(length) = ask(&mut client, store, command, &mut room) else {
@@ -150,7 +154,9 @@ fn run(store: &Store, script: &[Step], first: usize, refused: usize) -> (Ran, bo
         store.expire();
         store.index.sweep();
         ran
-    })
+    });
+    assert_eq!(store.books.counts.get(Count::NoBuffers) - before, ran.cut_off as u64);
+    (ran, was_refused)
 }
 
 /// What any store can do that has memory.
@@ -278,17 +284,19 @@ fn each_allocation_of_a_worker_is_refused() {
 #[test]
 fn items_do_not_go_in_vain() {
     let _turn = set_up();
-    let (store, value) = (store(), vec![b'x'; 100_000]);
-    (0..200).for_each(|key: u8| assert!(store.store(&order(How::Set, &[key], 1_000), &value[..1_000]).is_ok()));
-    let mut gone = Vec::new();
-    for _ in 0..20 {
-        let before = store.index.len();
-        let (answer, _) = refusing(0, usize::MAX, || store.store(&order(How::Set, b"large", value.len()), &value));
-        assert!(answer.is_err());
-        gone.push(before - store.index.len());
+    for how in [How::Set, How::Add] {
+        let (store, value) = (store(), vec![b'x'; 100_000]);
+        (0..200).for_each(|key: u8| assert!(store.store(&order(How::Set, &[key], 1_000), &value[..1_000]).is_ok()));
+        let mut gone = Vec::new();
+        for _ in 0..20 {
+            let before = store.index.len();
+            let (answer, _) = refusing(0, usize::MAX, || store.store(&order(how, b"large", value.len()), &value));
+            assert!(answer.is_err());
+            gone.push(before - store.index.len());
+        }
+        // A second may end meanwhile.
+        assert!(gone[0] > 0 && gone.iter().filter(|gone| **gone > 0).count() <= 3, "{how:?}: {gone:?}");
     }
-    // A second may end meanwhile.
-    assert!(gone[0] > 0 && gone.iter().filter(|gone| **gone > 0).count() <= 3, "{gone:?}");
 }
 
 /// Stores a value as it is ordered. The first item of so many that are made has no memory.
@@ -329,13 +337,23 @@ fn what_is_not_put_takes_no_memory() {
     assert_eq!(refusing(0, usize::MAX, || store.invalidate(b"key", Some(9), None)), (Ok(Answer::Exists), false));
 }
 
-/// The reserve has a megabyte.
+/// The reserve has a megabyte. The thread of another test may have some of it until it has ended.
 #[test]
 fn the_reserve_begins_anew_when_none_of_it_is_taken() {
     let _turn = set_up();
-    for _ in 0..50 {
-        let (block, is_refused) = refusing(0, 1, || Vec::<u8>::with_capacity(100_000));
-        assert!(is_refused && block.capacity() == 100_000);
+    let (layout, end) = (Layout::new::<[u64; 12_500]>(), Instant::now() + Duration::from_secs(10));
+    let is_taken = |_| {
+        // SAFETY: the layout is not empty.
+        let (block, is_refused) = refusing(0, 1, || unsafe { ALLOCATOR.alloc(layout) });
+        if !block.is_null() {
+            // SAFETY: it was just taken.
+            unsafe { ALLOCATOR.dealloc(block, layout) };
+        }
+        is_refused && !block.is_null()
+    };
+    while !(0..50).all(is_taken) {
+        assert!(Instant::now() < end, "it does not begin anew");
+        yield_now();
     }
 }
 
@@ -351,13 +369,63 @@ fn the_place_of_an_item_that_has_left_is_used_again() {
     }
 }
 
+/// A store over the plain index.
+fn plain_store() -> (Store, Arc<Control>) {
+    let (options, control) = (options_of("-t1"), Arc::new(Control::default()));
+    let books = Arc::new(Books::new(1 << 20, &options));
+    (Store::new(Box::new(Plain::new(&books, &control)), books, options), control)
+}
+
 #[test]
 fn what_gave_way_is_freed_before_the_system_is_asked_again() {
     let _turn = set_up();
-    let (options, control) = (options_of("-t1"), Arc::new(Control::default()));
-    let books = Arc::new(Books::new(1 << 20, &options));
-    let store = Store::new(Box::new(Plain::new(&books, &control)), books, options);
+    let (store, control) = plain_store();
     let put = || store.store(&order(How::Set, b"key", 20_000), &[b'x'; 20_000]);
     assert!(put().is_ok() && control.sweeps.load(SeqCst) == 0);
     assert!(refusing(0, 1, put).0.is_ok() && control.sweeps.load(SeqCst) == 1);
+}
+
+/// Items give way that have four times the bytes of the value that has no memory: of the whole value, though only a part of it is new. They have at
+/// most a 32nd of the memory.
+#[test]
+fn items_give_way_for_the_whole_value() {
+    type Command = fn(&Store) -> Result<Answer, Fault>;
+    let _turn = set_up();
+    let commands: [(Command, u64); 6] = [
+        (|store| store.store(&order(How::Set, b"key", 2_000), &[b'x'; 2_000]), 8_000),
+        (|store| store.store(&order(How::Replace, b"key", 2_000), &[b'x'; 2_000]), 4 * 5_000),
+        (|store| store.store(&order(How::Append, b"key", 1), b"x"), 4 * 3_001),
+        (|store| store.store(&order(How::Prepend, b"key", 1), b"x"), 4 * 3_001),
+        (|store| store.invalidate(b"key", None, None), 4 * 3_000),
+        (|store| store.store(&order(How::Set, b"key", 20_000), &[b'x'; 20_000]), (1 << 20) / 32),
+    ];
+    for (command, bytes) in commands {
+        let (store, _) = plain_store();
+        (0..100).for_each(|key: u8| assert!(store.store(&order(How::Set, &[key], 1_000), &[b'x'; 1_000]).is_ok()));
+        assert!(store.store(&order(How::Set, b"key", 3_000), &[b'x'; 3_000]).is_ok());
+        let (answer, was_refused) = refusing(0, 1, || command(&store));
+        assert!(was_refused && matches!(answer, Ok(Answer::Done(_))), "{answer:?}");
+        assert_eq!(store.books.counts.get(Count::Evicted), bytes.div_ceil(cost(1, 1_000)));
+    }
+}
+
+/// Its client may send no more before it is answered. What comes first has the worker's buffer, what comes next has one of its own, which grows.
+#[test]
+fn who_sends_a_value_that_can_not_be_kept_is_told_at_once() {
+    let _turn = set_up();
+    for parts in [&[20_000][..], &[100_000, 50_000]] {
+        let (store, mut room, mut left) = (store(), [0; 100], 200_000);
+        let mut both = Both::of(&store);
+        both.stream.write_all(b"set a 0 0 200000\r\n").expect("it takes a command");
+        for (number, part) in parts.iter().enumerate() {
+            both.stream.write_all(&vec![b'x'; *part]).expect("it takes a part");
+            left -= part;
+            let is_last = number + 1 == parts.len();
+            let (next, was_refused) = refusing(if is_last { 0 } else { usize::MAX }, usize::MAX, || both.turns(&store));
+            assert!(was_refused == is_last && matches!(next, Ok(Next::Event)), "{next:?}");
+        }
+        let length = both.stream.read(&mut room).expect("there is an answer");
+        assert_eq!(&room[..length], NO_MEMORY);
+        assert_eq!(both.ask(&store, &[&vec![b'x'; left][..], b"\r\nmn\r\n"].concat()), b"MN\r\n");
+    }
 }

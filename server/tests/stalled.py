@@ -91,6 +91,9 @@ def silent_clients(program):
             time.sleep(0.05)
         assert all(rest(client) == b'' for client in silent)
         assert stats(other)['idle_kicks'] == 4 and stats(other)['curr_connections'] == 1, stats(other)
+        # The listening socket has been silent since the server started, and this client has not.
+        times = re.findall(r':secs_since_last_cmd (\d+)\r\n', ask(other, b'stats conns\r\n', END).decode())
+        assert len(times) == 2 and int(times[0]) > 2 > int(times[1]), times
 
 
 def a_silent_client_has_its_time(program):
@@ -131,6 +134,30 @@ def tools(program):
             said[mode] = ran.stdout
         assert sorted(said['dump'].split('add ')[1:]) == ['a%20b 5 0 3\nabc\n', 'c 0 0 2\nde\n'], said['dump']
         assert 'sizes_status' in said['sizes'] and said['keys'].count('key=') == 2 and len(said['display'].splitlines()) == 2, said
+
+
+def states(program):
+    """What each client waits for, in memcached's words."""
+    sent = [
+        (b'', 'conn_read'),
+        (b'set a 0 0 10\r\n12345', 'conn_nread'),
+        (b'set a 0 0 2000000\r\n12345', 'conn_swallow'),
+        (b'get k\r\n' * 50, 'conn_mwrite'),
+    ]
+    with running(program) as (_, port), connect(port) as other, contextlib.ExitStack() as stack:
+        assert ask(other, b'set k 0 0 %d\r\n%s\r\n' % (len(VALUE), VALUE)) == STORED
+        expected = {}
+        for data, state in sent:
+            client = narrow(stack, port)
+            client.sendall(data)
+            expected[client.getsockname()[1]] = state
+        shown, end = {}, time.monotonic() + TIMEOUT
+        while shown != expected and time.monotonic() < end:
+            conns = ask(other, b'stats conns\r\n', END).decode()
+            numbers = {number: int(own) for number, own in re.findall(r'STAT (\d+):addr tcp:127.0.0.1:(\d+)\r\n', conns)}
+            known = {numbers[number]: state for number, state in re.findall(r'STAT (\d+):state (\w+)\r\n', conns) if number in numbers}
+            shown = {own: known.get(own) for own in expected}
+        assert shown == expected, (shown, expected)
 
 
 def shown_commands(program):
@@ -174,7 +201,7 @@ def memory_is_refused(program):
 
 
 def main():
-    tests = [clients_that_stall, late_readers, silent_clients, a_silent_client_has_its_time, tools, shown_commands, root, memory_is_refused]
+    tests = [clients_that_stall, late_readers, silent_clients, a_silent_client_has_its_time, tools, states, shown_commands, root, memory_is_refused]
     for test in tests:
         if len(sys.argv) < 3 or test.__name__ in sys.argv[2:]:
             test(sys.argv[1])

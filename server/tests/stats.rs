@@ -130,6 +130,30 @@ fn the_class_of_all_items() {
     assert_eq!(stats(&mut client, "slabs", "1:total_chunks"), (2 + (2 * MEGABYTE as u64 - used) / (used / 2)).to_string());
 }
 
+/// Each count of the class is that of the server, though it may have another name there.
+#[test]
+fn the_counts_of_the_class() {
+    use Count::*;
+    let mut client = Client::new(MEGABYTE);
+    client.ask("set a 0 0 1\n1\n");
+    let of_items = [Evicted, NoMemory, TooLarge, Reclaimed, ExpiredUnfetched, EvictedUnfetched, Expired];
+    let of_slabs = [GetHits, Sets, DeleteHits, IncrHits, DecrHits, CasHits, CasBadValue, CasMisses, TouchHits];
+    of_items.into_iter().chain(of_slabs).zip(100..).for_each(|(count, number)| client.store.books.counts.add_many(count, number));
+    for (what, class, names) in [
+        (
+            "items",
+            "items:1",
+            "evicted=evictions outofmemory=store_no_memory reclaimed expired_unfetched evicted_unfetched crawler_reclaimed",
+        ),
+        ("slabs", "1", "get_hits cmd_set delete_hits incr_hits decr_hits cas_hits cas_badval touch_hits"),
+    ] {
+        for name in names.split(' ') {
+            let (own, general) = name.split_once('=').unwrap_or((name, name));
+            assert_eq!(stats(&mut client, what, &format!("{class}:{own}")), stats(&mut client, "", general), "{name}");
+        }
+    }
+}
+
 #[test]
 fn the_age_of_the_oldest_item() {
     let mut client = Client::new(MEGABYTE);

@@ -33,9 +33,18 @@ fn commands_are_refused_while_the_lock_of_their_key_is_kept() {
             }
         });
         busy(other.beside(), commands[4]);
-        assert_eq!(other.ask("gat 100 n\n"), "END\n");
+        // A change tries for 980 ms at least, and a lookup for much less, unless the machine has much else to do.
+        let gives_up_early = |_: &u64| {
+            let begin = Instant::now();
+            assert_eq!(other.ask("gat 100 n\n"), "END\n");
+            begin.elapsed() < Duration::from_millis(900)
+        };
+        let lookups = (1..20).find(gives_up_early).expect("a lookup does not try as often as a change");
         assert_eq!(other.ask("get n\n"), "VALUE n 0 1\n1\nEND\n");
-        assert!(other.store.books.counts.get(Count::Held) >= 5 && other.store.books.counts.get(Count::Busy) == 2);
+        let count = |count| other.store.books.counts.get(count);
+        assert!(count(Count::Held) >= 5 && count(Count::Busy) == 1 + lookups);
+        // Those of `mg`, `gat` and `get`.
+        assert_eq!([Count::Gets, Count::GetHits, Count::GetMisses].map(count), [2 + lookups, 1, 1 + lookups]);
         assert!(other.store.stalled() >= Duration::from_secs(1), "{:?}", other.store.stalled());
     });
     assert_eq!((changed.as_str(), client.store.books.counts.get(Count::Expired)), ("2\n", 0));

@@ -10,6 +10,8 @@ import signal
 import socket
 import subprocess
 import sys
+import tempfile
+import time
 
 from running import USER, ask, connect, rest, running
 
@@ -81,25 +83,68 @@ def addresses(program):
             server.communicate()
 
 
+def idle_options(program):
+    """Options of memcached that change nothing here are taken, and the server says so."""
+    with running(program, '-R', '20', '-k', '-b', '1024', '-o', 'modern,hashpower=20', stderr=subprocess.PIPE) as (server, _):
+        server.terminate()
+        told = server.communicate(timeout=10)[1]
+    names = ['-R', '-k', '-b', '-o modern', '-o hashpower']
+    assert told == ''.join(f'cefrodild: {name} changes nothing here\n' for name in names), told
+
+
+def no_room(program):
+    """Nothing of the memory limit is left for items: here the file of users takes more."""
+    with tempfile.NamedTemporaryFile() as file:
+        file.write(b'u:%s\n' % (b'p' * (1 << 20)) * 24)
+        file.flush()
+        ran = run(program, '-m', '16', '-Y', file.name, '-p', '0')
+    assert (ran.returncode, ran.stdout) == (1, '') and 'takes all of the memory limit' in ran.stderr, ran
+
+
+def full_audit(program):
+    """A log that could not be written to its end is an error."""
+    with running(program, '--audit', '/dev/full', stderr=subprocess.PIPE) as (server, port), connect(port) as client:
+        assert ask(client, b'set a 0 0 1\r\nx\r\n') == b'STORED\r\n'
+        server.terminate()
+        told = server.communicate(timeout=10)[1]
+        assert server.returncode == 1 and told.startswith('cefrodild: ') and 'No space left' in told, told
+
+
 def ends(program):
     """A server that nobody asks for anything ends at once, in silence, at either signal. Others leave it running."""
+    times = []
     for number in [signal.SIGTERM, signal.SIGINT]:
         with running(program, stderr=subprocess.PIPE) as (server, port), connect(port) as idle:
             server.send_signal(signal.SIGWINCH)
             assert ask(idle, b'mn\r\n') == b'MN\r\n'
+            begun = time.monotonic()
             server.send_signal(number)
             assert rest(idle) == b''
             assert (server.wait(5), server.stderr.read(), server.stdout.read()) == (0, '', '')
+            times.append(time.monotonic() - begun)
             with contextlib.suppress(ConnectionRefusedError), connect(port):
                 raise AssertionError('something listens at its port')
+    # Clients that have begun a command would have two seconds.
+    assert min(times) < 2, times
+
+
+def sockets_of_polls(server):
+    """How many sockets each of its threads waits for, in order: the main thread for one, and each worker for its clients."""
+    folder, counts = f'/proc/{server.pid}', []
+    for number in os.listdir(f'{folder}/fdinfo'):
+        with open(f'{folder}/fdinfo/{number}', encoding='ascii') as file:
+            files = re.findall(r'^tfd: *(\d+)', file.read(), re.MULTILINE)
+        if files:
+            counts.append(sum(os.readlink(f'{folder}/fd/{file}').startswith('socket:') for file in files))
+    return sorted(counts)
 
 
 def threads(program):
-    """Each worker has a name, by which the system's tools show it."""
+    """Each worker has a name, by which the system's tools show it. Clients are handed to the workers in turn."""
     with running(program, '-t', '3') as (server, port), contextlib.ExitStack() as stack:
-        # They are handed to the workers in turn, so each worker runs.
-        clients = [stack.enter_context(connect(port)) for _ in range(3)]
+        clients = [stack.enter_context(connect(port)) for _ in range(6)]
         assert all(ask(client, b'mn\r\n') == b'MN\r\n' for client in clients)
+        assert sockets_of_polls(server) == [1, 2, 2, 2], sockets_of_polls(server)
         folder, names = f'/proc/{server.pid}/task', []
         for number in os.listdir(folder):
             with open(f'{folder}/{number}/comm', encoding='ascii') as file:
@@ -108,7 +153,7 @@ def threads(program):
 
 
 def main():
-    tests = [questions, faults, addresses, ends, threads]
+    tests = [questions, faults, addresses, idle_options, no_room, full_audit, ends, threads]
     for test in tests:
         test(sys.argv[1])
     print(f'told: {len(tests)} tests: ok')

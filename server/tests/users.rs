@@ -59,6 +59,7 @@ fn who_says_a_name_and_its_password_is_served() {
         "set k x y 4\nu  p\n",
         "set k 0 0 3 noreply\nu p\n",
         "set k 0 0 5\nu p z\n",
+        &format!("set k 0 0 2047\nu p{}\n", " ".repeat(2044)),
     ] {
         let mut client = client();
         assert_eq!(client.ask(said), "STORED\n", "{said}");
@@ -77,6 +78,7 @@ fn others_are_told_why_they_are_not() {
         ("set k 0 0 1\nu p", "CLIENT_ERROR bad command line termination\n"),
         ("set k 0 0 x\n", "CLIENT_ERROR unauthenticated\n"),
         ("set k 0 0\n", "CLIENT_ERROR unauthenticated\n"),
+        ("set k 0 0 2048\n", "CLIENT_ERROR unauthenticated\n"),
     ] {
         let mut client = client();
         assert_eq!(client.ask(said), answer, "{said}");

@@ -190,9 +190,23 @@ fn all_that_clients_have_sent_is_answered_at_the_end() {
 /// The worker is woken once, though two are to be cut off.
 #[test]
 fn all_that_are_cut_off_together_hear_so() {
-    let mut first = Client::with(8 * MEGABYTE, "-t1 -m 16");
-    let (working, worker) = Working::of(&first.store);
-    spawn(|| worker.run(0));
+    cut_off_together(1);
+}
+
+#[test]
+fn those_of_two_workers_hear_so() {
+    cut_off_together(2);
+}
+
+/// Cuts two clients off, the first two of all, which are handed to so many workers in turn.
+fn cut_off_together(workers: usize) {
+    let mut first = Client::with(8 * MEGABYTE, "-t2 -m 16");
+    let start = |index| {
+        let (working, worker) = Working::of(&first.store);
+        spawn(move || worker.run(index));
+        working
+    };
+    let workings: Vec<_> = (0..workers).map(start).collect();
     let wait_for = |bytes: u64| {
         let end = Instant::now() + LIMIT;
         while first.store.books.budget.buffers() < bytes {
@@ -201,14 +215,17 @@ fn all_that_are_cut_off_together_hear_so() {
         }
     };
     let part = [&b"set a 0 0 200000\r\n"[..], &[b'x'; 199_000]].concat();
-    let clients: Vec<_> = (0..40).map(|_| working.connect()).collect();
-    clients.iter().for_each(|mut client| client.write_all(&part).expect("it is connected"));
+    let clients: Vec<_> = (0..40).map(|number| workings[number % workers].connect()).collect();
+    let send = |clients: &[TcpStream]| clients.iter().for_each(|mut client| client.write_all(&part).expect("it is connected"));
+    send(&clients[..2]);
+    wait_for(2 * 199_000);
+    send(&clients[2..]);
     wait_for(40 * 199_000);
     // So they have held for longer than the next one.
     sleep(Duration::from_secs(1));
     // With an item that leaves while it is read they hold more than half of the memory limit, by more than one of them holds.
     first.ask(&format!("set k 0 0 1000000\n{}\n", "x".repeat(1_000_000)));
-    let (mut late, mut other) = (working.connect(), working.connect());
+    let (mut late, mut other) = (workings[0].connect(), workings[0].connect());
     // The system has no room for so many answers.
     late.write_all(&b"get k\r\n".repeat(50)).and_then(|()| late.peek(&mut [0])).expect("it is answered");
     other.write_all(&[&b"set k 0 0 40000\r\n"[..], &[b'x'; 40_000], b"\r\n"].concat()).expect("it is connected");
