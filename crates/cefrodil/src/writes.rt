@@ -77,3 +77,36 @@ pub extern "C" fn cefrodil_put_within(
 {
     told_of_handle!(handle, reply, held => held.write(key, Write::PutWithin(tries), value, reply))
 }
+
+/// Puts a key into a shard that is to hold at most `most` keys: if the key is new and the shard holds as many, and at least one, another key
+/// leaves first. `EVICTED` in the reply says so, also if the put then failed.
+#[tactic(auto, using(crate::proofs::Gives::gives_open, crate::proofs::Gives::gives_closed))]
+#[unsafe(no_mangle)]
+pub extern "C" fn cefrodil_put_bounded(
+    handle: &mut RawHandle,
+    key: u64,
+    most: u32,
+    value: &[u64],
+    reply: &mut RawReply,
+) -> u32
+    ensures open { handle.new.live ≡ handle.old.live }
+    ensures told { WriteGives (kept handle.old) (kept handle.new) key (Write.PutBounded most) value.now (record { status = result; reply = reply.new }) }
+{
+    told_of_handle!(handle, reply, held => held.write(key, Write::PutBounded(most), value, reply))
+}
+
+/// Puts a key as `cefrodil_put_bounded` does, but only if it is absent.
+#[tactic(auto, using(crate::proofs::Gives::gives_open, crate::proofs::Gives::gives_closed))]
+#[unsafe(no_mangle)]
+pub extern "C" fn cefrodil_put_if_absent_bounded(
+    handle: &mut RawHandle,
+    key: u64,
+    most: u32,
+    value: &[u64],
+    reply: &mut RawReply,
+) -> u32
+    ensures open { handle.new.live ≡ handle.old.live }
+    ensures told { WriteGives (kept handle.old) (kept handle.new) key (Write.PutIfAbsentBounded most) value.now (record { status = result; reply = reply.new }) }
+{
+    told_of_handle!(handle, reply, held => held.write(key, Write::PutIfAbsentBounded(most), value, reply))
+}

@@ -17,13 +17,14 @@ use Rattle.mc_writer.specs.declared.entry.Evict.{Evict}
 use Rattle.mc_writer.specs.declared.entry.Replaced.{Replaced}
 use Rattle.mc_writer.specs.declared.entry.Swapped.{Swapped}
 use Rattle.mc_writer.specs.declared.entry.Take.{Take}
-use Rattle.mc_cache.specs.Bounding.{AbsentBoundedFails, AbsentBoundedMeans, BoundedFails, BoundedMeans, HasPutAbsentBounded, HasPutBounded}
+use Rattle.mc_cache.specs.Bounding.{AbsentBoundedFails, AbsentBoundedMeans, BoundedFails, BoundedMeans, HasPutAbsentBounded, HasPutAbsentWithin, HasPutBounded, HasPutWithin, PutAbsentWithinFails, PutAbsentWithinMeans, PutWithinFails, PutWithinMeans}
 use Rattle.mc_cache.specs.Failing.{EvictFails, PutFails, PutIfAbsentFails, PutIfFails, RemovalFails, SwapFails, SwapIfFails, TakeFails, TakeIfFails}
 use Rattle.mc_cache.specs.Plain.{PutIfAbsentMeans, PutIfMeans, PutMeans, RemovalMeans}
 use Rattle.mc_cache.specs.Showing.{HasShown, ShowMeans}
 use Rattle.mc_cache.specs.Taking.{EvictMeans, HasTakenIf, SwapIfAbsentMeans, SwapIfMeans, SwapMeans, TakeIfMeans, TakeMeans, absent_of, swap_answer, swap_if_answer, take_answer}
 use Rattle.mc_cache.specs.TurnCalls.{Contract}
 use Rattle.mc_cache.specs.declared.bounding.Bounded.{Bounded}
+use Rattle.mc_cache.specs.declared.bounding.BoundedPut.{BoundedPut}
 use Rattle.mc_cache.specs.declared.bounding.BoundedError.{BoundedError}
 
 abbrev pub put_contract : (V : ℕ) → ℕ → List ℕ → Contract V Put PutError
@@ -73,6 +74,20 @@ swap_if_absent_contract V k v = record {
   called = λ sh told w w'. HasPutIfAbsent V sh k v w w' (absent_of told);
   means = λ h h' told. SwapIfAbsentMeans V h h' k v told;
   fails = λ sh h made told. PutIfAbsentFails sh h made k (absent_of told);
+}
+
+abbrev pub put_bounded_contract : (V : ℕ) → ℕ → ℕ → List ℕ → Contract V BoundedPut EvictError
+put_bounded_contract V k most v = record {
+  called = λ sh told w w'. HasPutWithin V sh k v most w w' told;
+  means = λ h h' told. PutWithinMeans V h h' k v most told;
+  fails = λ sh h made told. PutWithinFails V sh h made k told;
+}
+
+abbrev pub put_if_absent_bounded_contract : (V : ℕ) → ℕ → ℕ → List ℕ → Contract V BoundedPut BoundedError
+put_if_absent_bounded_contract V k most v = record {
+  called = λ sh told w w'. HasPutAbsentWithin V sh k v most w w' told;
+  means = λ h h' told. PutAbsentWithinMeans V h h' k v most told;
+  fails = λ sh h made told. PutAbsentWithinFails V sh h made k told;
 }
 
 abbrev pub swap_bounded_contract : (V : ℕ) → ℕ → ℕ → List ℕ → Contract V (Bounded V) EvictError

@@ -1,7 +1,8 @@
 //! The writer's put into a table that is to hold at most so many keys.
 ghost use Rattle.std.specs.Prelude.{◌≡◌, IsSome, IsTrue, None};
 ghost use Rattle.mc_words.specs.History.{map_value};
-ghost use Rattle.mc_cache.specs.Bounding.{AbsentBoundedFails, AbsentBoundedMeans, BoundedFails, BoundedMeans, HasPutAbsentBounded, HasPutBounded};
+ghost use Rattle.mc_words.specs.Places.{IsWidth};
+ghost use Rattle.mc_cache.specs.Bounding.{AbsentBoundedFails, AbsentBoundedMeans, BoundedFails, BoundedMeans, HasPutAbsentBounded, HasPutAbsentWithin, HasPutBounded, HasPutWithin, PutAbsentWithinFails, PutAbsentWithinMeans, PutWithinFails, PutWithinMeans};
 ghost use Rattle.mc_cache.specs.Failing.{version_changes};
 ghost use Rattle.mc_cache.specs.Plain.{history};
 
@@ -23,6 +24,15 @@ pub enum Bounded<const V: usize> {
     },
 }
 
+/// The same without the entries that gave way. It is quicker to return.
+#[derive(Clone, Copy, Debug, PartialEq, Eq)]
+pub enum BoundedPut {
+    /// The answer of `Writer::put`.
+    Put(Result<Put, PutError>),
+    /// This key left first.
+    Evicted { key: u64, put: Result<Put, Why> },
+}
+
 /// Why a put of a key that must be absent did nothing.
 #[derive(Clone, Copy, Debug, PartialEq, Eq)]
 pub enum BoundedError {
@@ -36,6 +46,7 @@ impl<const V: usize> Writer<V> {
     // Whether the key is there. It is no use of the key.
     fn has(&mut self, cache: &Cache<V>, key: u64) -> bool
         requires of { self.old.of ≡ cache.now }
+        ensures width { IsWidth V }
         ensures same { self.new ≡ self.old }
         ensures there { IsTrue result → IsSome (map_value (history V self.old) key) }
         ensures absent { (IsTrue result → ⊥) → map_value (history V self.old) key ≡ None }
@@ -72,6 +83,82 @@ impl<const V: usize> Writer<V> {
             }),
             Ok(Evict::Empty { .. }) => unreachable!(),
             Err(why) => Err(why),
+        }
+    }
+
+    // Puts a key that is absent, and returns no entry.
+    fn put_absent(
+        &mut self,
+        cache: &Cache<V>,
+        key: u64,
+        most: u32,
+        value: [u64; V],
+    ) -> Result<BoundedPut, EvictError>
+        requires width { IsWidth V }
+        requires of { self.old.of ≡ cache.now }
+        requires absent { map_value (history V self.old) key ≡ None }
+        ensures of { self.new.of ≡ self.old.of }
+        ensures called { HasPutWithin V cache.now.layout.shape key value.entry most self.old self.new result }
+        ensures plain { PutWithinMeans V (history V self.old) (history V self.new) key value.entry most result }
+        ensures fails { PutWithinFails V cache.now.layout.shape (history V self.new) (version_changes V self.new) key result }
+    {
+        let keys = self.len();
+        if keys == 0 || keys < most as usize {
+            return Ok(BoundedPut::Put(self.put(cache, key, value)));
+        }
+        match self.evict(cache) {
+            Ok(Evict::Evicted { old, .. }) => Ok(BoundedPut::Evicted {
+                key: old.key,
+                put: self.put_kept(cache, key, value),
+            }),
+            Ok(Evict::Empty { .. }) => unreachable!(),
+            Err(why) => Err(why),
+        }
+    }
+
+    /// Puts the key as `swap_bounded` does, and returns no entry.
+    pub fn put_bounded(
+        &mut self,
+        cache: &Cache<V>,
+        key: u64,
+        most: u32,
+        value: [u64; V],
+    ) -> Result<BoundedPut, EvictError>
+        requires of { self.old.of ≡ cache.now }
+        ensures of { self.new.of ≡ self.old.of }
+        ensures called { HasPutWithin V cache.now.layout.shape key value.entry most self.old self.new result }
+        ensures plain { PutWithinMeans V (history V self.old) (history V self.new) key value.entry most result }
+        ensures fails { PutWithinFails V cache.now.layout.shape (history V self.new) (version_changes V self.new) key result }
+    {
+        if self.has(cache, key) {
+            return Ok(BoundedPut::Put(self.put(cache, key, value)));
+        }
+        self.put_absent(cache, key, most, value)
+    }
+
+    /// Puts the key as `swap_if_absent_bounded` does, and returns no entry.
+    pub fn put_if_absent_bounded(
+        &mut self,
+        cache: &Cache<V>,
+        key: u64,
+        most: u32,
+        value: [u64; V],
+    ) -> Result<BoundedPut, BoundedError>
+        requires of { self.old.of ≡ cache.now }
+        ensures of { self.new.of ≡ self.old.of }
+        ensures called { HasPutAbsentWithin V cache.now.layout.shape key value.entry most self.old self.new result }
+        ensures plain { PutAbsentWithinMeans V (history V self.old) (history V self.new) key value.entry most result }
+        ensures fails { PutAbsentWithinFails V cache.now.layout.shape (history V self.new) (version_changes V self.new) key result }
+    {
+        if self.has(cache, key) {
+            return match self.get(cache, key) {
+                Reply::Found { since, .. } => Err(BoundedError::Present { since }),
+                _ => unreachable!(),
+            };
+        }
+        match self.put_absent(cache, key, most, value) {
+            Ok(done) => Ok(done),
+            Err(why) => Err(BoundedError::Evict(why)),
         }
     }
 

@@ -1,8 +1,8 @@
 //! The calls of the writer that a turn makes, as values.
 ghost use Rattle.mc_cache.specs.TurnCalls.{CanMake, HasMade};
-ghost use Rattle.mc_cache.specs.CallContracts.{evict_contract, put_contract, put_if_absent_contract, put_if_contract, remove_contract, show_contract, swap_bounded_contract, swap_contract, swap_if_absent_bounded_contract, swap_if_absent_contract, swap_if_contract, take_contract, take_if_contract};
+ghost use Rattle.mc_cache.specs.CallContracts.{evict_contract, put_contract, put_bounded_contract, put_if_absent_bounded_contract, put_if_absent_contract, put_if_contract, remove_contract, show_contract, swap_bounded_contract, swap_contract, swap_if_absent_bounded_contract, swap_if_absent_contract, swap_if_contract, take_contract, take_if_contract};
 
-use crate::bounding::{Bounded, BoundedError};
+use crate::bounding::{Bounded, BoundedError, BoundedPut};
 use crate::cache::Cache;
 use crate::turn::{Answers, TurnCall};
 use crate::writer::Writer;
@@ -139,6 +139,48 @@ impl<const V: usize> TurnCall<V, Swapped<V>, AbsentError> for SwappingIfAbsent<'
         ensures { HasMade (swap_if_absent_contract V self.entry.0 self.entry.1.now) cache.now result writer.old writer.new }
     {
         writer.swap_if_absent(cache, self.0, *self.1)
+    }
+}
+
+/// `Writer::put_bounded` of this key in a table that is to hold at most so many keys, with this value.
+#[derive(Clone, Copy)]
+pub struct PuttingBounded<'a, const V: usize>(pub u64, pub u32, pub &'a [u64; V]);
+
+impl<const V: usize> TurnCall<V, BoundedPut, EvictError> for PuttingBounded<'_, V> {
+    ghost contract = { λ c. put_bounded_contract V c.0 c.1 c.2.now };
+
+    #[inline(always)]
+    fn make(
+        self,
+        cache: &Cache<V>,
+        writer: &mut Writer<V>,
+        _: Answers<V>,
+    ) -> Result<BoundedPut, EvictError>
+        requires { CanMake V cache.now writer.old }
+        ensures { HasMade (put_bounded_contract V self.entry.0 self.entry.1 self.entry.2.now) cache.now result writer.old writer.new }
+    {
+        writer.put_bounded(cache, self.0, self.1, *self.2)
+    }
+}
+
+/// `Writer::put_if_absent_bounded` of this key in a table that is to hold at most so many keys, with this value.
+#[derive(Clone, Copy)]
+pub struct PuttingIfAbsentBounded<'a, const V: usize>(pub u64, pub u32, pub &'a [u64; V]);
+
+impl<const V: usize> TurnCall<V, BoundedPut, BoundedError> for PuttingIfAbsentBounded<'_, V> {
+    ghost contract = { λ c. put_if_absent_bounded_contract V c.0 c.1 c.2.now };
+
+    #[inline(always)]
+    fn make(
+        self,
+        cache: &Cache<V>,
+        writer: &mut Writer<V>,
+        _: Answers<V>,
+    ) -> Result<BoundedPut, BoundedError>
+        requires { CanMake V cache.now writer.old }
+        ensures { HasMade (put_if_absent_bounded_contract V self.entry.0 self.entry.1 self.entry.2.now) cache.now result writer.old writer.new }
+    {
+        writer.put_if_absent_bounded(cache, self.0, self.1, *self.2)
     }
 }
 

@@ -2,8 +2,9 @@
 ghost use Rattle.std.specs.Prelude.{◌≡◌};
 
 use crate::calls::{
-    Evicting, Putting, PuttingIf, PuttingIfAbsent, Removing, Showing, Swapping, SwappingBounded,
-    SwappingIf, SwappingIfAbsent, SwappingIfAbsentBounded, Taking, TakingIf,
+    Evicting, Putting, PuttingBounded, PuttingIf, PuttingIfAbsent, PuttingIfAbsentBounded,
+    Removing, Showing, Swapping, SwappingBounded, SwappingIf, SwappingIfAbsent,
+    SwappingIfAbsentBounded, Taking, TakingIf,
 };
 
 /// A call of one key, or of its shard.
@@ -85,6 +86,28 @@ impl<const V: usize> Keyed for SwappingIf<'_, V> {
 }
 
 impl<const V: usize> Keyed for SwappingIfAbsent<'_, V> {
+    ghost key_of = { λ c. c.0 };
+
+    #[inline(always)]
+    fn key(&self) -> u64
+        ensures value { result ≡ self.now.0 }
+    {
+        self.0
+    }
+}
+
+impl<const V: usize> Keyed for PuttingBounded<'_, V> {
+    ghost key_of = { λ c. c.0 };
+
+    #[inline(always)]
+    fn key(&self) -> u64
+        ensures value { result ≡ self.now.0 }
+    {
+        self.0
+    }
+}
+
+impl<const V: usize> Keyed for PuttingIfAbsentBounded<'_, V> {
     ghost key_of = { λ c. c.0 };
 
     #[inline(always)]

@@ -40,7 +40,7 @@ mod taking;
 pub mod turn;
 mod writer;
 
-pub use bounding::{Bounded, BoundedError};
+pub use bounding::{Bounded, BoundedError, BoundedPut};
 pub use cache::Cache;
 pub use closing::StillOpen;
 pub use desk::{Desk, DeskError};

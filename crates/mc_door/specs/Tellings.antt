@@ -3,6 +3,8 @@ use Rattle.std.specs.Prelude.{ℕ, Option, Some, None, Result, Ok, Err}
 use Rattle.std.specs.declared.convert.Infallible.{Infallible}
 use Rattle.mc_cache.specs.declared.bounding.Bounded.{Bounded}
 use Rattle.mc_cache.specs.declared.bounding.Bounded.TheVariants as bounded
+use Rattle.mc_cache.specs.declared.bounding.BoundedPut.{BoundedPut}
+use Rattle.mc_cache.specs.declared.bounding.BoundedPut.TheVariants as bounded_put
 use Rattle.mc_cache.specs.declared.bounding.BoundedError.{BoundedError}
 use Rattle.mc_cache.specs.declared.bounding.BoundedError.TheVariants as bounded_error
 use Rattle.mc_cache.specs.declared.desk.DeskError.{DeskError}
@@ -115,6 +117,10 @@ kept_told (Err left.Spent) = plain SPENT
 abbrev pub after_eviction : {V : ℕ} → Entry V → Outcome → Outcome
 after_eviction old told = record { status = told.status; reply = record { at = told.reply.at; since = old.since; evicted = old.key; moves = told.reply.moves; put = EVICTED } }
 
+-- the same without the entry
+abbrev pub after_leaving : ℕ → Outcome → Outcome
+after_leaving other told = record { status = told.status; reply = record { at = told.reply.at; since = told.reply.since; evicted = other; moves = told.reply.moves; put = EVICTED } }
+
 -- none gave way
 abbrev pub not_evicted_told : EvictError → Outcome
 not_evicted_told evict_error.AllRecent = plain ALL_RECENT
@@ -124,6 +130,16 @@ abbrev pub bounded_told : {V : ℕ} → Result (Bounded V) EvictError → Outcom
 bounded_told (Ok (bounded.Swapped told)) = swap_told told
 bounded_told (Ok (bounded.Evicted old put)) = after_eviction old (kept_told put)
 bounded_told (Err why) = not_evicted_told why
+
+abbrev pub put_bounded_told : Result BoundedPut EvictError → Outcome
+put_bounded_told (Ok (bounded_put.Put told)) = put_told told
+put_bounded_told (Ok (bounded_put.Evicted other put)) = after_leaving other (kept_told put)
+put_bounded_told (Err why) = not_evicted_told why
+
+abbrev pub absent_put_bounded_told : Result BoundedPut BoundedError → Outcome
+absent_put_bounded_told (Ok done) = put_bounded_told (Ok done)
+absent_put_bounded_told (Err (bounded_error.Present since)) = told_since PRESENT since
+absent_put_bounded_told (Err (bounded_error.Evict why)) = not_evicted_told why
 
 abbrev pub absent_bounded_told : {V : ℕ} → Result (Bounded V) BoundedError → Outcome
 absent_bounded_told (Ok done) = bounded_told (Ok done)

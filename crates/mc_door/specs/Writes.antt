@@ -1,7 +1,10 @@
 -- What the writes of one key mean: by a holder, and by a pass in a turn.
 use Rattle.std.specs.Prelude.{ℕ, ◌≡◌, List, Result, length}
-use Rattle.mc_cache.specs.CallContracts.{put_contract, put_if_absent_contract, put_if_contract, remove_contract}
+use Rattle.mc_cache.specs.CallContracts.{put_bounded_contract, put_contract, put_if_absent_bounded_contract, put_if_absent_contract, put_if_contract, remove_contract}
 use Rattle.mc_cache.specs.TurnCalls.{Contract}
+use Rattle.mc_cache.specs.declared.bounding.BoundedError.{BoundedError}
+use Rattle.mc_cache.specs.declared.bounding.BoundedPut.{BoundedPut}
+use Rattle.mc_plan.specs.declared.answer.EvictError.{EvictError}
 use Rattle.mc_plan.specs.declared.answer.AbsentError.{AbsentError}
 use Rattle.mc_plan.specs.declared.answer.IfError.{IfError}
 use Rattle.mc_plan.specs.declared.answer.Put.{Put}
@@ -9,7 +12,7 @@ use Rattle.mc_plan.specs.declared.answer.PutError.{PutError}
 use Rattle.mc_plan.specs.declared.answer.Remove.{Remove}
 use Rattle.mc_plan.specs.declared.answer.Spent.{Spent}
 use Rattle.mc_door.specs.Roles.{Role}
-use Rattle.mc_door.specs.Tellings.{put_if_absent_told, put_if_told, put_told, removal_told, turn_told}
+use Rattle.mc_door.specs.Tellings.{absent_put_bounded_told, put_bounded_told, put_if_absent_told, put_if_told, put_told, removal_told, turn_told}
 use Rattle.mc_door.specs.Tells.{HasTold, Tells}
 use Rattle.mc_door.specs.Turns.{HasCalledBy}
 use Rattle.mc_door.specs.declared.outcome.Outcome.{Outcome}
@@ -27,6 +30,8 @@ WriteIs V Is key call.Put v = Is Put PutError (put_contract V key v) put_told
 WriteIs V Is key (call.PutWithin tries) v = Is Put PutError (put_contract V key v) put_told
 WriteIs V Is key (call.PutIf since) v = Is ℕ IfError (put_if_contract V key since v) put_if_told
 WriteIs V Is key call.PutIfAbsent v = Is Put AbsentError (put_if_absent_contract V key v) put_if_absent_told
+WriteIs V Is key (call.PutBounded most) v = Is BoundedPut EvictError (put_bounded_contract V key most v) put_bounded_told
+WriteIs V Is key (call.PutIfAbsentBounded most) v = Is BoundedPut BoundedError (put_if_absent_bounded_contract V key most v) absent_put_bounded_told
 WriteIs V Is key call.Remove v = Is Remove Spent (remove_contract V key) removal_told
 
 -- a write by a holder, or by a pass, which tries for the turn

@@ -2,13 +2,14 @@
 //! registers.
 ghost use Rattle.std.specs.Prelude.{◌≡◌, Err, length};
 ghost use Rattle.mc_door.specs.Swaps.{left_by, old_of_absent_bounded, old_of_bounded, old_of_evict, old_of_shown, old_of_swap, old_of_swap_if, old_of_swap_if_absent, old_of_take};
-ghost use Rattle.mc_door.specs.Tellings.{absent_bounded_told, bounded_told, done_told, evict_told, kept_told, not_evicted_told, not_put_told, plain, put_if_absent_told, put_if_told, put_told, removal_told, shown_told, swap_if_absent_told, swap_if_told, swap_told, stamped, take_if_told, take_told};
+ghost use Rattle.mc_door.specs.Tellings.{absent_bounded_told, absent_put_bounded_told, bounded_told, done_told, evict_told, kept_told, not_evicted_told, not_put_told, plain, put_bounded_told, put_if_absent_told, put_if_told, put_told, removal_told, shown_told, swap_if_absent_told, swap_if_told, swap_told, stamped, take_if_told, take_told, told_since};
+ghost use Rattle.mc_door.specs.declared.status.TheConstants.{PRESENT};
 
 use crate::outcome::{EVICTED, Outcome, RawReply};
 use crate::status;
 use mc_cache::{
-    AbsentError, Bounded, BoundedError, Entry, Evict, EvictError, IfError, Put, PutError, Remove,
-    Replaced, Spent, Swapped, Take, Why,
+    AbsentError, Bounded, BoundedError, BoundedPut, Entry, Evict, EvictError, IfError, Put,
+    PutError, Remove, Replaced, Spent, Swapped, Take, Why,
 };
 use std::convert::Infallible;
 
@@ -62,11 +63,17 @@ pub(crate) fn put_if(made: Result<u64, IfError>, reply: &mut RawReply) -> u32
     }
 }
 
+fn present(since: u64, reply: &mut RawReply) -> u32
+    ensures { record { status = result; reply = reply.new } ≡ told_since PRESENT since }
+{
+    Outcome::since(status::PRESENT, since).tell(reply)
+}
+
 fn not_absent(why: AbsentError, reply: &mut RawReply) -> u32
     ensures { record { status = result; reply = reply.new } ≡ put_if_absent_told (Err why) }
 {
     match why {
-        AbsentError::Present { since } => Outcome::since(status::PRESENT, since).tell(reply),
+        AbsentError::Present { since } => present(since, reply),
         AbsentError::Put(why) => not_put(why, reply),
     }
 }
@@ -146,6 +153,36 @@ fn not_evicted(why: EvictError, reply: &mut RawReply) -> u32
     }
 }
 
+#[inline(always)]
+pub(crate) fn put_bounded(made: Result<BoundedPut, EvictError>, reply: &mut RawReply) -> u32
+    ensures { record { status = result; reply = reply.new } ≡ put_bounded_told made }
+{
+    match made {
+        Ok(BoundedPut::Put(told)) => put(told, reply),
+        Ok(BoundedPut::Evicted { key, put }) => {
+            let status = kept(put, reply);
+            reply.evicted = key;
+            reply.put = EVICTED;
+            status
+        }
+        Err(why) => not_evicted(why, reply),
+    }
+}
+
+#[inline(always)]
+pub(crate) fn put_if_absent_bounded(
+    made: Result<BoundedPut, BoundedError>,
+    reply: &mut RawReply,
+) -> u32
+    ensures { record { status = result; reply = reply.new } ≡ absent_put_bounded_told made }
+{
+    match made {
+        Ok(done) => put_bounded(Ok(done), reply),
+        Err(BoundedError::Present { since }) => present(since, reply),
+        Err(BoundedError::Evict(why)) => not_evicted(why, reply),
+    }
+}
+
 pub(crate) fn swap_bounded<const V: usize>(
     made: Result<Bounded<V>, EvictError>,
     old: &mut [u64],
@@ -179,9 +216,7 @@ pub(crate) fn swap_if_absent_bounded<const V: usize>(
 {
     match made {
         Ok(done) => swap_bounded(Ok(done), old, reply),
-        Err(BoundedError::Present { since }) => {
-            Outcome::since(status::PRESENT, since).tell(reply)
-        }
+        Err(BoundedError::Present { since }) => present(since, reply),
         Err(BoundedError::Evict(why)) => not_evicted(why, reply),
     }
 }

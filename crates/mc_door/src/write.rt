@@ -12,6 +12,10 @@ pub enum Write {
     /// A put of a key whose last put was at this moment.
     PutIf(u64),
     PutIfAbsent,
+    /// A put into a shard that is to hold at most so many keys.
+    PutBounded(u32),
+    /// The same, if the key is absent.
+    PutIfAbsentBounded(u32),
     /// A removal. It has no value.
     Remove,
 }

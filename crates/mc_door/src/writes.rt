@@ -10,7 +10,9 @@ use crate::tell;
 use crate::tell::in_turn;
 use crate::words::array_of;
 use crate::write::Write;
-use mc_cache::calls::{Putting, PuttingIf, PuttingIfAbsent, Removing};
+use mc_cache::calls::{
+    Putting, PuttingBounded, PuttingIf, PuttingIfAbsent, PuttingIfAbsentBounded, Removing,
+};
 use mc_cache::{DeskError, Put, PutError};
 
 /// A put that is compiled into its caller.
@@ -108,6 +110,38 @@ fn put_if_absent<const V: usize, S: Caller<V>>(
 }
 
 #[inline(never)]
+fn put_bounded<const V: usize, S: Caller<V>>(
+    side: &mut S,
+    key: u64,
+    most: u32,
+    value: &[u64],
+    reply: &mut RawReply,
+) -> u32
+    requires { length value.now ≡ V }
+    ensures { WriteMeans V (S.role side.old) (S.role side.new) key (Write.PutBounded most) value.now (record { status = result; reply = reply.new }) }
+{
+    let value = array_of::<V>(value);
+    let tried = side.try_call(PuttingBounded(key, most, &value));
+    in_turn!(tried, reply, made => tell::put_bounded(made, reply))
+}
+
+#[inline(never)]
+fn put_if_absent_bounded<const V: usize, S: Caller<V>>(
+    side: &mut S,
+    key: u64,
+    most: u32,
+    value: &[u64],
+    reply: &mut RawReply,
+) -> u32
+    requires { length value.now ≡ V }
+    ensures { WriteMeans V (S.role side.old) (S.role side.new) key (Write.PutIfAbsentBounded most) value.now (record { status = result; reply = reply.new }) }
+{
+    let value = array_of::<V>(value);
+    let tried = side.try_call(PuttingIfAbsentBounded(key, most, &value));
+    in_turn!(tried, reply, made => tell::put_if_absent_bounded(made, reply))
+}
+
+#[inline(never)]
 fn remove<const V: usize, S: Caller<V>>(side: &mut S, key: u64, reply: &mut RawReply) -> u32
     ensures { WriteMeans V (S.role side.old) (S.role side.new) key Write.Remove [] (record { status = result; reply = reply.new }) }
 {
@@ -132,6 +166,8 @@ pub(crate) fn write<const V: usize, S: Caller<V>>(
         Write::PutWithin(tries) => put_within(side, tries, key, value, reply),
         Write::PutIf(since) => put_if(side, key, since, value, reply),
         Write::PutIfAbsent => put_if_absent(side, key, value, reply),
+        Write::PutBounded(most) => put_bounded(side, key, most, value, reply),
+        Write::PutIfAbsentBounded(most) => put_if_absent_bounded(side, key, most, value, reply),
         Write::Remove => remove::<V, S>(side, key, reply),
     }
 }

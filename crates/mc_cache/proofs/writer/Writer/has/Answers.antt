@@ -7,6 +7,9 @@ use Rattle.mc_cache.proofs.writer.Writer.has.Goals.{in-Some, in-None}
 apart : true ≡ false → ⊥
 apart e = absurd (cc)
 
+pub returns-clause-width : goal.returns-clause-width
+returns-clause-width g c = c.self.invariant.0.known.width
+
 pub returns-clause-there : goal.returns-clause-there
 returns-clause-there g c is =
     elim c.match-look.branch [
