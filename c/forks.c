@@ -82,6 +82,11 @@ OF_PROCESS(put_if, (cefrodil_handle *handle, uint64_t key, uint64_t since, const
            (handle, key, since, value, words, reply))
 OF_PROCESS(put_if_absent, (cefrodil_handle *handle, uint64_t key, const uint64_t *value, size_t words, cefrodil_reply *reply),
            (handle, key, value, words, reply))
+OF_PROCESS(put_bounded, (cefrodil_handle *handle, uint64_t key, uint32_t most, const uint64_t *value, size_t words, cefrodil_reply *reply),
+           (handle, key, most, value, words, reply))
+OF_PROCESS(put_if_absent_bounded, (cefrodil_handle *handle, uint64_t key, uint32_t most, const uint64_t *value, size_t words,
+                                   cefrodil_reply *reply),
+           (handle, key, most, value, words, reply))
 OF_PROCESS(remove, (cefrodil_handle *handle, uint64_t key, cefrodil_reply *reply), (handle, key, reply))
 OF_PROCESS(put_many, (cefrodil_handle *handle, const uint64_t *keys, size_t key_count, const uint64_t *values, size_t value_words,
                       cefrodil_put_answer *answers, size_t answer_count),

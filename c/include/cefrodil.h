@@ -286,6 +286,15 @@ CEFRODIL_CALL cefrodil_status cefrodil_put_if(cefrodil_handle *handle, uint64_t 
 CEFRODIL_CALL cefrodil_status cefrodil_put_if_absent(cefrodil_handle *handle, uint64_t key, const uint64_t *value, size_t words,
                                                      cefrodil_reply *reply);
 
+/* Like cefrodil_put and cefrodil_put_if_absent, in a shard that is to hold at most `most` keys. If the key is new and its shard holds as many,
+ * and one at least, another key of the shard is evicted first, though items are free. It is all done in one turn.
+ * OK: as for those calls. PUT_EVICTED: `evicted` is the key that left. NO_PATH, ALL_RECENT or SPENT: the key was not put. If `put` is PUT_EVICTED
+ * all the same, `evicted` has left before. Otherwise `put` is PUT_NOTHING, and nothing was changed. Other statuses are those of these calls. */
+CEFRODIL_CALL cefrodil_status cefrodil_put_bounded(cefrodil_handle *handle, uint64_t key, uint32_t most, const uint64_t *value,
+                                                   size_t words, cefrodil_reply *reply);
+CEFRODIL_CALL cefrodil_status cefrodil_put_if_absent_bounded(cefrodil_handle *handle, uint64_t key, uint32_t most, const uint64_t *value,
+                                                             size_t words, cefrodil_reply *reply);
+
 /* Removes a key.
  * OK and ABSENT: `at` is set. SPENT, HELD, CLOSED. */
 CEFRODIL_CALL cefrodil_status cefrodil_remove(cefrodil_handle *handle, uint64_t key, cefrodil_reply *reply);

@@ -60,13 +60,18 @@ template <size_t Words> class Handle : public inside::Calls<Words> {
     }
     [[nodiscard]] Written try_put_if(uint64_t key, uint64_t since, const Value &value) noexcept { return this->put_if(key, since, value); }
     [[nodiscard]] Written try_put_if_absent(uint64_t key, const Value &value) noexcept { return this->put_if_absent(key, value); }
+    // In a shard that is to hold at most `most` keys. If the key is new and its shard holds as many, another key of it leaves first, though items are
+    // free. If the put fails then, `evicted` is the key that left all the same.
+    [[nodiscard]] Written try_put_bounded(uint64_t key, uint32_t most, const Value &value) noexcept { return this->put_bounded(key, most, value); }
+    [[nodiscard]] Written try_put_if_absent_bounded(uint64_t key, uint32_t most, const Value &value) noexcept {
+        return this->put_if_absent_bounded(key, most, value);
+    }
     [[nodiscard]] Written try_remove(uint64_t key) noexcept { return this->remove(key); }
     // Like try_put, try_put_if, try_put_if_absent and try_remove, and they also return the entry that gives way.
     [[nodiscard]] Swapped<Words> try_swap(uint64_t key, const Value &value) noexcept { return this->swap(key, value); }
     [[nodiscard]] Swapped<Words> try_swap_if(uint64_t key, uint64_t since, const Value &value) noexcept { return this->swap_if(key, since, value); }
     [[nodiscard]] Swapped<Words> try_swap_if_absent(uint64_t key, const Value &value) noexcept { return this->swap_if_absent(key, value); }
-    // The same in a shard that is to hold at most `most` keys. If the key is new and its shard holds as many, another key of it leaves first, though
-    // items are free. If the put fails then, `evicted` and `old` have what left all the same.
+    // The same in a shard that is to hold at most `most` keys: like try_put_bounded. `evicted` and `old` have what left, also if the put fails.
     [[nodiscard]] Swapped<Words> try_swap_bounded(uint64_t key, uint32_t most, const Value &value) noexcept { return this->swap_bounded(key, most, value); }
     [[nodiscard]] Swapped<Words> try_swap_if_absent_bounded(uint64_t key, uint32_t most, const Value &value) noexcept {
         return this->swap_if_absent_bounded(key, most, value);
@@ -159,6 +164,8 @@ template <size_t Words> class Writing : private inside::Calls<Words> {
     bool holds() const noexcept { return this->is_open(); }
 
     using Calls::get, Calls::put, Calls::put_if, Calls::put_if_absent, Calls::remove;
+    // As Handle::try_put_bounded and Handle::try_put_if_absent_bounded.
+    using Calls::put_bounded, Calls::put_if_absent_bounded;
     // Like put, put_if, put_if_absent and remove, and they also return the entry that gives way.
     using Calls::swap, Calls::swap_if, Calls::swap_if_absent, Calls::take;
     // As Handle::try_swap_bounded and Handle::try_swap_if_absent_bounded.

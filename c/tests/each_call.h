@@ -17,6 +17,8 @@
     row(put, WIDTH | TURN | LIMIT | REPLY, (handle, key, value, words, &told.reply)) \
     row(put_if, WIDTH | TURN | LIMIT | REPLY, (handle, key, since, value, words, &told.reply)) \
     row(put_if_absent, WIDTH | TURN | LIMIT | REPLY, (handle, key, value, words, &told.reply)) \
+    row(put_bounded, WIDTH | TURN | LIMIT | REPLY, (handle, key, 1, value, words, &told.reply)) \
+    row(put_if_absent_bounded, WIDTH | TURN | LIMIT | REPLY, (handle, key, 1, value, words, &told.reply)) \
     row(remove, TURN | LIMIT | REPLY, (handle, key, &told.reply)) \
     row(put_many, WIDTH, (handle, keys, 1, values, words, told.put_answers, 1)) \
     row(put_within, WIDTH | TURN | LIMIT | REPLY, (handle, tries, key, value, words, &told.reply)) \

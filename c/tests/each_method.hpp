@@ -20,6 +20,8 @@ static std::vector<cefrodil::Handle<1>> handles;
     row(handle, try_put, (1, {1})) \
     row(handle, try_put_if, (1, 1, {1})) \
     row(handle, try_put_if_absent, (1, {1})) \
+    row(handle, try_put_bounded, (1, 1, {1})) \
+    row(handle, try_put_if_absent_bounded, (1, 1, {1})) \
     row(handle, try_remove, (1)) \
     row(handle, try_put_many, (nullptr, 0, nullptr, nullptr)) \
     row(handle, put_within, (1, 1, {1})) \
@@ -43,6 +45,8 @@ static std::vector<cefrodil::Handle<1>> handles;
     row(writing, peek, (1)) \
     row(writing, put_if, (1, 1, {1})) \
     row(writing, put_if_absent, (1, {1})) \
+    row(writing, put_bounded, (1, 1, {1})) \
+    row(writing, put_if_absent_bounded, (1, 1, {1})) \
     row(writing, put_many, (nullptr, 0, nullptr, nullptr)) \
     row(writing, swap, (1, {1})) \
     row(writing, swap_if, (1, 1, {1})) \

@@ -1,10 +1,10 @@
 //! The bound on the number of entries, which may be less than there is room for, and evictions that no put of the index makes.
 use crate::core::Core;
 use crate::error::{CapacityError, RemoveError};
-use crate::handle::{Bounded, Gave, Index};
+use crate::handle::{Bounded, Index};
 use crate::map::Inserted;
 use crate::stats::Kind;
-use cefrodil::{EvictError, Put, TurnError};
+use cefrodil::{BoundedError, EvictError, Put, TurnError};
 use std::iter::repeat;
 use std::sync::atomic::{fence, AtomicBool, AtomicUsize, Ordering::Relaxed, Ordering::SeqCst};
 
@@ -108,15 +108,20 @@ impl<H: Index + 'static, V> Core<H, V> {
         }
     }
 
-    /// Counts what left for the bound by this put of the index. If the put failed, calls `lost` with its word.
-    pub fn bounded<E>(&self, put: Bounded<E>, lost: impl FnOnce(u64)) -> Result<Gave, TurnError<E>> {
-        if let Ok((Put::Stored { .. }, Some(_))) = put {
+    /// Counts what left for the bound by this put of the index, which did what `done` says. If the put failed, calls `lost` with what left.
+    pub fn bounded<P, L, E>(
+        &self,
+        put: Bounded<P, L, E>,
+        done: impl FnOnce(&P) -> Put,
+        lost: impl FnOnce(L),
+    ) -> Result<P, TurnError<E>> {
+        if let Ok(Put::Stored { evicted: Some(_), .. }) = put.as_ref().map(done) {
             self.slots.count(Kind::EvictedByCapacity);
         }
         put.map_err(|why| match why {
             TurnError::Held => TurnError::Held,
-            TurnError::Call((why, left)) => {
-                left.inspect(|_| self.count_left(Kind::Evicted, Kind::EvictedByCapacity)).map(lost);
+            TurnError::Call(BoundedError { why, evicted }) => {
+                evicted.inspect(|_| self.count_left(Kind::Evicted, Kind::EvictedByCapacity)).map(lost);
                 TurnError::Call(why)
             }
         })

@@ -2,7 +2,7 @@
 use crate::words::{Layout, Seen, Words, MOST};
 use cefrodil::{
     BoundedError, Cache, Entry, Evict, EvictError, Handle, ListError, OpenError, Put, PutError, PutIfAbsentError, PutIfError,
-    Removal, Reply, Shape, Spent, Swapped, TurnError,
+    Removal, Reply, Shape, Spent, TurnError,
 };
 use std::ops::DerefMut;
 
@@ -26,22 +26,8 @@ pub(crate) trait Index: Sized {
     fn evict(&mut self, near: u64) -> Result<Option<(u64, u64)>, TurnError<EvictError>>;
 }
 
-/// What a put did, and the first word of the entry that gave way.
-pub(crate) type Gave = (Put, Option<u64>);
-
-/// The same of a put into a full map. If it failed, an entry may have left all the same.
-pub(crate) type Bounded<E> = Result<Gave, TurnError<(E, Option<u64>)>>;
-
-pub(crate) fn gave<const WIDTH: usize>(Swapped { put, old }: Swapped<WIDTH>) -> Gave {
-    (put, old.map(|old| old.value[0]))
-}
-
-pub(crate) fn bounded<E, const WIDTH: usize>(put: Result<Swapped<WIDTH>, TurnError<BoundedError<WIDTH, E>>>) -> Bounded<E> {
-    put.map(gave).map_err(|why| match why {
-        TurnError::Call(BoundedError { why, evicted }) => TurnError::Call((why, evicted.map(|old| old.value[0]))),
-        TurnError::Held => TurnError::Held,
-    })
-}
+/// A put into a full map. If it failed, a key or an entry may have left all the same.
+pub(crate) type Bounded<P, L, E> = Result<P, TurnError<BoundedError<L, E>>>;
 
 /// A handle by the width of its entries.
 pub(crate) enum AnyHandle {
@@ -218,12 +204,12 @@ impl AnyHandle {
     }
 
     /// Like `put`, but another entry of the shard leaves for a new key.
-    pub fn put_bounded(&mut self, key: u64, words: &Words) -> Bounded<PutError> {
-        any!(self, handle => bounded(handle.try_swap_bounded(key, 1, narrow(words))))
+    pub fn put_bounded(&mut self, key: u64, words: &Words) -> Bounded<Put, u64, PutError> {
+        any!(self, handle => handle.try_put_bounded(key, 1, narrow(words)))
     }
 
-    pub fn put_if_absent_bounded(&mut self, key: u64, words: &Words) -> Bounded<PutIfAbsentError> {
-        any!(self, handle => bounded(handle.try_swap_if_absent_bounded(key, 1, narrow(words))))
+    pub fn put_if_absent_bounded(&mut self, key: u64, words: &Words) -> Bounded<Put, u64, PutIfAbsentError> {
+        any!(self, handle => handle.try_put_if_absent_bounded(key, 1, narrow(words)))
     }
 
     pub fn remove(&mut self, key: u64) -> Result<Removal, TurnError<Spent>> {

@@ -240,7 +240,7 @@ impl<K: Key + ?Sized, V: Copy, S: BuildHasher> Inner<K, V, S> {
                 // By who has the lock: so nothing that was put in a later generation gives way to this.
                 set_check(&mut words, print.dated(self.core.generation.now()).check);
                 match self.core.bound.is_full() {
-                    true => self.core.bounded(handle.put_bounded(print.key, &words), drop).map(|(put, _)| put),
+                    true => self.core.bounded(handle.put_bounded(print.key, &words), |put| *put, drop),
                     false => handle.put(print.key, &words),
                 }
             })

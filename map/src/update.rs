@@ -192,7 +192,7 @@ impl<K: Key + ?Sized, V: Copy, S: BuildHasher> Inner<K, V, S> {
     // Puts the words if the key is absent, and this generation has not ended before that was so. `false`: it is not so.
     fn put_absent(&self, print: Print, generation: u64, words: &Words, tries: u32) -> Result<bool, InsertError> {
         let put = |handle: &mut AnyHandle| match self.core.bound.is_full() {
-            true => self.core.bounded(handle.put_if_absent_bounded(print.key, words), drop).map(|(put, _)| put),
+            true => self.core.bounded(handle.put_if_absent_bounded(print.key, words), |put| *put, drop),
             false => handle.put_if_absent(print.key, words),
         };
         match self.core.slots.in_turn(tries, || self.core.in_generation(print.key, generation, put)) {

@@ -2,7 +2,7 @@
 use crate::handle::Handle;
 use crate::memory::NoMemory;
 use crate::raw;
-use crate::reply::{not_told, Entry};
+use crate::reply::not_told;
 use std::error::Error;
 use std::fmt::{self, Display, Formatter};
 
@@ -106,13 +106,13 @@ pub enum PutIfAbsentError {
     Put(PutError),
 }
 
-/// Why a bounded put failed, and what left all the same.
+/// Why a bounded put failed, and what left all the same: a key, or an [`Entry`](crate::Entry).
 #[derive(Clone, Copy, Debug, PartialEq, Eq, Hash)]
-pub struct BoundedError<const WORDS: usize, E = PutError> {
+pub struct BoundedError<T, E = PutError> {
     /// Why the key was not put.
     pub why: E,
-    /// The entry that was evicted to keep to the bound, before the put failed. `None`: nothing was changed.
-    pub evicted: Option<Entry<WORDS>>,
+    /// What was evicted to keep to the bound, before the put failed. `None`: nothing was changed.
+    pub evicted: Option<T>,
 }
 
 /// Why an entry was left out when a cache was opened with entries.
@@ -336,7 +336,7 @@ impl<const WORDS: usize> Display for NotHeld<WORDS> {
     }
 }
 
-impl<const WORDS: usize, E: Display> Display for BoundedError<WORDS, E> {
+impl<T, E: Display> Display for BoundedError<T, E> {
     fn fmt(&self, text: &mut Formatter) -> fmt::Result {
         self.why.fmt(text)
     }
@@ -361,6 +361,6 @@ impl Error for PutIfAbsentError {}
 impl Error for Spent {}
 impl Error for Held {}
 impl Error for ListError {}
-impl<const WORDS: usize, E: Error> Error for BoundedError<WORDS, E> {}
+impl<T: fmt::Debug, E: Error> Error for BoundedError<T, E> {}
 impl<E: Error> Error for TurnError<E> {}
 impl<const WORDS: usize> Error for NotHeld<WORDS> {}

@@ -178,6 +178,31 @@ impl<const WORDS: usize> Handle<WORDS> {
         reply::turn(self.0.put_if_absent(key, value), |told| reply::if_absent(told, Put::of))
     }
 
+    /// Like [`try_put`](Handle::try_put), with [`Writing::put_bounded`](crate::Writing::put_bounded).
+    ///
+    /// # Errors
+    ///
+    /// [`TurnError`]: the key was not put. [`BoundedError::evicted`] is the key that has left all the same.
+    pub fn try_put_bounded(&mut self, key: u64, most: u32, value: &[u64; WORDS]) -> Result<Put, TurnError<BoundedError<u64>>> {
+        let told = self.0.put_bounded(key, most, value);
+        reply::turn(told, |told| reply::bounded(told, |reply| reply.evicted, Put::of))
+    }
+
+    /// Like [`try_put`](Handle::try_put), with [`Writing::put_if_absent_bounded`](crate::Writing::put_if_absent_bounded).
+    ///
+    /// # Errors
+    ///
+    /// [`TurnError`]: the key was not put. [`BoundedError::evicted`] is the key that has left all the same.
+    pub fn try_put_if_absent_bounded(
+        &mut self,
+        key: u64,
+        most: u32,
+        value: &[u64; WORDS],
+    ) -> Result<Put, TurnError<BoundedError<u64, PutIfAbsentError>>> {
+        let told = self.0.put_if_absent_bounded(key, most, value);
+        reply::turn(told, |told| reply::bounded(told, |reply| reply.evicted, |told| reply::if_absent(told, Put::of)))
+    }
+
     /// Like [`try_put`](Handle::try_put), with [`Writing::remove`](crate::Writing::remove).
     ///
     /// # Errors
@@ -230,10 +255,10 @@ impl<const WORDS: usize> Handle<WORDS> {
         key: u64,
         most: u32,
         value: &[u64; WORDS],
-    ) -> Result<Swapped<WORDS>, TurnError<BoundedError<WORDS>>> {
+    ) -> Result<Swapped<WORDS>, TurnError<BoundedError<Entry<WORDS>>>> {
         let mut old = [0; WORDS];
         let told = self.0.swap_bounded(key, most, value, &mut old);
-        reply::turn(told, |told| Swapped::bounded(old, told, |told| Swapped::of(key, old, told)))
+        reply::turn(told, |told| reply::bounded(told, Swapped::evicted(old), |told| Swapped::of(key, old, told)))
     }
 
     /// Like [`try_put`](Handle::try_put), with [`Writing::swap_if_absent_bounded`](crate::Writing::swap_if_absent_bounded).
@@ -246,11 +271,11 @@ impl<const WORDS: usize> Handle<WORDS> {
         key: u64,
         most: u32,
         value: &[u64; WORDS],
-    ) -> Result<Swapped<WORDS>, TurnError<BoundedError<WORDS, PutIfAbsentError>>> {
+    ) -> Result<Swapped<WORDS>, TurnError<BoundedError<Entry<WORDS>, PutIfAbsentError>>> {
         let mut old = [0; WORDS];
         let told = self.0.swap_if_absent_bounded(key, most, value, &mut old);
         let swapped = |told| reply::if_absent(told, |told| Swapped::of(key, old, told));
-        reply::turn(told, |told| Swapped::bounded(old, told, swapped))
+        reply::turn(told, |told| reply::bounded(told, Swapped::evicted(old), swapped))
     }
 
     /// Like [`try_put`](Handle::try_put), with [`Writing::take`](crate::Writing::take).

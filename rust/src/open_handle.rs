@@ -148,6 +148,22 @@ impl OpenHandle {
         (status, reply)
     }
 
+    pub fn put_bounded(&mut self, key: u64, most: u32, value: &[u64]) -> (u32, RawReply) {
+        let mut reply = RawReply::default();
+        let words = value.len();
+        let status = unsafe { raw::cefrodil_put_bounded(&mut self.raw, key, most, value.as_ptr(), words, &mut reply) };
+        self.counter.wrote(status, &reply);
+        (status, reply)
+    }
+
+    pub fn put_if_absent_bounded(&mut self, key: u64, most: u32, value: &[u64]) -> (u32, RawReply) {
+        let mut reply = RawReply::default();
+        let words = value.len();
+        let status = unsafe { raw::cefrodil_put_if_absent_bounded(&mut self.raw, key, most, value.as_ptr(), words, &mut reply) };
+        self.counter.wrote(status, &reply);
+        (status, reply)
+    }
+
     pub fn remove(&mut self, key: u64) -> (u32, RawReply) {
         let mut reply = RawReply::default();
         let status = unsafe { raw::cefrodil_remove(&mut self.raw, key, &mut reply) };

@@ -158,6 +158,22 @@ unsafe extern "C" {
     ) -> u32;
     pub fn cefrodil_put_if_absent(handle: *mut RawHandle, key: u64, value: *const u64, words: usize, reply: *mut RawReply)
         -> u32;
+    pub fn cefrodil_put_bounded(
+        handle: *mut RawHandle,
+        key: u64,
+        most: u32,
+        value: *const u64,
+        words: usize,
+        reply: *mut RawReply,
+    ) -> u32;
+    pub fn cefrodil_put_if_absent_bounded(
+        handle: *mut RawHandle,
+        key: u64,
+        most: u32,
+        value: *const u64,
+        words: usize,
+        reply: *mut RawReply,
+    ) -> u32;
     pub fn cefrodil_remove(handle: *mut RawHandle, key: u64, reply: *mut RawReply) -> u32;
     pub fn cefrodil_put_many(
         handle: *mut RawHandle,

@@ -303,16 +303,20 @@ impl<const WORDS: usize> Swapped<WORDS> {
         Ok(Swapped { put, old })
     }
 
-    /// The answer of a bounded put, which has evicted this value or none. `of` makes an answer of what was told.
-    pub(crate) fn bounded<E>(
-        value: [u64; WORDS],
-        told: Told,
-        of: impl FnOnce(Told) -> Result<Swapped<WORDS>, E>,
-    ) -> Result<Swapped<WORDS>, BoundedError<WORDS, E>> {
-        let RawReply { evicted: key, since, put, .. } = told.1;
-        let evicted = (put == raw::PUT_EVICTED).then_some(Entry { key, value, since });
-        of(told).map_err(|why| BoundedError { why, evicted })
+    /// The entry with this value, which a bounded put has evicted.
+    pub(crate) fn evicted(value: [u64; WORDS]) -> impl FnOnce(&RawReply) -> Entry<WORDS> {
+        move |reply| Entry { key: reply.evicted, value, since: reply.since }
     }
+}
+
+/// The answer of a bounded put. `evicted` is what it evicted, if it did, and `of` makes an answer of what was told.
+pub(crate) fn bounded<T, L, E>(
+    told: Told,
+    evicted: impl FnOnce(&RawReply) -> L,
+    of: impl FnOnce(Told) -> Result<T, E>,
+) -> Result<T, BoundedError<L, E>> {
+    let left = (told.1.put == raw::PUT_EVICTED).then(|| evicted(&told.1));
+    of(told).map_err(|why| BoundedError { why, evicted: left })
 }
 
 impl<const WORDS: usize> Replaced<WORDS> {

@@ -120,6 +120,43 @@ impl<const WORDS: usize> Writing<'_, WORDS> {
         reply::if_absent(self.handle().put_if_absent(key, value), Put::of)
     }
 
+    /// Puts the key in a shard that is to hold at most `most` keys. If the key is new and its shard holds as many, and one at least, another key
+    /// of the shard is evicted first, though items are free.
+    ///
+    /// # Errors
+    ///
+    /// [`BoundedError`]: the key was not put. Its `evicted` is the key that has left all the same.
+    ///
+    /// # Examples
+    ///
+    /// ```
+    /// use cefrodil::{Cache, Put, Shape};
+    ///
+    /// let mut handles = Cache::<1>::open(&Shape::for_items(10, 1)?, 1, 1)?;
+    /// let mut writing = handles[0].hold()?;
+    /// writing.put_bounded(7, 1, &[70])?;
+    /// assert!(matches!(writing.put_bounded(8, 1, &[80])?, Put::Stored { evicted: Some(7), .. }));
+    /// # Ok::<(), Box<dyn std::error::Error>>(())
+    /// ```
+    pub fn put_bounded(&mut self, key: u64, most: u32, value: &[u64; WORDS]) -> Result<Put, BoundedError<u64>> {
+        reply::bounded(self.handle().put_bounded(key, most, value), |reply| reply.evicted, Put::of)
+    }
+
+    /// The same only if the key is absent, as [`put_if_absent`](Writing::put_if_absent).
+    ///
+    /// # Errors
+    ///
+    /// [`BoundedError`]: the key was not put. Its `evicted` is the key that has left all the same.
+    pub fn put_if_absent_bounded(
+        &mut self,
+        key: u64,
+        most: u32,
+        value: &[u64; WORDS],
+    ) -> Result<Put, BoundedError<u64, PutIfAbsentError>> {
+        let told = self.handle().put_if_absent_bounded(key, most, value);
+        reply::bounded(told, |reply| reply.evicted, |told| reply::if_absent(told, Put::of))
+    }
+
     /// Removes the key.
     ///
     /// # Errors
@@ -208,10 +245,15 @@ impl<const WORDS: usize> Writing<'_, WORDS> {
     /// assert_eq!(writing.len(), 1);
     /// # Ok::<(), Box<dyn std::error::Error>>(())
     /// ```
-    pub fn swap_bounded(&mut self, key: u64, most: u32, value: &[u64; WORDS]) -> Result<Swapped<WORDS>, BoundedError<WORDS>> {
+    pub fn swap_bounded(
+        &mut self,
+        key: u64,
+        most: u32,
+        value: &[u64; WORDS],
+    ) -> Result<Swapped<WORDS>, BoundedError<Entry<WORDS>>> {
         let mut old = [0; WORDS];
         let told = self.handle().swap_bounded(key, most, value, &mut old);
-        Swapped::bounded(old, told, |told| Swapped::of(key, old, told))
+        reply::bounded(told, Swapped::evicted(old), |told| Swapped::of(key, old, told))
     }
 
     /// The same only if the key is absent, as [`swap_if_absent`](Writing::swap_if_absent).
@@ -224,10 +266,10 @@ impl<const WORDS: usize> Writing<'_, WORDS> {
         key: u64,
         most: u32,
         value: &[u64; WORDS],
-    ) -> Result<Swapped<WORDS>, BoundedError<WORDS, PutIfAbsentError>> {
+    ) -> Result<Swapped<WORDS>, BoundedError<Entry<WORDS>, PutIfAbsentError>> {
         let mut old = [0; WORDS];
         let told = self.handle().swap_if_absent_bounded(key, most, value, &mut old);
-        Swapped::bounded(old, told, |told| reply::if_absent(told, |told| Swapped::of(key, old, told)))
+        reply::bounded(told, Swapped::evicted(old), |told| reply::if_absent(told, |told| Swapped::of(key, old, told)))
     }
 
     /// Removes the key as [`remove`](Writing::remove) does, and returns its entry.

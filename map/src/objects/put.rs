@@ -8,9 +8,9 @@ use super::pinned::{Over, Seen};
 use super::weights::Claim;
 use crate::error::InsertError;
 use crate::generation::NONE;
-use crate::handle::{bounded, gave, Gave};
+use crate::handle::Bounded;
 use crate::map::Inserted;
-use cefrodil::{Handle, PutIfError, Replaced, TurnError};
+use cefrodil::{Entry, Handle, PutIfError, Replaced, Swapped, TurnError};
 use std::hash::{BuildHasher, Hash};
 use std::sync::Arc;
 use std::time::Duration;
@@ -288,8 +288,8 @@ impl<O: Held, S> ObjectInner<O, S> {
                 let mut lost = None;
                 let swapped = self.try_to_put(word, tries, |_| {
                     self.core.slots.call(|handle| match self.core.bound.is_full() {
-                        true => self.core.bounded(bounded(handle.try_swap_bounded(hash, 1, &[word])), |word| lost = Some(word)),
-                        false => handle.try_swap(hash, &[word]).map(gave),
+                        true => self.bounded(handle.try_swap_bounded(hash, 1, &[word]), &mut lost),
+                        false => handle.try_swap(hash, &[word]),
                     })
                 });
                 Ok(self.swapped(swapped.map_err(|why| Fail::Insert(InsertError::of(why), lost))?))
@@ -307,8 +307,8 @@ impl<O: Held, S> ObjectInner<O, S> {
     fn put_absent(&self, hash: u64, word: u64, tries: u32, made_in: Option<u64>) -> Result<Done, Fail> {
         let mut lost = None;
         let mut swap = |handle: &mut Handle<1>| match self.core.bound.is_full() {
-            true => self.core.bounded(bounded(handle.try_swap_if_absent_bounded(hash, 1, &[word])), |word| lost = Some(word)),
-            false => handle.try_swap_if_absent(hash, &[word]).map(gave),
+            true => self.bounded(handle.try_swap_if_absent_bounded(hash, 1, &[word]), &mut lost),
+            false => handle.try_swap_if_absent(hash, &[word]),
         };
         let swapped = self.try_to_put(word, tries, |_| match made_in {
             None => self.core.slots.call(&mut swap),
@@ -324,11 +324,16 @@ impl<O: Held, S> ObjectInner<O, S> {
         Done { put, old: Some((old.value[0], Reason::Replaced)) }
     }
 
-    fn swapped(&self, (put, old): Gave) -> Done {
+    // Counts what left by a put into a full map. The word of what left for a put that failed becomes `lost`.
+    fn bounded<E>(&self, put: Bounded<Swapped<1>, Entry<1>, E>, lost: &mut Option<u64>) -> Result<Swapped<1>, TurnError<E>> {
+        self.core.bounded(put, |swapped| swapped.put, |old| *lost = Some(old.value[0]))
+    }
+
+    fn swapped(&self, Swapped { put, old }: Swapped<1>) -> Done {
         let (at, did) = (put.at(), Inserted::of(put));
         self.core.slots.count_put(did);
         let reason = if let Inserted::Evicted = did { Reason::Evicted } else { Reason::Replaced };
-        Done { put: Put { did, at }, old: old.map(|word| (word, reason)) }
+        Done { put: Put { did, at }, old: old.map(|old| (old.value[0], reason)) }
     }
 }
 

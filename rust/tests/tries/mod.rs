@@ -15,6 +15,8 @@ pub const TRIES: &[Try] = &[
     ("try_put", |handle| is_held(handle.try_put(7, &[71]))),
     ("try_put_if", |handle| is_held(handle.try_put_if(7, 1, &[71]))),
     ("try_put_if_absent", |handle| is_held(handle.try_put_if_absent(7, &[71]))),
+    ("try_put_bounded", |handle| is_held(handle.try_put_bounded(7, 1, &[71]))),
+    ("try_put_if_absent_bounded", |handle| is_held(handle.try_put_if_absent_bounded(7, 1, &[71]))),
     ("try_remove", |handle| is_held(handle.try_remove(7))),
     ("put_within", |handle| is_held(handle.put_within(3, 7, &[71]))),
     ("try_swap", |handle| is_held(handle.try_swap(7, &[71]))),

@@ -80,6 +80,16 @@ template <size_t Words> class Calls : public OpenHandle {
         const cefrodil_status status = cefrodil_put_if_absent(raw(), key, value.data(), Words, &reply);
         return wrote(status, reply);
     }
+    [[nodiscard]] Written put_bounded(uint64_t key, uint32_t most, const Value &value) noexcept {
+        cefrodil_reply reply;
+        const cefrodil_status status = cefrodil_put_bounded(raw(), key, most, value.data(), Words, &reply);
+        return wrote(status, reply);
+    }
+    [[nodiscard]] Written put_if_absent_bounded(uint64_t key, uint32_t most, const Value &value) noexcept {
+        cefrodil_reply reply;
+        const cefrodil_status status = cefrodil_put_if_absent_bounded(raw(), key, most, value.data(), Words, &reply);
+        return wrote(status, reply);
+    }
     Written remove(uint64_t key) noexcept {
         cefrodil_reply reply;
         const cefrodil_status status = cefrodil_remove(raw(), key, &reply);

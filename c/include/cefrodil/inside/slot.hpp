@@ -57,8 +57,14 @@ template <size_t Words, class Beside = NothingBeside> struct alignas(128) Slot {
         return stored(cefrodil_put_if_absent(handle.raw(), key, value.data(), Words, &reply), reply);
     }
     // The same by a call in which another key of the shard leaves for a new one. That is counted, also if the put fails then.
-    [[gnu::noinline]] Stored put_bounded(uint64_t key, const Value &value) noexcept { return stored(swap(key, value, true)); }
-    [[gnu::noinline]] Stored put_if_absent_bounded(uint64_t key, const Value &value) noexcept { return stored(swap_if_absent(key, value, true)); }
+    [[gnu::noinline]] Stored put_bounded(uint64_t key, const Value &value) noexcept {
+        cefrodil_reply reply;
+        return bounded(cefrodil_put_bounded(handle.raw(), key, 1, value.data(), Words, &reply), reply);
+    }
+    [[gnu::noinline]] Stored put_if_absent_bounded(uint64_t key, const Value &value) noexcept {
+        cefrodil_reply reply;
+        return bounded(cefrodil_put_if_absent_bounded(handle.raw(), key, 1, value.data(), Words, &reply), reply);
+    }
     // Puts, and returns what gave way.
     Swapped<Words> swap(uint64_t key, const Value &value, bool bounded) noexcept {
         return swapped(bounded ? handle.try_swap_bounded(key, 1, value) : handle.try_swap(key, value), bounded);
@@ -91,7 +97,12 @@ template <size_t Words, class Beside = NothingBeside> struct alignas(128) Slot {
         Counting::counter(handle).wrote(status, reply);
         return {static_cast<Status>(status), false, reply.put == CEFRODIL_PUT_EVICTED};
     }
-    static Stored stored(const Swapped<Words> &put) noexcept { return {put.status, put.old && !put.evicted, put.evicted.has_value()}; }
+    [[gnu::always_inline]] Stored bounded(cefrodil_status status, const cefrodil_reply &reply) noexcept {
+        const bool has_left = reply.put == CEFRODIL_PUT_EVICTED;
+        count(by_capacity, has_left ? 1 : 0);
+        add(has_left && status != CEFRODIL_OK ? -1 : 0);
+        return stored(status, reply);
+    }
     Swapped<Words> swapped(const Swapped<Words> &put, bool bounded) noexcept {
         const bool is_new = put.status == Status::ok && (!put.old || put.evicted);
         add(int64_t(is_new) - int64_t(put.evicted.has_value()));
