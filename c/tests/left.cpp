@@ -39,18 +39,27 @@ static cefrodil_status without_path(cefrodil_handle *handle, uint64_t key, uint6
     reply->put = CEFRODIL_PUT_EVICTED;
     return CEFRODIL_NO_PATH;
 }
-static cefrodil_status some_swap_bounded(cefrodil_handle *handle, uint64_t key, uint32_t most, const uint64_t *value, size_t words, uint64_t *old,
-                                         size_t old_words, cefrodil_reply *reply) {
-    return pathless != 0 ? without_path(handle, key, old, old_words, reply)
-                         : cefrodil_swap_bounded(handle, key, most, value, words, old, old_words, reply);
-}
-static cefrodil_status some_swap_if_absent_bounded(cefrodil_handle *handle, uint64_t key, uint32_t most, const uint64_t *value, size_t words,
-                                                   uint64_t *old, size_t old_words, cefrodil_reply *reply) {
-    return pathless != 0 ? without_path(handle, key, old, old_words, reply)
-                         : cefrodil_swap_if_absent_bounded(handle, key, most, value, words, old, old_words, reply);
-}
+// A stand-in for one of them.
+#define SOME_SWAP(name)                                                                                                                               \
+    static cefrodil_status some_##name(cefrodil_handle *handle, uint64_t key, uint32_t most, const uint64_t *value, size_t words, uint64_t *old,      \
+                                       size_t old_words, cefrodil_reply *reply) {                                                                     \
+        return pathless != 0 ? without_path(handle, key, old, old_words, reply)                                                                       \
+                             : cefrodil_##name(handle, key, most, value, words, old, old_words, reply);                                               \
+    }
+#define SOME_PUT(name)                                                                                                                                \
+    static cefrodil_status some_##name(cefrodil_handle *handle, uint64_t key, uint32_t most, const uint64_t *value, size_t words,                     \
+                                       cefrodil_reply *reply) {                                                                                       \
+        uint64_t old[8];                                                                                                                              \
+        return pathless != 0 ? without_path(handle, key, old, words, reply) : cefrodil_##name(handle, key, most, value, words, reply);                \
+    }
+SOME_SWAP(swap_bounded)
+SOME_SWAP(swap_if_absent_bounded)
+SOME_PUT(put_bounded)
+SOME_PUT(put_if_absent_bounded)
 #define cefrodil_swap_bounded some_swap_bounded
 #define cefrodil_swap_if_absent_bounded some_swap_if_absent_bounded
+#define cefrodil_put_bounded some_put_bounded
+#define cefrodil_put_if_absent_bounded some_put_if_absent_bounded
 #define cefrodil_evict some_evict
 #define cefrodil_swap some_swap
 #include "cefrodil_object_map.hpp"

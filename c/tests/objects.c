@@ -112,7 +112,15 @@ static void bound(void) {
     value = 90;
     MUST(cefrodil_swap_if_absent_bounded(&handle, 9, 1, &value, 1, &old, 1, &reply) == CEFRODIL_OK && reply.put == CEFRODIL_PUT_EVICTED);
     MUST(reply.at == 6 && reply.evicted == 8 && reply.since == 4 && old == 80 && cefrodil_len(&handle, &len) == CEFRODIL_OK && len == 1);
-    MUST(cefrodil_swap_bounded(&handle, 7, 1, &value, 1, &old, 2, &reply) == CEFRODIL_WIDTH && old == 80 && cefrodil_close(&handle) == CEFRODIL_OK);
+    MUST(cefrodil_swap_bounded(&handle, 7, 1, &value, 1, &old, 2, &reply) == CEFRODIL_WIDTH && old == 80);
+    /* The same without the entry. */
+    MUST(cefrodil_put_bounded(&handle, 9, 1, &value, 1, &reply) == CEFRODIL_OK && reply.put == CEFRODIL_PUT_RENEWED && reply.at == 7);
+    MUST(cefrodil_put_if_absent_bounded(&handle, 9, 1, &value, 1, &reply) == CEFRODIL_PRESENT && reply.since == 7 && reply.put == CEFRODIL_PUT_NOTHING);
+    MUST(cefrodil_put_bounded(&handle, 10, 2, &value, 1, &reply) == CEFRODIL_OK && reply.put == CEFRODIL_PUT_STORED && reply.at == 8);
+    MUST(cefrodil_remove(&handle, 10, &reply) == CEFRODIL_OK && cefrodil_put_bounded(&handle, 11, 1, &value, 1, &reply) == CEFRODIL_OK);
+    MUST(reply.put == CEFRODIL_PUT_EVICTED && reply.evicted == 9 && reply.since == 0 && reply.at == 11);
+    MUST(cefrodil_put_if_absent_bounded(&handle, 12, 1, &value, 1, &reply) == CEFRODIL_OK && reply.put == CEFRODIL_PUT_EVICTED && reply.evicted == 11);
+    MUST(cefrodil_put_bounded(&handle, 12, 1, &value, 2, &reply) == CEFRODIL_WIDTH && cefrodil_close(&handle) == CEFRODIL_OK);
 }
 
 /* A cache with room for ITEMS keys, in one shard or in several. The handle tries, or holds the turns. */

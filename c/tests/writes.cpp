@@ -15,6 +15,8 @@ struct ByWriting {
     Swapped<1> swap_if_absent(uint64_t key, uint64_t value) { return writing.swap_if_absent(key, {value}); }
     Swapped<1> swap_bounded(uint64_t key, uint64_t value) { return writing.swap_bounded(key, 1, {value}); }
     Swapped<1> swap_if_absent_bounded(uint64_t key, uint64_t value) { return writing.swap_if_absent_bounded(key, 1, {value}); }
+    Written put_bounded(uint64_t key, uint64_t value) { return writing.put_bounded(key, 1, {value}); }
+    Written put_if_absent_bounded(uint64_t key, uint64_t value) { return writing.put_if_absent_bounded(key, 1, {value}); }
     Swapped<1> take(uint64_t key) { return writing.take(key); }
     Swapped<1> take_if(uint64_t key, uint64_t since) { return writing.take_if(key, since); }
     Swapped<1> evict() { return writing.evict(); }
@@ -33,6 +35,8 @@ struct ByHandle {
     Swapped<1> swap_if_absent(uint64_t key, uint64_t value) { return handle.try_swap_if_absent(key, {value}); }
     Swapped<1> swap_bounded(uint64_t key, uint64_t value) { return handle.try_swap_bounded(key, 1, {value}); }
     Swapped<1> swap_if_absent_bounded(uint64_t key, uint64_t value) { return handle.try_swap_if_absent_bounded(key, 1, {value}); }
+    Written put_bounded(uint64_t key, uint64_t value) { return handle.try_put_bounded(key, 1, {value}); }
+    Written put_if_absent_bounded(uint64_t key, uint64_t value) { return handle.try_put_if_absent_bounded(key, 1, {value}); }
     Swapped<1> take(uint64_t key) { return handle.try_take(key); }
     Swapped<1> take_if(uint64_t key, uint64_t since) { return handle.try_take_if(key, since); }
     Swapped<1> evict() { return handle.try_evict(); }
@@ -119,6 +123,9 @@ template <class Calls> static void a_key_that_leaves_for_the_bound(Calls calls, 
     MUST(first.status == Status::ok && first.evicted == uint64_t(1) && first.old && (*first.old)[0] == 11 && first.old_since == 2 && first.at == 4);
     MUST(second.status == Status::ok && second.evicted == uint64_t(2) && second.old && (*second.old)[0] == 20 && second.old_since == 4 && second.at == 6);
     MUST(meter.counts().evictions == evictions + 2 && calls.peek(3).value && !calls.peek(2).value);
+    const Written put = calls.put_bounded(3, 31), there = calls.put_if_absent_bounded(3, 32), third = calls.put_bounded(4, 40), last = calls.put_if_absent_bounded(5, 50);
+    MUST(put.status == Status::ok && put.renewed && !put.evicted && there.status == Status::present && there.since == 7 && !there.evicted);
+    MUST(third.status == Status::ok && third.evicted == uint64_t(3) && third.at == 9 && last.status == Status::ok && last.evicted == uint64_t(4) && last.at == 11);
 }
 
 // Both buckets of nine keys are the same two, and no key may move. The first key lies elsewhere. If it has left when the put finds no place, that is said.
@@ -130,10 +137,9 @@ static void a_put_that_fails() {
         MUST(handles[0].try_put(1024 * key, {key}).status == Status::ok);
     }
     const Swapped<1> told = handles[0].try_swap_bounded(uint64_t(1024) * 9, 1, {9});
-    MUST(told.status == Status::no_path && told.old.has_value() == told.evicted.has_value());
-    MUST(!told.evicted || (told.evicted == uint64_t(1) && (*told.old)[0] == 10 && told.old_since == 1));
+    MUST(told.status == Status::no_path && told.evicted == uint64_t(1) && told.old && (*told.old)[0] == 10 && told.old_since == 1);
     uint64_t len = 0;
-    MUST(handles[0].try_len(len) == Status::ok && len == (told.evicted ? 8 : 9));
+    MUST(handles[0].try_len(len) == Status::ok && len == 8);
 }
 
 template <class Calls> static void writes(Calls calls, const Meter &meter) {

@@ -103,6 +103,27 @@ fn another_entry_leaves_for_a_new_key_though_items_are_free() {
     assert_eq!(writing.len(), 1);
 }
 
+#[test]
+fn a_key_leaves_for_a_new_one_though_items_are_free() {
+    let mut handles = Cache::<1>::open(&Shape::for_items(100, 1).unwrap(), 1, 2).unwrap();
+    let (one, two) = handles.split_at_mut(1);
+    let (handle, other) = (&mut one[0], &mut two[0]);
+    assert_eq!(handle.try_put_bounded(7, 2, &[70]), Ok(Put::Stored { at: 1, moves: 0, evicted: None }));
+    assert_eq!(handle.try_put_bounded(8, 2, &[80]), Ok(Put::Stored { at: 2, moves: 0, evicted: None }));
+    assert_eq!(handle.try_put_bounded(7, 1, &[71]), Ok(Put::Renewed { at: 3 }));
+    let why = PutIfAbsentError::Present { since: 3 };
+    assert_eq!(handle.try_put_if_absent_bounded(7, 1, &[72]), Err(TurnError::Call(BoundedError { why, evicted: None })));
+    // Key 7 was put again, and then looked up, so key 8 leaves.
+    assert_eq!(handle.try_put_if_absent_bounded(9, 2, &[90]), Ok(Put::Stored { at: 5, moves: 0, evicted: Some(8) }));
+    assert_eq!((handle.try_len(), handle.meter().counts().evictions), (Ok(2), 1));
+    let mut writing = other.hold().unwrap();
+    assert_eq!(handle.try_put_bounded(1, 1, &[1]), Err(TurnError::Held));
+    assert_eq!(handle.try_put_if_absent_bounded(1, 1, &[1]), Err(TurnError::Held));
+    assert_eq!(writing.put_bounded(1, 3, &[10]), Ok(Put::Stored { at: 6, moves: 0, evicted: None }));
+    assert_eq!(writing.put_if_absent_bounded(2, 4, &[20]).unwrap().at(), 7);
+    assert_eq!(writing.len(), 4);
+}
+
 // Both buckets of nine keys are the same two, and no key may move. The first key lies elsewhere, and leaves first.
 #[test]
 fn what_left_is_told_though_the_put_failed() {
@@ -124,15 +145,13 @@ fn what_left_is_told_though_the_put_failed() {
     let left = Some(Entry { key: 1, value: [10], since: 1 });
     let mut handle = open();
     let told = handle.try_swap_bounded(1024 * 9, 1, &[9]);
-    if told == Err(TurnError::Call(BoundedError { why: PutError::NoPath, evicted: left })) {
-        assert_eq!((handle.try_len(), handle.meter().counts().evictions), (Ok(8), 1));
-    } else {
-        assert_eq!(told, Err(TurnError::Call(BoundedError { why: PutError::NoPath, evicted: None })));
-        assert_eq!((handle.try_len(), handle.meter().counts().evictions), (Ok(9), 0));
-    }
+    assert_eq!(told, Err(TurnError::Call(BoundedError { why: PutError::NoPath, evicted: left })));
+    assert_eq!((handle.try_len(), handle.meter().counts().evictions), (Ok(8), 1));
+    let why = PutIfAbsentError::Put(PutError::NoPath);
     let told = open().try_swap_if_absent_bounded(1024 * 9, 1, &[9]).unwrap_err();
-    let TurnError::Call(BoundedError { why, evicted }) = told else { panic!("{told:?}") };
-    assert_eq!(why, PutIfAbsentError::Put(PutError::NoPath));
-    assert!(evicted.is_none() || evicted == left);
-    assert_eq!(told.to_string(), "no path");
+    assert_eq!((&told, told.to_string().as_str()), (&TurnError::Call(BoundedError { why, evicted: left }), "no path"));
+    let told = open().try_put_bounded(1024 * 9, 1, &[9]);
+    assert_eq!(told, Err(TurnError::Call(BoundedError { why: PutError::NoPath, evicted: Some(1) })));
+    let told = open().try_put_if_absent_bounded(1024 * 9, 1, &[9]);
+    assert_eq!(told, Err(TurnError::Call(BoundedError { why, evicted: Some(1) })));
 }
