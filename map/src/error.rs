@@ -88,7 +88,7 @@ pub enum ClearError {
     Spent,
 }
 
-/// Why `set_capacity` failed.
+/// Why a map's capacity did not change, or could not be kept at once.
 #[derive(Clone, Copy, Debug, PartialEq, Eq, Hash)]
 #[non_exhaustive]
 pub enum CapacityError {

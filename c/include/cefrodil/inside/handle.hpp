@@ -64,7 +64,7 @@ enum class Status : uint32_t {
     declined = 1004,
     // By the writes of an object_map that its listener makes, within 16 listeners of the thread: nothing was done.
     too_deep = 1005,
-    // By set_capacity of the maps alone: there is no room for so many entries, or it would be none. Nothing was done.
+    // By a map whose capacity is to change: there is no room for so many entries, or it would be none. Nothing was done.
     bad_capacity = 1006
 };
 
