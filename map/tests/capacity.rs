@@ -64,7 +64,7 @@ fn a_capacity_without_room_is_refused() {
 // The key of a put is not what gives way to it, also where a shard has few entries.
 #[test]
 fn what_was_put_is_there() {
-    for (capacity, shards) in [(1, 1), (2, 1), (100, 1), (100, 16), (300, 16), (500, 2)] {
+    for (capacity, shards) in [(1, 1), (2, 1), (100, 1), (1, 16), (5, 16), (100, 16), (300, 16), (500, 2)] {
         let map: Numbers = Map::builder(1_000).shards(shards).open().unwrap();
         put_all(&map, 0..1_000);
         map.set_capacity(capacity).unwrap();

@@ -8,6 +8,7 @@ mod ended;
 #[cfg(feature = "objects")]
 mod epochs;
 mod errors;
+mod evicting;
 mod expiry;
 mod fills;
 mod flights;

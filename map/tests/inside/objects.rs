@@ -374,6 +374,7 @@ fn what_left_for_a_put_that_failed_is_retired() {
     map.set_capacity(11).unwrap();
     let (value, mut refused) = (Arc::new(()), 0);
     for key in 0..2_000 {
+        let before = map.len();
         let put = if key % 2 == 0 {
             map.insert(key, Arc::clone(&value)).map_err(|back| (back.why, back.key))
         } else {
@@ -381,6 +382,9 @@ fn what_left_for_a_put_that_failed_is_retired() {
         };
         assert!(put.is_ok() || put == Err((InsertError::NoPlace, key)), "{put:?}");
         refused += u64::from(put.is_err());
+        // What left for a put that failed has left room for the next one.
+        let expected = if before < 11 { Inserted::New } else { Inserted::Evicted };
+        assert!(put.is_err() || put == Ok(expected), "{put:?} beside {before} others");
     }
     let (mut there, stats) = (Vec::new(), map.stats());
     map.for_each(|key, _| there.push(*key)).unwrap();
