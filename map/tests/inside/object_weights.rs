@@ -1,10 +1,10 @@
 //! A bound on weights, and an eviction that gets no turn.
 use super::turns::Turn;
-use super::{done, one_shard};
+use super::{done, hold, one_shard};
 use crate::slots::BEFORE_CALL;
 use crate::stats::Kind;
 use crate::{Block, BytesMap, CapacityError, GetError, Head, InsertError, Inserted, ObjectBuilder, ObjectMap, RemoveError};
-use cefrodil::{Handle, Shape};
+use cefrodil::{Handle, Mix, Shape};
 use std::hash::{BuildHasher, BuildHasherDefault, Hasher};
 use std::sync::{Arc, Mutex, OnceLock};
 
@@ -100,6 +100,22 @@ fn a_shard_without_a_turn_keeps_no_other_from_evicting() {
         assert_eq!((map.try_insert(key, 1).unwrap(), map.len(), map.get(&key)), (Inserted::Evicted, 15, Some(1)));
     }
     drop(turn);
+}
+
+// While all turns are held, a lower capacity evicts nothing. The next put does, also if its own shard alone has objects.
+#[test]
+fn a_put_evicts_in_its_own_shard_if_the_others_are_empty() {
+    for shard in 0..4 {
+        let shape = Shape { mix: Mix::None, ..Shape::for_items(100, 4).unwrap() };
+        let map = Numbers::builder(100).open_shaped(&shape, 4, TRIES).unwrap();
+        let mut keys = (0..).filter(|key| map.hash_of(key) >> 48 & 3 == shard);
+        keys.by_ref().take(12).for_each(|key| done(map.insert(key, 1).unwrap()));
+        let held = hold(&map.inner.core.slots);
+        assert_eq!((map.set_capacity(5), map.len()), (Err(CapacityError::Evict(RemoveError::Held)), 12));
+        drop(held);
+        let last = keys.next().unwrap();
+        assert_eq!((map.insert(last, 1).unwrap(), map.len()), (Inserted::Evicted, 5));
+    }
 }
 
 #[test]
