@@ -1,6 +1,7 @@
 // Tries schedules of each model, for .ci/models: all with few interruptions, and then some with any. As it is, a model must be right in each. With one
 // step or order left out it must be wrong in one.
 // Arguments: how many schedules with any interruptions, and `tell` to print a line for each model and step.
+#include "bounds.hpp"
 #include "cxx_epochs.hpp"
 #include "cxx_flights.hpp"
 #include "cxx_generations.hpp"
@@ -56,6 +57,7 @@ int main(int argc, char **argv) {
     explore<CxxPasses>("C++ passes", schedules);
     explore<CxxWaits>("C++ waits", schedules);
     explore<CxxWeights>("C++ weights", schedules);
+    explore<Bounds>("bounds", schedules);
     explore<RustFlights>("Rust flights", schedules);
     explore<RustSlots>("Rust slots", schedules);
     explore<RustEpochs>("Rust epochs", schedules);

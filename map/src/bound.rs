@@ -103,8 +103,12 @@ impl<H: Index + 'static, V> Core<H, V> {
     /// Counts an entry that has left, but not by a put of the index. So there is room for a new one.
     pub fn count_left(&self, whole: Kind, part: Kind) {
         self.slots.count_left(whole, part);
-        if self.bound.is_full() {
-            self.bound.is_full.store(false, Relaxed);
+        if self.bound.is_below_room() {
+            // Of this fence and that of a call that has just noted that the map is full, one is first. So that call sees the count, or this one the note.
+            fence(SeqCst);
+            if self.bound.is_full() {
+                self.bound.is_full.store(false, Relaxed);
+            }
         }
     }
 

@@ -147,8 +147,12 @@ template <size_t Words, class Beside = NothingBeside> class Turns : public Passe
     template <class Evict> bool keep_bound(uint64_t key, const Evict &evict) noexcept { return capacity() != room_ && evict_excess(key, evict); }
     // The status of a call by which a key has left, if it is ok, and none came for it. So there is room for a new one.
     Status left(Status status) noexcept {
-        if (status == Status::ok && is_full()) {
-            is_full_.store(false, std::memory_order_relaxed);
+        if (status == Status::ok && capacity() != room_) {
+            // Of this fence and that of `note_full`, one is first. So the thread that has noted that the map is full sees the count, or this one the note.
+            Threads::fence();
+            if (is_full()) {
+                is_full_.store(false, std::memory_order_relaxed);
+            }
         }
         return status;
     }
