@@ -48,6 +48,24 @@ fn a_write_tries_so_often_and_changes_nothing() {
     assert_eq!((map.insert(&2, 20).is_ok(), map.remove(&1)), (true, Ok(Some(10))));
 }
 
+// Another thread has the lock: between a look at the generation and a put, say.
+#[test]
+fn a_write_waits_for_the_lock_of_its_key() {
+    let map = Map::<u64, u64>::builder(1).open_shaped(&one_shard(100), 1, TRIES).unwrap();
+    map.insert(&1, 10).unwrap();
+    for key in [1, 2] {
+        let locked = map.inner.core.hold_lock(map.inner.print(&key).key);
+        assert_eq!((map.insert(&key, 11), map.update(&key, |_| 11)), (Err(HELD), Err(UPDATE_HELD)));
+        if key == 1 {
+            assert_eq!((map.remove(&1), map.retain(|_, _| false)), (Err(RemoveError::Held), Err(ClearError::Held)));
+            assert_eq!((map.clear(), map.len()), (Err(ClearError::Held), 1));
+        }
+        drop(locked);
+        assert_eq!((map.get(&1), map.get(&2)), (Some(10), None));
+    }
+    assert_eq!((map.update(&2, |_| 20), map.clear(), map.len()), (Ok(20), Ok(()), 0));
+}
+
 #[test]
 fn a_single_try_is_one() {
     let map = open();
