@@ -101,6 +101,36 @@ template <class Map> static void new_keys_come_in(const cefrodil::MapOptions &op
     }
 }
 
+// A number is its own hash. The index takes its shard from the mixed bits.
+struct Plain {
+    cefrodil::HashPair operator()(uint64_t key, const cefrodil::HashSecret &) const noexcept { return {key, key}; }
+};
+static uint64_t shard_of(uint64_t key) { return cefrodil::inside::mixed(key) >> cefrodil::inside::bits_before_shard & 3; }
+
+template <class Map> static std::array<uint64_t, 4> in_shards(const Map &map, uint64_t end) {
+    std::array<uint64_t, 4> numbers{};
+    for (uint64_t key = 0; key < end; key++) {
+        numbers[shard_of(key)] += map.peek(key).status == Status::ok ? 1 : 0;
+    }
+    return numbers;
+}
+
+// In a full map a key of the same shard leaves for a new one: at once when set_capacity has filled it, or a put.
+template <class Map> static void its_own_shard_gives_way() {
+    for (const uint64_t most : {100, 400, 1000}) {
+        Map map;
+        MUST(map.open({1000, 4}) == Status::ok);
+        fill(map, 0, 400);
+        MUST(map.set_capacity(most) == Status::ok);
+        fill(map, 400, most > 400 ? most - 400 : 0);
+        MUST(map.size() == most);
+        for (uint64_t key = 1000; key < 1040; key++) {
+            const auto before = in_shards(map, key);
+            MUST(map.insert(key, uint64_t(key)).evicted && in_shards(map, key + 1) == before);
+        }
+    }
+}
+
 // The listener hears of each object that the bound makes leave, and may call the map.
 static void listeners() {
     std::map<uint64_t, Left> left;
@@ -272,6 +302,8 @@ int main(int argc, char **argv) {
         new_keys_come_in<Objects>(options, 3);
         new_keys_come_in<Objects>(options, 20);
     }
+    its_own_shard_gives_way<cefrodil::map<uint64_t, uint64_t, Plain>>();
+    its_own_shard_gives_way<cefrodil::object_map<uint64_t, uint64_t, Plain>>();
     listeners();
     weights();
     for (const uint32_t thread_count : {1, 8}) {
