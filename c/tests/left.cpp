@@ -192,6 +192,8 @@ static void held_capacity() {
     }
     held = 1000;
     MUST(map.set_capacity(3) == Status::held && map.capacity() == 3 && map.size() == 10);
+    // Nor does a put get a turn to evict. The next one does.
+    MUST(!map.insert(11, uint64_t(10)).evicted && map.size() == 11);
     held = 0;
     MUST(map.insert(10, uint64_t(10)).evicted && map.size() == 3 && map.contains(10));
 }
