@@ -295,7 +295,7 @@ fn agrees(map: &impl Timed, life: u64) {
 fn a_map_agrees_with_a_model() {
     for life in [0, 1, 5, NEVER] {
         for threads in [0, 1] {
-            agrees(&Map::builder(10_000).threads(threads).time_to_live(of_hours(life)).open().unwrap(), life);
+            agrees(&Map::builder(10_000).shards(1).threads(threads).time_to_live(of_hours(life)).open().unwrap(), life);
         }
     }
 }
@@ -305,7 +305,7 @@ fn a_map_agrees_with_a_model() {
 fn so_does_a_map_of_objects() {
     for life in [0, 1, 5, NEVER] {
         for threads in [0, 1] {
-            agrees(&ObjectMap::builder(10_000).threads(threads).time_to_live(of_hours(life)).open().unwrap(), life);
+            agrees(&ObjectMap::builder(10_000).shards(1).threads(threads).time_to_live(of_hours(life)).open().unwrap(), life);
         }
     }
 }
@@ -314,5 +314,5 @@ fn so_does_a_map_of_objects() {
 #[cfg(feature = "objects")]
 #[test]
 fn so_does_one_whose_values_have_times_of_their_own_alone() {
-    agrees(&ObjectMap::builder(10_000).open().unwrap(), NEVER);
+    agrees(&ObjectMap::builder(10_000).shards(1).open().unwrap(), NEVER);
 }
