@@ -9,8 +9,8 @@ CXX_CALLS, CXX = 'c/include/cefrodil/inside/calls.hpp', 'c/include/cefrodil.hpp'
 METHODS = {
     ('C++', 'handle'): ((CXX_CALLS, 'class Calls', 'protected:'), (CXX, 'class Handle', '\n};')),
     ('C++', 'writing'): ((CXX, 'class Writing :', 'private:\n'),),
-    ('Rust', 'handle'): (('rust/src/handle.rs', '', None), ('rust/src/hold.rs', '', None)),
-    ('Rust', 'writing'): (('rust/src/writing.rs', '', None),),
+    ('Rust', 'handle'): (('rust/src/handle.rs', '', None), ('rust/src/bounded.rs', '', 'impl<const WORDS: usize> Writing'), ('rust/src/hold.rs', '', None)),
+    ('Rust', 'writing'): (('rust/src/writing.rs', '', None), ('rust/src/bounded.rs', 'impl<const WORDS: usize> Writing', None)),
 }
 # What each_call.c passes for a parameter. Another one is passed by its own name.
 PASSED = {'handle': 'handle', 'near': 'key', 'item': '0', 'most': '1', 'words': 'words', 'old_words': 'words', 'value_words': 'words',

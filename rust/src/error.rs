@@ -106,15 +106,6 @@ pub enum PutIfAbsentError {
     Put(PutError),
 }
 
-/// Why a bounded put failed, and what left all the same: a key, or an [`Entry`](crate::Entry).
-#[derive(Clone, Copy, Debug, PartialEq, Eq, Hash)]
-pub struct BoundedError<T, E = PutError> {
-    /// Why the key was not put.
-    pub why: E,
-    /// What was evicted to keep to the bound, before the put failed. `None`: nothing was changed.
-    pub evicted: Option<T>,
-}
-
 /// Why an entry was left out when a cache was opened with entries.
 #[derive(Clone, Copy, Debug, PartialEq, Eq, Hash)]
 #[non_exhaustive]
@@ -336,12 +327,6 @@ impl<const WORDS: usize> Display for NotHeld<WORDS> {
     }
 }
 
-impl<T, E: Display> Display for BoundedError<T, E> {
-    fn fmt(&self, text: &mut Formatter) -> fmt::Result {
-        self.why.fmt(text)
-    }
-}
-
 impl<E: Display> Display for TurnError<E> {
     fn fmt(&self, text: &mut Formatter) -> fmt::Result {
         match self {
@@ -361,6 +346,5 @@ impl Error for PutIfAbsentError {}
 impl Error for Spent {}
 impl Error for Held {}
 impl Error for ListError {}
-impl<T: fmt::Debug, E: Error> Error for BoundedError<T, E> {}
 impl<E: Error> Error for TurnError<E> {}
 impl<const WORDS: usize> Error for NotHeld<WORDS> {}

@@ -1,8 +1,6 @@
 //! A thread's handle of a cache.
 use crate::counts::Meter;
-use crate::error::{
-    BoundedError, EvictError, Held, ListError, MoreError, PutError, PutIfAbsentError, PutIfError, Spent, TurnError,
-};
+use crate::error::{EvictError, Held, ListError, MoreError, PutError, PutIfAbsentError, PutIfError, Spent, TurnError};
 use crate::open_handle::{openings, OpenHandle};
 use crate::raw;
 use crate::reply::{self, Entry, Evict, Put, Removal, Replaced, Reply, Swapped, Take};
@@ -178,31 +176,6 @@ impl<const WORDS: usize> Handle<WORDS> {
         reply::turn(self.0.put_if_absent(key, value), |told| reply::if_absent(told, Put::of))
     }
 
-    /// Like [`try_put`](Handle::try_put), with [`Writing::put_bounded`](crate::Writing::put_bounded).
-    ///
-    /// # Errors
-    ///
-    /// [`TurnError`]: the key was not put. [`BoundedError::evicted`] is the key that has left all the same.
-    pub fn try_put_bounded(&mut self, key: u64, most: u32, value: &[u64; WORDS]) -> Result<Put, TurnError<BoundedError<u64>>> {
-        let told = self.0.put_bounded(key, most, value);
-        reply::turn(told, |told| reply::bounded(told, |reply| reply.evicted, Put::of))
-    }
-
-    /// Like [`try_put`](Handle::try_put), with [`Writing::put_if_absent_bounded`](crate::Writing::put_if_absent_bounded).
-    ///
-    /// # Errors
-    ///
-    /// [`TurnError`]: the key was not put. [`BoundedError::evicted`] is the key that has left all the same.
-    pub fn try_put_if_absent_bounded(
-        &mut self,
-        key: u64,
-        most: u32,
-        value: &[u64; WORDS],
-    ) -> Result<Put, TurnError<BoundedError<u64, PutIfAbsentError>>> {
-        let told = self.0.put_if_absent_bounded(key, most, value);
-        reply::turn(told, |told| reply::bounded(told, |reply| reply.evicted, |told| reply::if_absent(told, Put::of)))
-    }
-
     /// Like [`try_put`](Handle::try_put), with [`Writing::remove`](crate::Writing::remove).
     ///
     /// # Errors
@@ -243,39 +216,6 @@ impl<const WORDS: usize> Handle<WORDS> {
         let mut old = [0; WORDS];
         let told = self.0.swap_if_absent(key, value, &mut old);
         reply::turn(told, |told| reply::if_absent(told, |told| Swapped::of(key, old, told)))
-    }
-
-    /// Like [`try_put`](Handle::try_put), with [`Writing::swap_bounded`](crate::Writing::swap_bounded).
-    ///
-    /// # Errors
-    ///
-    /// [`TurnError`]: the key was not put. [`BoundedError::evicted`] says what has left all the same.
-    pub fn try_swap_bounded(
-        &mut self,
-        key: u64,
-        most: u32,
-        value: &[u64; WORDS],
-    ) -> Result<Swapped<WORDS>, TurnError<BoundedError<Entry<WORDS>>>> {
-        let mut old = [0; WORDS];
-        let told = self.0.swap_bounded(key, most, value, &mut old);
-        reply::turn(told, |told| reply::bounded(told, Swapped::evicted(old), |told| Swapped::of(key, old, told)))
-    }
-
-    /// Like [`try_put`](Handle::try_put), with [`Writing::swap_if_absent_bounded`](crate::Writing::swap_if_absent_bounded).
-    ///
-    /// # Errors
-    ///
-    /// [`TurnError`]: the key was not put. [`BoundedError::evicted`] says what has left all the same.
-    pub fn try_swap_if_absent_bounded(
-        &mut self,
-        key: u64,
-        most: u32,
-        value: &[u64; WORDS],
-    ) -> Result<Swapped<WORDS>, TurnError<BoundedError<Entry<WORDS>, PutIfAbsentError>>> {
-        let mut old = [0; WORDS];
-        let told = self.0.swap_if_absent_bounded(key, most, value, &mut old);
-        let swapped = |told| reply::if_absent(told, |told| Swapped::of(key, old, told));
-        reply::turn(told, |told| reply::bounded(told, Swapped::evicted(old), swapped))
     }
 
     /// Like [`try_put`](Handle::try_put), with [`Writing::take`](crate::Writing::take).

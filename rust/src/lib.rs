@@ -19,6 +19,7 @@
 compile_error!("Cefrodil runs on 64-bit Linux on x86-64 and aarch64 alone");
 
 mod audit;
+mod bounded;
 mod cache;
 mod counts;
 mod error;
@@ -37,11 +38,12 @@ mod within;
 mod writing;
 
 pub use audit::AuditLog;
+pub use bounded::BoundedError;
 pub use cache::{Cache, Opened};
 pub use counts::{prometheus, Counts, Meter};
 pub use error::{
-    BoundedError, EvictError, Held, ListError, MayBeHeld, MoreError, NotHeld, OpenError, PutError, PutIfAbsentError, PutIfError,
-    Spent, TurnError, Why,
+    EvictError, Held, ListError, MayBeHeld, MoreError, NotHeld, OpenError, PutError, PutIfAbsentError, PutIfError, Spent,
+    TurnError, Why,
 };
 pub use filler::{FillError, Filler, Ticket, Tickets};
 pub use handle::Handle;

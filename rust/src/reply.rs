@@ -1,5 +1,5 @@
 //! Answers of calls.
-use crate::error::{BoundedError, EvictError, ListError, PutError, PutIfAbsentError, PutIfError, Spent, TurnError};
+use crate::error::{EvictError, ListError, PutError, PutIfAbsentError, PutIfError, Spent, TurnError};
 use crate::memory::room;
 use crate::open_handle::OpenHandle;
 use crate::raw::{self, RawAnswer, RawPut, RawReply};
@@ -135,7 +135,7 @@ pub enum Evict<const WORDS: usize> {
     },
 }
 
-type Told = (u32, RawReply);
+pub(crate) type Told = (u32, RawReply);
 
 // Other statuses mean a handle that holds or does not, or another width. The types of this crate exclude them. A handle is closed only in a forked
 // child, if the parent opened it.
@@ -302,21 +302,6 @@ impl<const WORDS: usize> Swapped<WORDS> {
         };
         Ok(Swapped { put, old })
     }
-
-    /// The entry with this value, which a bounded put has evicted.
-    pub(crate) fn evicted(value: [u64; WORDS]) -> impl FnOnce(&RawReply) -> Entry<WORDS> {
-        move |reply| Entry { key: reply.evicted, value, since: reply.since }
-    }
-}
-
-/// The answer of a bounded put. `evicted` is what it evicted, if it did, and `of` makes an answer of what was told.
-pub(crate) fn bounded<T, L, E>(
-    told: Told,
-    evicted: impl FnOnce(&RawReply) -> L,
-    of: impl FnOnce(Told) -> Result<T, E>,
-) -> Result<T, BoundedError<L, E>> {
-    let left = (told.1.put == raw::PUT_EVICTED).then(|| evicted(&told.1));
-    of(told).map_err(|why| BoundedError { why, evicted: left })
 }
 
 impl<const WORDS: usize> Replaced<WORDS> {

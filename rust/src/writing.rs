@@ -1,6 +1,6 @@
 //! A handle that holds the turns of all shards.
 use crate::counts::Meter;
-use crate::error::{BoundedError, EvictError, ListError, MoreError, PutError, PutIfAbsentError, PutIfError, Spent};
+use crate::error::{EvictError, ListError, MoreError, PutError, PutIfAbsentError, PutIfError, Spent};
 use crate::handle::Handle;
 use crate::open_handle::{openings, OpenHandle};
 use crate::reply::{self, Entry, Evict, Put, Removal, Replaced, Reply, Swapped, Take};
@@ -120,43 +120,6 @@ impl<const WORDS: usize> Writing<'_, WORDS> {
         reply::if_absent(self.handle().put_if_absent(key, value), Put::of)
     }
 
-    /// Puts the key in a shard that is to hold at most `most` keys. If the key is new and its shard holds as many, and one at least, another key
-    /// of the shard is evicted first, though items are free.
-    ///
-    /// # Errors
-    ///
-    /// [`BoundedError`]: the key was not put. Its `evicted` is the key that has left all the same.
-    ///
-    /// # Examples
-    ///
-    /// ```
-    /// use cefrodil::{Cache, Put, Shape};
-    ///
-    /// let mut handles = Cache::<1>::open(&Shape::for_items(10, 1)?, 1, 1)?;
-    /// let mut writing = handles[0].hold()?;
-    /// writing.put_bounded(7, 1, &[70])?;
-    /// assert!(matches!(writing.put_bounded(8, 1, &[80])?, Put::Stored { evicted: Some(7), .. }));
-    /// # Ok::<(), Box<dyn std::error::Error>>(())
-    /// ```
-    pub fn put_bounded(&mut self, key: u64, most: u32, value: &[u64; WORDS]) -> Result<Put, BoundedError<u64>> {
-        reply::bounded(self.handle().put_bounded(key, most, value), |reply| reply.evicted, Put::of)
-    }
-
-    /// The same only if the key is absent, as [`put_if_absent`](Writing::put_if_absent).
-    ///
-    /// # Errors
-    ///
-    /// [`BoundedError`]: the key was not put. Its `evicted` is the key that has left all the same.
-    pub fn put_if_absent_bounded(
-        &mut self,
-        key: u64,
-        most: u32,
-        value: &[u64; WORDS],
-    ) -> Result<Put, BoundedError<u64, PutIfAbsentError>> {
-        let told = self.handle().put_if_absent_bounded(key, most, value);
-        reply::bounded(told, |reply| reply.evicted, |told| reply::if_absent(told, Put::of))
-    }
-
     /// Removes the key.
     ///
     /// # Errors
@@ -223,53 +186,6 @@ impl<const WORDS: usize> Writing<'_, WORDS> {
         let mut old = [0; WORDS];
         let told = self.handle().swap_if_absent(key, value, &mut old);
         reply::if_absent(told, |told| Swapped::of(key, old, told))
-    }
-
-    /// Puts the key as [`swap`](Writing::swap) does, in a shard that is to hold at most `most` keys. If the key is new and its shard holds as many,
-    /// and one at least, another entry of the shard is evicted first, though items are free.
-    ///
-    /// # Errors
-    ///
-    /// [`BoundedError`]: the key was not put. Its `evicted` says what has left all the same.
-    ///
-    /// # Examples
-    ///
-    /// ```
-    /// use cefrodil::{Cache, Entry, Shape};
-    ///
-    /// let mut handles = Cache::<1>::open(&Shape::for_items(10, 1)?, 1, 1)?;
-    /// let mut writing = handles[0].hold()?;
-    /// assert_eq!(writing.swap_bounded(7, 1, &[70])?.old, None);
-    /// assert_eq!(writing.swap_bounded(7, 1, &[71])?.old, Some(Entry { key: 7, value: [70], since: 1 }));
-    /// assert_eq!(writing.swap_bounded(8, 1, &[80])?.old, Some(Entry { key: 7, value: [71], since: 2 }));
-    /// assert_eq!(writing.len(), 1);
-    /// # Ok::<(), Box<dyn std::error::Error>>(())
-    /// ```
-    pub fn swap_bounded(
-        &mut self,
-        key: u64,
-        most: u32,
-        value: &[u64; WORDS],
-    ) -> Result<Swapped<WORDS>, BoundedError<Entry<WORDS>>> {
-        let mut old = [0; WORDS];
-        let told = self.handle().swap_bounded(key, most, value, &mut old);
-        reply::bounded(told, Swapped::evicted(old), |told| Swapped::of(key, old, told))
-    }
-
-    /// The same only if the key is absent, as [`swap_if_absent`](Writing::swap_if_absent).
-    ///
-    /// # Errors
-    ///
-    /// [`BoundedError`]: the key was not put. Its `evicted` says what has left all the same.
-    pub fn swap_if_absent_bounded(
-        &mut self,
-        key: u64,
-        most: u32,
-        value: &[u64; WORDS],
-    ) -> Result<Swapped<WORDS>, BoundedError<Entry<WORDS>, PutIfAbsentError>> {
-        let mut old = [0; WORDS];
-        let told = self.handle().swap_if_absent_bounded(key, most, value, &mut old);
-        reply::bounded(told, Swapped::evicted(old), |told| reply::if_absent(told, |told| Swapped::of(key, old, told)))
     }
 
     /// Removes the key as [`remove`](Writing::remove) does, and returns its entry.
