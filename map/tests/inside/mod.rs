@@ -28,6 +28,8 @@ mod object_turns;
 mod object_weights;
 #[cfg(feature = "objects")]
 mod objects;
+#[cfg(feature = "objects")]
+mod objects_left;
 mod overtaken;
 mod places;
 mod prints;
