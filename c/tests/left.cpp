@@ -198,6 +198,33 @@ static void held_capacity() {
     MUST(map.insert(10, uint64_t(10)).evicted && map.size() == 3 && map.contains(10));
 }
 
+// A number is its own hash. The index takes its shard from the mixed bits.
+struct Plain {
+    cefrodil::HashPair operator()(uint64_t key, const cefrodil::HashSecret &) const noexcept { return {key, key}; }
+};
+
+// The same, if one of four shards has all keys: the next put evicts all that is too much.
+template <class Any> static void held_capacity_of_one_shard() {
+    for (uint64_t shard = 0; shard < 4; shard++) {
+        uint64_t next = 0;
+        const auto key = [&] {
+            do {
+                next++;
+            } while ((cefrodil::inside::mixed(next) >> 48 & 3) != shard);
+            return next;
+        };
+        Any map;
+        MUST(map.open({100, 4, 4, 5}) == Status::ok);
+        for (uint64_t count = 0; count < 12; count++) {
+            MUST(map.insert(key(), uint64_t(1)).status == Status::ok);
+        }
+        held = 1000;
+        MUST(map.set_capacity(5) == Status::held && map.size() == 12);
+        held = 0;
+        MUST(map.insert(key(), uint64_t(1)).evicted && map.size() == 5 && map.contains(next));
+    }
+}
+
 // What was not put weighs nothing.
 static void held_put() {
     Map map;
@@ -288,6 +315,8 @@ int main() {
     what_a_thread_leaves_is_freed();
     held_evictions();
     held_capacity();
+    held_capacity_of_one_shard<cefrodil::map<uint64_t, uint64_t, Plain>>();
+    held_capacity_of_one_shard<cefrodil::object_map<uint64_t, uint64_t, Plain>>();
     held_shards();
     held_put();
     closed_maps_leave_nothing();
