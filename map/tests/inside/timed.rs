@@ -7,6 +7,8 @@ use std::time::Duration;
 
 const KEYS: u64 = 40;
 const CALLS: u64 = 4_000;
+// With so many places no put comes round to an entry, and takes it out since it has ended: also if all keys are in one of 16 shards.
+const PLACES: usize = 200_000;
 
 /// The clock is turned by whole hours, so that the time which a test takes does not matter.
 const HOUR: Duration = Duration::from_secs(3_600);
@@ -295,7 +297,7 @@ fn agrees(map: &impl Timed, life: u64) {
 fn a_map_agrees_with_a_model() {
     for life in [0, 1, 5, NEVER] {
         for threads in [0, 1] {
-            agrees(&Map::builder(10_000).threads(threads).time_to_live(of_hours(life)).open().unwrap(), life);
+            agrees(&Map::builder(PLACES).threads(threads).time_to_live(of_hours(life)).open().unwrap(), life);
         }
     }
 }
@@ -305,7 +307,7 @@ fn a_map_agrees_with_a_model() {
 fn so_does_a_map_of_objects() {
     for life in [0, 1, 5, NEVER] {
         for threads in [0, 1] {
-            agrees(&ObjectMap::builder(10_000).threads(threads).time_to_live(of_hours(life)).open().unwrap(), life);
+            agrees(&ObjectMap::builder(PLACES).threads(threads).time_to_live(of_hours(life)).open().unwrap(), life);
         }
     }
 }
