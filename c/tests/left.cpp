@@ -166,6 +166,11 @@ static void held_evictions() {
     MUST(map.set_most_weight(50) == Status::ok && map.weight() <= 50);
 }
 
+// A number is its own hash. The index takes its shard from the mixed bits.
+struct Plain {
+    cefrodil::HashPair operator()(uint64_t key, const cefrodil::HashSecret &) const noexcept { return {key, key}; }
+};
+
 // Other threads hold the turn of one shard. The other one evicts.
 static void held_shards() {
     Map map;
@@ -185,8 +190,12 @@ static void held_shards() {
     }
     // A shard that is held for a while is tried again, though the other one is empty.
     for (const uint64_t shard : {0, 1}) {
-        Map one;
-        MUST(one.open({100, 2, 4, 5}, rules) == Status::ok && one.insert(1, uint64_t(10)).status == Status::ok);
+        cefrodil::object_map<uint64_t, uint64_t, Plain> one;
+        uint64_t key = 1;
+        while ((cefrodil::inside::mixed(key) >> 48 & 1) != shard) {
+            key++;
+        }
+        MUST(one.open({100, 2, 4, 5}, rules) == Status::ok && one.insert(key, uint64_t(10)).status == Status::ok);
         held_shard = shard, held_there = 3;
         MUST(one.set_most_weight(5) == Status::ok && one.weight() == 0 && one.size() == 0);
     }
@@ -207,11 +216,6 @@ static void held_capacity() {
     held = 0;
     MUST(map.insert(10, uint64_t(10)).evicted && map.size() == 3 && map.contains(10));
 }
-
-// A number is its own hash. The index takes its shard from the mixed bits.
-struct Plain {
-    cefrodil::HashPair operator()(uint64_t key, const cefrodil::HashSecret &) const noexcept { return {key, key}; }
-};
 
 // The same, if one of four shards has all keys: the next put evicts all that is too much.
 template <class Any> static void held_capacity_of_one_shard() {
