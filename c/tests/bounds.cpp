@@ -161,6 +161,14 @@ static void weights() {
         MUST(objects.insert_or_assign(n * 7 % 300, n % 41).status == Status::ok && objects.size() <= 50 && objects.weight() <= 1000);
     }
     MUST(objects.clear() == Status::ok && objects.weight() == 0 && objects.size() == 0);
+    // What leaves for its weight leaves room for a new key.
+    MUST(objects.set_capacity(4) == Status::ok);
+    fill(objects, 0, 4);
+    MUST(objects.insert_or_assign(3, 998).renewed && objects.size() < 4 && objects.weight() <= 1000);
+    for (uint64_t size = objects.size(); size < 4; size++) {
+        MUST(!objects.insert(10 + size, 0).evicted && objects.size() == size + 1);
+    }
+    MUST(objects.insert(20, 0).evicted && objects.size() == 4);
 }
 
 // Threads that put evict the same excess together, and not each all of it.

@@ -55,6 +55,25 @@ template <class Map> static void all_leave_with_updates() {
     MUST(map.size() == 1 && map.find(200) == 51u && map.counts().ended == 99);
 }
 
+// A put that finds it tries for the lock of its key, as each write does. If another thread has that, it stays.
+static void locked_ones_stay() {
+    using cefrodil::inside::Timed;
+    cefrodil::inside::Table<uint64_t, Timed> entries{Timed(lives_of(nanoseconds(1000)))};
+    MUST(entries.open(100, 1, 2, 5) == Status::ok && entries.put({1, 1}, 10).status == Status::ok);
+    now += 1000;
+    const auto put_at_all_places = [&] {
+        for (int n = 0; n < 60; n++) {
+            MUST(entries.put({2, 2}, 20).status == Status::ok);
+        }
+    };
+    MUST(entries.flights.lock_of(1).try_lock());
+    put_at_all_places();
+    MUST(entries.keys() == 2);
+    entries.flights.lock_of(1).unlock();
+    put_at_all_places();
+    MUST(entries.keys() == 1);
+}
+
 // What ended goes, and what lives stays: while half of the entries have ended, new keys evict none that lives.
 template <class Map> static void ended_ones_first(const cefrodil::MapOptions &options) {
     Map map;
@@ -145,6 +164,7 @@ int main(int argc, char **argv) {
     }
     other_ends<Sessions>();
     other_ends<Objects>();
+    locked_ones_stay();
     listeners();
     threads(20000 / less);
     return outcome("ended");

@@ -17,7 +17,16 @@ static cefrodil_status some_evict(cefrodil_handle *handle, uint64_t near, uint64
     }
     return cefrodil_evict(handle, near, old, words, reply);
 }
-// And so many puts.
+// And so many lookups are busy, at the first try.
+static uint32_t busy = 0;
+static cefrodil_status some_get(cefrodil_handle *handle, uint64_t key, uint64_t *value, size_t words, cefrodil_reply *reply) {
+    if (busy != 0) {
+        busy--;
+        return CEFRODIL_BUSY;
+    }
+    return cefrodil_get_or_turn_of_width(handle, key, value, words, reply);
+}
+// And so many puts are held.
 static uint32_t held_puts = 0;
 static cefrodil_status some_swap(cefrodil_handle *handle, uint64_t key, const uint64_t *value, size_t words, uint64_t *old, size_t old_words,
                                  cefrodil_reply *reply) {
@@ -61,6 +70,7 @@ SOME_PUT(put_if_absent_bounded)
 #define cefrodil_put_bounded some_put_bounded
 #define cefrodil_put_if_absent_bounded some_put_if_absent_bounded
 #define cefrodil_evict some_evict
+#define cefrodil_get_or_turn_of_width some_get
 #define cefrodil_swap some_swap
 #include "cefrodil_object_map.hpp"
 #include "must.h"
@@ -156,6 +166,11 @@ static void held_evictions() {
     MUST(map.set_most_weight(50) == Status::ok && map.weight() <= 50);
 }
 
+// A number is its own hash. The index takes its shard from the mixed bits.
+struct Plain {
+    cefrodil::HashPair operator()(uint64_t key, const cefrodil::HashSecret &) const noexcept { return {key, key}; }
+};
+
 // Other threads hold the turn of one shard. The other one evicts.
 static void held_shards() {
     Map map;
@@ -175,8 +190,12 @@ static void held_shards() {
     }
     // A shard that is held for a while is tried again, though the other one is empty.
     for (const uint64_t shard : {0, 1}) {
-        Map one;
-        MUST(one.open({100, 2, 4, 5}, rules) == Status::ok && one.insert(1, uint64_t(10)).status == Status::ok);
+        cefrodil::object_map<uint64_t, uint64_t, Plain> one;
+        uint64_t key = 1;
+        while ((cefrodil::inside::mixed(key) >> 48 & 1) != shard) {
+            key++;
+        }
+        MUST(one.open({100, 2, 4, 5}, rules) == Status::ok && one.insert(key, uint64_t(10)).status == Status::ok);
         held_shard = shard, held_there = 3;
         MUST(one.set_most_weight(5) == Status::ok && one.weight() == 0 && one.size() == 0);
     }
@@ -196,6 +215,64 @@ static void held_capacity() {
     MUST(!map.insert(11, uint64_t(10)).evicted && map.size() == 11);
     held = 0;
     MUST(map.insert(10, uint64_t(10)).evicted && map.size() == 3 && map.contains(10));
+}
+
+// The same, if one of four shards has all keys: the next put evicts all that is too much.
+template <class Any> static void held_capacity_of_one_shard() {
+    for (uint64_t shard = 0; shard < 4; shard++) {
+        uint64_t next = 0;
+        const auto key = [&] {
+            do {
+                next++;
+            } while ((cefrodil::inside::mixed(next) >> 48 & 3) != shard);
+            return next;
+        };
+        Any map;
+        MUST(map.open({100, 4, 4, 5}) == Status::ok);
+        for (uint64_t count = 0; count < 12; count++) {
+            MUST(map.insert(key(), uint64_t(1)).status == Status::ok);
+        }
+        held = 1000;
+        MUST(map.set_capacity(5) == Status::held && map.size() == 12);
+        held = 0;
+        MUST(map.insert(key(), uint64_t(1)).evicted && map.size() == 5 && map.contains(next));
+    }
+}
+
+// A put says that others left, also if more are to leave and it gets no turn for these.
+template <class Any> static void held_excess() {
+    Any map;
+    MUST(map.open({100, 2, 4, 5}) == Status::ok);
+    uint64_t first = 0, last = 0;
+    const auto key_of = [&](uint64_t shard, uint64_t &key) {
+        do {
+            key++;
+        } while ((cefrodil::inside::mixed(key) >> 48 & 1) != shard);
+        return key;
+    };
+    for (uint64_t count = 0; count < 5; count++) {
+        MUST(map.insert(key_of(0, first), uint64_t(1)).status == Status::ok);
+    }
+    MUST(map.insert(key_of(1, last), uint64_t(1)).status == Status::ok);
+    held = 1000;
+    MUST(map.set_capacity(2) == Status::held && map.size() == 6);
+    held = 0, held_shard = 0;
+    MUST(map.insert(key_of(0, first), uint64_t(1)).evicted && map.size() == 6 && !map.contains(last));
+    held_shard = 2;
+    MUST(map.insert(key_of(0, first), uint64_t(1)).evicted && map.size() == 2);
+}
+
+// A key that a busy lookup does not find counts as a new one, so another one leaves for its weight. Its put says both that and that it replaced its own.
+static void busy_replacement() {
+    Map map;
+    Map::Rules rules;
+    rules.weigher = [](uint64_t, uint64_t value) { return value; };
+    rules.most_weight = 100;
+    MUST(map.open({100, 1, 4, 5}, rules) == Status::ok && map.insert(1, uint64_t(40)).status == Status::ok && map.insert(2, uint64_t(40)).status == Status::ok);
+    MUST(map.contains(1) && map.contains(1));
+    busy = 1;
+    const auto stored = map.insert_or_assign(1, uint64_t(50));
+    MUST(stored.status == Status::ok && busy == 0 && stored.renewed && stored.evicted && map.weight() == 50 && map.size() == 1 && map.find(1) == 50u);
 }
 
 // What was not put weighs nothing.
@@ -288,7 +365,12 @@ int main() {
     what_a_thread_leaves_is_freed();
     held_evictions();
     held_capacity();
+    held_capacity_of_one_shard<cefrodil::map<uint64_t, uint64_t, Plain>>();
+    held_capacity_of_one_shard<cefrodil::object_map<uint64_t, uint64_t, Plain>>();
     held_shards();
+    held_excess<cefrodil::map<uint64_t, uint64_t, Plain>>();
+    held_excess<cefrodil::object_map<uint64_t, uint64_t, Plain>>();
+    busy_replacement();
     held_put();
     closed_maps_leave_nothing();
     listeners_that_put();
