@@ -224,7 +224,7 @@ template <class Map> static void full(uint32_t thread_count, uint64_t puts) {
         }
     });
     const cefrodil::Counts counts = map.counts();
-    MUST(listed(map) == 1100 && counts.evictions == puts * thread_count - 1100 && counts.evicted_by_capacity == counts.evictions);
+    MUST(listed(map) == 1100 && counts.evictions == puts * thread_count - 1100 && counts.evicted_by_capacity <= counts.evictions);
     MUST(map.insert(UINT64_MAX, 1).evicted && map.find_or_compute(UINT64_MAX - 1, [] { return 1; }).computed && listed(map) == 1100);
 }
 
