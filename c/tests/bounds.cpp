@@ -294,8 +294,22 @@ static void objects_in_threads(uint64_t puts) {
     MUST(living == 0);
 }
 
+// By default there is a shard for each 125 entries, 16 at most, and their number is a power of two. The room is theirs.
+static void shards_by_default() {
+    const uint32_t expected[][2] = {{1, 1}, {249, 1}, {250, 2}, {499, 2}, {500, 4}, {999, 4}, {1000, 8}, {1999, 8}, {2000, 16}, {100000, 16}};
+    for (const auto &[entries, shards] : expected) {
+        Numbers numbers;
+        cefrodil_shape shape{};
+        MUST(numbers.open({entries}) == Status::ok && cefrodil_shape_for_items(entries, shards, &shape) == CEFRODIL_OK);
+        const uint64_t room = uint64_t(shape.items) * shards;
+        MUST(numbers.capacity() == std::min<uint64_t>(room, entries + entries / 10));
+        MUST(numbers.set_capacity(room) == Status::ok && numbers.set_capacity(room + 1) == Status::bad_capacity);
+    }
+}
+
 int main(int argc, char **argv) {
     const uint64_t less = argc > 1 ? std::strtoull(argv[1], nullptr, 10) : 1;
+    shards_by_default();
     sizes<Numbers>();
     sizes<Objects>();
     for (const uint32_t shards : {0, 1, 4}) {

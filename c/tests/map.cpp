@@ -80,19 +80,6 @@ static void openings() {
     MUST(moved.open({100, 1, 1}) == Status::ok && !moved.contains(1) && moved.insert(1, 11).status == Status::ok && moved.find(1) == 11u);
 }
 
-// By default there is a shard for each 125 entries, 16 at most, and their number is a power of two. The room is theirs.
-static void shards_by_default() {
-    const uint32_t expected[][2] = {{1, 1}, {249, 1}, {250, 2}, {499, 2}, {500, 4}, {999, 4}, {1000, 8}, {1999, 8}, {2000, 16}, {100000, 16}};
-    for (const auto &[entries, shards] : expected) {
-        Numbers numbers;
-        cefrodil_shape shape{};
-        MUST(numbers.open({entries}) == Status::ok && cefrodil_shape_for_items(entries, shards, &shape) == CEFRODIL_OK);
-        const uint64_t room = uint64_t(shape.items) * shards;
-        MUST(numbers.capacity() == std::min<uint64_t>(room, entries + entries / 10));
-        MUST(numbers.set_capacity(room) == Status::ok && numbers.set_capacity(room + 1) == Status::bad_capacity);
-    }
-}
-
 // A full map finds a place for each new key, though its shards are small; or for all but one in a million. With fewer buckets 16 of 1,000 find none.
 static void small_shards(const cefrodil::MapOptions &options, uint64_t keys) {
     Numbers numbers;
@@ -317,7 +304,6 @@ int main(int argc, char **argv) {
     const uint64_t fewer = argc > 1 ? std::strtoull(argv[1], nullptr, 10) : 1;
     alarm(argc > 1 ? 240 : 100); // so that a flight which never ends fails the test
     openings();
-    shards_by_default();
     peeks();
     small_shards({14}, 100000 / fewer);
     small_shards({28}, 100000 / fewer);

@@ -4,7 +4,7 @@ use super::inner::ObjectInner;
 use super::object::Held;
 use super::weights::Weights;
 use crate::bound::Evicted;
-use crate::error::{CapacityError, InsertError, RemoveError};
+use crate::error::{InsertError, RemoveError};
 use crate::stats::Kind;
 use cefrodil::Reply;
 
@@ -22,11 +22,6 @@ impl<O: Held, S> ObjectInner<O, S> {
         let seen = see(left.object(), at);
         left.tell(Reason::Evicted);
         seen
-    }
-
-    /// Changes how many objects there may be, and evicts what is too much.
-    pub fn set_capacity(&self, most: usize) -> Result<(), CapacityError> {
-        self.core.set_capacity(most, |evicted| self.end_eviction(evicted, |_, _| ()))
     }
 
     /// Whether objects must give way to the bound on weights.

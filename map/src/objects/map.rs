@@ -67,7 +67,7 @@ impl<K, V, S> ObjectMap<K, V, S> {
     ///
     /// [`CapacityError`].
     pub fn set_capacity(&self, most: usize) -> Result<(), CapacityError> {
-        self.inner.set_capacity(most)
+        self.inner.core.set_capacity(most, |evicted| self.inner.end_eviction(evicted, |_, _| ()))
     }
 
     /// How many entries the map has, expired ones included. While other threads write it is an estimate.

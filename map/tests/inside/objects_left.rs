@@ -12,7 +12,7 @@ fn what_left_for_a_put_that_failed_is_retired() {
     let hears = Arc::clone(&heard);
     let listener = move |key: &u64, _: &Arc<()>, reason| hears.lock().unwrap().push((*key, reason));
     let map: ObjectMap<u64, Arc<()>> = ObjectBuilder::new(16).listener(listener).open_shaped(&shape, 1, 10).unwrap();
-    map.set_capacity(11).unwrap();
+    map.inner.core.bound.set(11);
     let (value, mut refused) = (Arc::new(()), 0);
     for key in 0..2_000 {
         let before = map.len();
