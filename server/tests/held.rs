@@ -255,7 +255,7 @@ fn who_does_not_read_is_cut_off_though_a_value_has_begun() {
     drop(others);
 }
 
-/// Also within the turn in which it comes to its end.
+/// So it does while the worker that reads its last bytes goes on.
 #[test]
 fn a_value_counts_as_its_client_s_until_it_is_stored() {
     const SIZE: usize = 200_000;

@@ -11,8 +11,8 @@
 namespace cefrodil {
 
 // The answer of a put. `renewed`: it overwrote the key's value; or, by `insert_or_assign`, that of a key with the same hash, which is lost.
-// `evicted`: another key's entry is lost. An entry that has expired or was put before invalidate_all counts as another key's, but for
-// `insert_or_assign`.
+// `evicted`: another key's entry is lost, also if the put then failed. An entry that has expired or was put before invalidate_all counts as another
+// key's, but for `insert_or_assign`.
 struct Stored {
     Status status;
     bool renewed;
