@@ -113,6 +113,19 @@ mod tests {
         }
     }
 
+    // Five seconds after the last sums were noted the next ones are.
+    #[test]
+    fn a_list_notes_the_sums_again_after_five_seconds() {
+        let map = Map::<u64, u64>::new(100).unwrap();
+        map.insert(&1, 1).unwrap();
+        for _ in 0..3 {
+            map.inner.core.minute.turn(STEP);
+            assert_eq!((map.get(&1), map.remove_expired()), (Some(1), Ok(0)));
+        }
+        map.inner.core.minute.turn(MINUTE);
+        assert_eq!((map.get(&3), map.hit_rate_of_last_minute()), (None, 0.0));
+    }
+
     #[test]
     fn few_sums_are_kept() {
         let minute = Minute::new();

@@ -61,20 +61,22 @@ fn there(client: &mut Client, keys: Range<usize>) -> usize {
     keys.filter(|key| has(client, *key)).count()
 }
 
+/// The index remembers a key unless a later one has its place, and seldom takes one for another. So this is right of many keys, and not of each.
 #[test]
 fn most_keys_that_come_back_are_kept_and_those_that_do_not_are_evicted() {
-    let (mut client, mut first) = (client(), SCANNED);
-    full(&mut client, &mut first);
-    (300..320).for_each(|key| set(&mut client, key));
-    scan(&mut client, &mut first, ITEMS);
-    assert_eq!(there(&mut client, 300..320), 0);
-    // The index remembers them, unless a later one has its place.
-    (300..320).for_each(|key| set(&mut client, key));
-    (320..340).for_each(|key| set(&mut client, key));
-    scan(&mut client, &mut first, ITEMS);
-    let kept = there(&mut client, 300..320);
-    assert!(kept > 5, "{kept}");
-    assert_eq!(there(&mut client, 320..340), 0);
+    let (mut kept, mut others) = (0, 0);
+    for _ in 0..20 {
+        let (mut client, mut first) = (client(), SCANNED);
+        full(&mut client, &mut first);
+        (300..320).for_each(|key| set(&mut client, key));
+        scan(&mut client, &mut first, ITEMS);
+        others += there(&mut client, 300..320);
+        (300..340).for_each(|key| set(&mut client, key));
+        scan(&mut client, &mut first, ITEMS);
+        kept += there(&mut client, 300..320);
+        others += there(&mut client, 320..340);
+    }
+    assert!(kept > 100 && others < 20, "of 400 keys {kept} are kept, and of 800 others {others}");
 }
 
 /// Commands that use the key 0007.

@@ -119,7 +119,7 @@ fn a_crawler_s_list() {
         format!("key=a exp=-1 cas=1 fetch=yes cls=1 size={}", size(1, 3).max(32)),
         format!("key=b%25c exp=-1 cas=2 fetch=no cls=1 size={}", size(3, 1).max(32)),
     ];
-    for classes in ["all", "hash", "1", "2,1"] {
+    for classes in ["all", "hash", "1", "2,1", "1,2"] {
         assert_eq!(crawl(&mut client, classes), all, "{classes}");
     }
     assert_eq!(client.ask("lru_crawler metadump 2,63\n"), "END\n");

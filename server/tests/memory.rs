@@ -2,11 +2,14 @@
 mod plain;
 use cefrodild::budget::cost;
 use cefrodild::counts::Count;
+use cefrodild::memory::{may_fail, Spare};
 use cefrodild::request::How;
 use cefrodild::rss_limit::RssLimit;
 use cefrodild::store::{Answer, Fault};
 use plain::client::{exceed, order, Client, MEGABYTE};
+use std::alloc::{GlobalAlloc, Layout};
 use std::mem::forget;
+use std::ptr;
 use std::sync::atomic::Ordering::SeqCst;
 
 const FULL: &str = "SERVER_ERROR out of memory storing object\n";
@@ -217,4 +220,30 @@ fn no_value_is_changed_while_too_much_waits_to_be_freed() {
     assert_eq!(client.ask("get a\n"), "VALUE a 0 1\n5\nEND\n");
     budget.free(bytes);
     assert_eq!(client.ask("append a 0 0 1\n6\nget a\n"), "STORED\nVALUE a 0 2\n56\nEND\n");
+}
+
+/// Has no memory.
+struct Nothing;
+
+// SAFETY: it returns no block.
+unsafe impl GlobalAlloc for Nothing {
+    unsafe fn alloc(&self, _: Layout) -> *mut u8 {
+        ptr::null_mut()
+    }
+
+    unsafe fn dealloc(&self, _: *mut u8, _: Layout) {
+        unreachable!("it has no block")
+    }
+}
+
+#[test]
+fn a_call_that_may_fail_gets_nothing_of_the_reserve_behind_another_one_within_it() {
+    static SPARE: Spare<Nothing> = Spare::new(Nothing);
+    // SAFETY: the layout has a size.
+    let take = || unsafe { SPARE.alloc(Layout::new::<u64>()) };
+    may_fail(|| {
+        may_fail(|| assert!(take().is_null()));
+        assert!(take().is_null());
+    });
+    assert!(!take().is_null(), "all else gets it");
 }

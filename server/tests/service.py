@@ -167,6 +167,22 @@ def verbose_daemon(folder):
         gone(process)
 
 
+def relative_paths(folder):
+    """A daemon leaves its folder, and removes its own files there all the same."""
+    files = [f'{folder}/its-number', f'{folder}/its-socket']
+    words = [os.path.abspath(PROGRAM), *USER, '-d', '-P', 'its-number', '-s', 'its-socket']
+    subprocess.run(words, cwd=folder, stdin=subprocess.DEVNULL, capture_output=True, timeout=TIMEOUT, check=True)
+    with open(files[0], encoding='ascii') as said:
+        process = int(said.read())
+    try:
+        with client_of(files[1]) as client:
+            works(client)
+    finally:
+        os.kill(process, signal.SIGTERM)
+        gone(process)
+    assert not any(map(os.path.exists, files)), os.listdir(folder)
+
+
 def users():
     unknown = ran('-p', '0', '-u', 'no-such-user')
     if os.geteuid() == 0:
@@ -189,6 +205,7 @@ def main():
         several_places()
         daemon(folder, name)
         verbose_daemon(folder)
+        relative_paths(folder)
     users()
     core_files()
 

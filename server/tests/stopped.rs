@@ -33,13 +33,16 @@ fn commands_are_refused_while_the_lock_of_their_key_is_kept() {
             }
         });
         busy(other.beside(), commands[4]);
-        // A change tries for 980 ms at least, and a lookup for much less, unless the machine has much else to do.
-        let gives_up_early = |_: &u64| {
-            let begin = Instant::now();
-            assert_eq!(other.ask("gat 100 n\n"), "END\n");
-            begin.elapsed() < Duration::from_millis(900)
+        // A change tries much longer than two lookups, unless the machine has much else to do.
+        let give_up_early = |_: &u64| {
+            let client = other.beside();
+            thread::scope(|scope| {
+                let change = scope.spawn(move || busy(client, commands[0]));
+                (0..2).for_each(|_| assert_eq!(other.ask("gat 100 n\n"), "END\n"));
+                !change.is_finished()
+            })
         };
-        let lookups = (1..20).find(gives_up_early).expect("a lookup does not try as often as a change");
+        let lookups = 2 * (1..20).find(give_up_early).expect("a lookup does not try as often as a change");
         assert_eq!(other.ask("get n\n"), "VALUE n 0 1\n1\nEND\n");
         let count = |count| other.store.books.counts.get(count);
         assert!(count(Count::Held) >= 5 && count(Count::Busy) == 1 + lookups);

@@ -119,12 +119,13 @@ fn each_refusal_is_counted() {
     let map = filled(20_000, 1);
     let list = || drop(map.inner.core.slots.call(Index::keys));
     beside(list, |number| {
-        let (number, before) = (number % 1_000, map.stats());
+        // Of a key that is there nothing is made, so each round has a new one.
+        let (new, number, before) = (number + 1_000_000, number % 1_000, map.stats());
         let failed = [
             map.insert(&number, 1).is_err(),
             map.update(&number, |_| 2).is_err(),
             map.remove(&number).is_err(),
-            map.get_or_insert_with(&(number + 1_000_000), || 3) == 3 && map.get(&(number + 1_000_000)).is_none(),
+            map.get_or_insert_with(&new, || 3) == 3 && map.get(&new).is_none(),
         ];
         let refused = failed.iter().filter(|failed| **failed).count() as u64;
         assert_eq!(map.stats().refused, before.refused + refused);

@@ -132,6 +132,19 @@ fn a_life_that_is_too_long_to_be_counted_never_ends() {
     assert_eq!((map.get(&1), map.get(&2), map.get(&3)), (Some(10), Some(20), Some(30)));
 }
 
+// The life alone can be counted, and its end can't.
+#[test]
+fn a_life_whose_end_is_too_late_to_be_counted_never_ends() {
+    const YEAR: Duration = seconds(365 * 86_400);
+    let map = timed(580 * YEAR);
+    turn(&map, 10 * YEAR);
+    map.insert(&1, 10).unwrap();
+    map.insert_for(&2, 20, 584 * YEAR).unwrap();
+    assert_eq!((map.get(&1), map.get(&2)), (Some(10), Some(20)));
+    turn(&map, 570 * YEAR);
+    assert_eq!((map.get(&1), map.get(&2)), (Some(10), Some(20)));
+}
+
 #[test]
 fn what_has_expired_is_computed_anew() {
     let map = timed(seconds(100));

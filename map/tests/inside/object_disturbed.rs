@@ -44,6 +44,23 @@ fn a_lookup_that_stays_busy_says_so_and_is_counted() {
     });
 }
 
+#[test]
+fn a_removal_on_a_condition_that_stays_busy_is_counted() {
+    let map = restless(1);
+    // What this thread has counted.
+    let refused = || Stats::sum(once(map.inner.core.slots.own().unwrap().1)).refused;
+    beside(
+        || done(map.insert(2, 20)),
+        |_| {
+            let before = refused();
+            // No put has this moment.
+            let is_busy = map.remove_if(&1, 0) == Err(IfError::Busy);
+            assert!(!is_busy || refused() == before + 1);
+            [is_busy]
+        },
+    );
+}
+
 // No change or computation takes it for an absent key.
 #[test]
 fn a_busy_object_is_not_taken_for_an_absent_one() {

@@ -197,6 +197,39 @@ fn a_full_shard_evicts_what_was_not_used() {
     assert_eq!(left, (40..45).map(|key| key.to_string().into_bytes()).collect::<Vec<_>>());
 }
 
+// The program asks for it, and no bound does.
+#[test]
+fn an_eviction_counts_for_no_bound() {
+    let map = BytesMap::<Counted>::builder(100).open().unwrap();
+    (0..10).for_each(|key| done(map.put(make(key, 0)).unwrap()));
+    (0..3).for_each(|_| assert!(map.evict(|_, _| ()).unwrap().is_some()));
+    let stats = map.stats();
+    assert_eq!((stats.evicted, stats.evicted_by_weight, stats.evicted_by_capacity, stats.removed), (3, 0, 0, 0));
+}
+
+#[test]
+fn each_lookup_but_a_peek_is_counted() {
+    let map = BytesMap::<Counted>::builder(100).open().unwrap();
+    map.put(make(1, 10)).unwrap();
+    for key in [b"1", b"2", b"1"] {
+        map.look(key, |look| assert!(look.is_ok()));
+    }
+    map.look_many(&[b"1", b"2", b"3"], |_, look| assert!(look.is_ok()));
+    map.peek_hash(map.hash_of(b"1"), |look| assert!(matches!(look, Ok(Look::Found { .. }))));
+    map.peek_hash(map.hash_of(b"2"), |look| assert!(matches!(look, Ok(Look::Absent { .. }))));
+    assert_eq!((map.stats().hits, map.stats().misses, map.stats().busy), (3, 3, 0));
+}
+
+#[test]
+fn a_put_on_a_condition_that_failed_is_counted() {
+    let map = BytesMap::<Counted>::builder(100).open().unwrap();
+    let at = map.put(make(1, 10)).unwrap().at;
+    assert_eq!(map.put_if_absent(make(1, 20)), Err(AbsentError::Present { since: at }));
+    assert_eq!(map.stats().refused, 1);
+    assert_eq!(map.replace_if(at + 1, make(1, 30)), Err(IfError::Changed { since: at }));
+    assert_eq!((map.stats().refused, map.stats().renewed, map.len()), (2, 0, 1));
+}
+
 #[test]
 fn a_key_is_not_taken_for_another_one_with_its_hash() {
     let map = BytesMap::<Counted>::builder(100).threads(1).hasher(BuildHasherDefault::<Same>::default()).open().unwrap();

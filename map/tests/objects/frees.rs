@@ -243,6 +243,40 @@ fn a_chain_of_destructors_takes_the_stack_of_one() {
     assert_eq!((DEPTH.get().1, map.stats().waiting, map.len() as u64, DROPPED.get()), (1, 0, chains * length, chains * length));
 }
 
+// A value of one of two maps, whose destructor removes a key of the other one and frees what that had.
+struct Step(Option<(ObjectMap<u64, Step>, u64)>);
+
+thread_local! {
+    // How many such destructors run within each other, how many did at most, and how many ran.
+    static STEPS: Cell<[u64; 3]> = const { Cell::new([0; 3]) };
+}
+
+impl Drop for Step {
+    fn drop(&mut self) {
+        let [depth, most, dropped] = STEPS.get();
+        STEPS.set([depth + 1, most.max(depth + 1), dropped + 1]);
+        if let Some((other, next)) = self.0.take() {
+            let _ = other.remove_with(&next, |_| ());
+            other.free_unused();
+        }
+        let [_, most, dropped] = STEPS.get();
+        STEPS.set([depth, most, dropped]);
+    }
+}
+
+#[test]
+fn a_chain_of_destructors_of_two_maps_takes_the_stack_of_two() {
+    const LENGTH: u64 = 100;
+    let [first, second] = [(); 2].map(|()| ObjectMap::<u64, Step>::new(1_000).unwrap());
+    for key in 0..LENGTH {
+        assert!(first.insert(key, Step(Some((second.clone(), key)))).is_ok());
+        assert!(second.insert(key, Step(Some((first.clone(), key + 1)))).is_ok());
+    }
+    assert!(first.remove_with(&0, |_| ()).is_ok());
+    first.free_unused();
+    assert_eq!((STEPS.get(), first.len(), second.len()), ([0, 2, 2 * LENGTH], 0, 0));
+}
+
 // A value whose destructor removes a key of another map, and frees what that had.
 struct Remover(ObjectMap<u64, Arc<()>>, u64);
 

@@ -186,6 +186,16 @@ fn a_removal_whose_listener_panics_is_counted() {
     }
 }
 
+// A put within fifteen calls of listeners is refused. Those that panicked have ended.
+#[test]
+fn after_many_panics_in_the_listener_puts_go_on() {
+    let hear = |_: &u64, _: &u64, reason: Reason| panic!("as the test wants: {reason:?}");
+    let map = ObjectMap::<u64, u64>::builder(100).listener(hear).open().unwrap();
+    map.insert(1, 0).unwrap();
+    (1..40).for_each(|number| panics(|| map.insert(1, number)));
+    assert_eq!((map.insert(2, 2).is_ok(), map.get(&1), map.stats().refused), (true, Some(39), 0));
+}
+
 #[test]
 fn a_panic_in_the_listener_comes_after_the_change() {
     let ledger = Ledger::new(1_000);
