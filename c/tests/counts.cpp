@@ -54,6 +54,18 @@ static void lookups() {
     MUST(are(meter.counts(), {7, 4, 0, 0, 0, 0}));
 }
 
+// The hit rate is of the lookups that were not busy. Without any it is 0.
+static void busy_lookups_are_no_part_of_the_rate() {
+    Counts counts;
+    MUST(counts.hit_rate() == 0);
+    counts.busy = 4;
+    MUST(counts.hit_rate() == 0);
+    counts.misses = 3;
+    MUST(counts.hit_rate() == 0);
+    counts.hits = 1;
+    MUST(counts.hit_rate() == 0.25);
+}
+
 // A guard that owns a handle of a new cache of one shard.
 static Writing<1> writing_of(const cefrodil_shape &shape) {
     std::vector<Handle<1>> handles;
@@ -348,6 +360,7 @@ static void last_minute() {
 
 int main() {
     last_minute();
+    busy_lookups_are_no_part_of_the_rate();
     lookups();
     writes();
     no_path();

@@ -79,8 +79,24 @@ static void of_a_chain(bool is_in_two) {
     MUST(one.size() == 0 && two.size() == 0 && one.waiting() == 0 && two.waiting() == 0);
 }
 
+// What a destructor has freed comes beside what its call has yet to free: none of both is lost.
+static void of_several_at_once() {
+    Link::Links links;
+    MUST(links.open({100}) == Status::ok);
+    for (int n = 0; n < 4; n++) {
+        MUST(links.insert(n, Link(&links, 10 + n)).status == Status::ok && links.insert(10 + n, Link(nullptr, 0)).status == Status::ok);
+    }
+    for (int n = 0; n < 4; n++) {
+        MUST(links.erase(n) == Status::ok);
+    }
+    MUST(links.waiting() == 4 && links.meter().counts().waiting == 4 && links.size() == 4);
+    // Each destructor removes one more.
+    MUST(links.free_unused() == 8 && links.size() == 0 && links.waiting() == 0 && links.meter().counts().waiting == 0);
+}
+
 int main() {
     of_a_heavy_value();
+    of_several_at_once();
     of_a_chain(false);
     of_a_chain(true);
     return outcome("destructors");

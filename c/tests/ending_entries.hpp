@@ -7,6 +7,7 @@
 #include <algorithm>
 #include <atomic>
 #include <cstdint>
+#include <optional>
 #include <thread>
 #include <vector>
 
@@ -99,6 +100,30 @@ template <class Map> static void lives_of_entries() {
     Map moved = std::move(plain), &same = moved;
     moved = std::move(same);
     MUST(moved.find(3) == 31u && moved.close() == Status::ok);
+}
+
+// A function that may decline updates as any other: the entry gets the time of the call, or keeps its own. If it declines, it keeps all.
+template <class Map> static void updates_that_may_decline() {
+    now = 1000;
+    Map numbers;
+    MUST(opened(numbers, {1000}, living(nanoseconds(100))) == Status::ok);
+    for (uint64_t key = 1; key <= 4; key++) {
+        MUST(numbers.insert(key, uint64_t(10 * key)).status == Status::ok);
+    }
+    const auto raised = [](uint64_t old) { return std::optional<uint64_t>(old + 1); };
+    const auto none = [](uint64_t) { return std::optional<uint64_t>(); };
+    now = 1050;
+    MUST(status_of(numbers.update_for(1, nanoseconds(500), raised)) == Status::ok);
+    MUST(status_of(numbers.update_for(2, nanoseconds(500), none)) == Status::declined);
+    MUST(status_of(numbers.update(3, raised)) == Status::ok && status_of(numbers.update_for(4, nanoseconds(20), raised)) == Status::ok);
+    now = 1070;
+    MUST(numbers.find(1) == 11u && numbers.find(2) == 20u && numbers.find(3) == 31u && !numbers.find(4));
+    now = 1100;
+    MUST(numbers.find(1) == 11u && !numbers.find(2) && !numbers.find(3));
+    now = 1549;
+    MUST(numbers.find(1) == 11u);
+    now = 1550;
+    MUST(!numbers.find(1));
 }
 
 // What is found stays. A time to live ends it all the same. A peek is no use, and to look for what has expired is none.
@@ -200,6 +225,7 @@ template <class Map> static void erasures_are_no_use() {
 template <class Map> static void entries_end(uint64_t calls) {
     deadlines<Map>();
     lives_of_entries<Map>();
+    updates_that_may_decline<Map>();
     idle<Map>();
     idle_time_moves_by_a_sixteenth<Map>();
     threads_find_nothing_that_has_ended<Map>(calls);

@@ -98,9 +98,26 @@ template <class Hash> static void agrees_with_a_model(uint64_t calls) {
     MUST(expired > calls / 200);
 }
 
+// All keys have one number in the index.
+struct OneNumber {
+    cefrodil::HashPair operator()(const uint64_t &key, const cefrodil::HashSecret &) const noexcept { return {7, key}; }
+};
+
+// An erasure that finds another key's object under its number is no use of that.
+static void erasures_of_another_key_are_no_use() {
+    now = 0;
+    cefrodil::object_map<uint64_t, uint64_t, OneNumber> numbers;
+    MUST(opened(numbers, {1000}, living(forever, nanoseconds(100))) == Status::ok && numbers.insert(1, 10).status == Status::ok);
+    now = 90;
+    MUST(numbers.erase(2) == Status::absent && numbers.extract(3).status == Status::absent && numbers.peek(1).value == 10u);
+    now = 100;
+    MUST(!numbers.peek(1).value && !numbers.find(1));
+}
+
 int main(int argc, char **argv) {
     const uint64_t less = argc > 1 ? std::strtoull(argv[1], nullptr, 10) : 1;
     entries_end<Numbers>(3000 / less);
+    erasures_of_another_key_are_no_use();
     expired();
     weighed();
     agrees_with_a_model<cefrodil::SipHash<uint64_t>>(30000 / less);

@@ -136,7 +136,7 @@ static void each_call_is_held() {
     MUST(is_held([](auto &handle) { return handle.try_remove(7); }) && is_held([](auto &handle) { return handle.try_swap(7, {71}); }));
     MUST(is_held([](auto &handle) { return handle.try_swap_if(7, 1, {71}); }) && is_held([](auto &handle) { return handle.try_take(7); }));
     MUST(is_held([](auto &handle) { return handle.try_take_if(7, 1); }) && is_held([](auto &handle) { return handle.try_evict(7); }));
-    MUST(is_held([](auto &handle) { return handle.try_peek(7); }));
+    MUST(is_held([](auto &handle) { return handle.try_peek(7); }) && is_held([](auto &handle) { return handle.try_entry_at(7, 0); }));
     MUST(is_held([&](auto &handle) { return handle.try_len(len); }) && len == 99);
     MUST(is_held([&](auto &handle) { return handle.try_moment(len); }) && len == 99);
     MUST(is_held([&](auto &handle) { return handle.try_entries(list); }) && list.empty());

@@ -43,6 +43,20 @@ static void erases_what_is_invalidated(const cefrodil::Lives &lives) {
     }
 }
 
+// Nor does what was put stay if many generations have begun since then.
+static void erases_what_is_invalidated_often() {
+    now = 1000;
+    Numbers numbers;
+    MUST(numbers.open({40, 1}, living(nanoseconds(100))) == Status::ok);
+    for (const uint64_t times : {2, 16, 256, 1024, 65536}) {
+        MUST(numbers.insert(1, 10).status == Status::ok);
+        for (uint64_t n = 0; n < times; n++) {
+            MUST(numbers.invalidate_all() == Status::ok);
+        }
+        MUST(!numbers.find(1) && numbers.size() == 1 && numbers.erase_expired() == Status::ok && numbers.size() == 0);
+    }
+}
+
 // All keys have few numbers in the index, so one key's entry gives way to another's.
 struct Meeting {
     cefrodil::HashPair operator()(const uint64_t &key, const cefrodil::HashSecret &) const noexcept { return {key % 7, key}; }
@@ -94,6 +108,7 @@ int main(int argc, char **argv) {
         erases_what_is_invalidated(living(forever, to_idle));
         erases_what_is_invalidated(living(nanoseconds(100), to_idle));
     }
+    erases_what_is_invalidated_often();
     agrees_with_a_model<cefrodil::SipHash<uint64_t>>({1000}, true, 30000 / less);
     agrees_with_a_model<cefrodil::SipHash<uint64_t>>({30, 1}, false, 30000 / less);
     agrees_with_a_model<Meeting>({100, 1}, false, 30000 / less);

@@ -10,6 +10,7 @@ struct Calls {
     Map *(*open)();
     bool (*insert)(Map *map, uint64_t key, uint64_t value);
     uint64_t (*find)(Map *map, uint64_t key); // 0: none
+    Map *(*move)(Map *map); // to a new one
     void (*close)(Map *map);
 };
 

@@ -3,13 +3,17 @@
 #include "../must.h"
 #include "calls.hpp"
 #include <dlfcn.h>
+#include <memory>
 
-static const Calls *load(const char *path) {
+static void *loaded(const char *path) {
     void *const library = dlopen(path, RTLD_NOW | RTLD_LOCAL);
     if (library == nullptr) {
         std::puts(dlerror());
         std::exit(2);
     }
+    return library;
+}
+static const Calls *calls_of(void *library) {
     return reinterpret_cast<const Calls *(*)()>(dlsym(library, "calls"))();
 }
 
@@ -25,11 +29,24 @@ static void pass_on(const Calls &one, const Calls &other) {
     one.close(second);
 }
 
+// A map that another library has moved stays in the list of the one that opened it. So the other one may be unloaded before the map ends.
+static void moved_by_a_library_that_is_unloaded(const char *path) {
+    const auto &listed = cefrodil::inside::Ownings::of_library().first;
+    void *const library = loaded(path);
+    auto map = std::make_unique<Map>();
+    MUST(listed == nullptr && map->open({100, 1, 4}) == cefrodil::Status::ok && map->insert(1, 11).status == cefrodil::Status::ok);
+    const std::unique_ptr<Map> moved(calls_of(library)->move(map.release()));
+    MUST(listed != nullptr && dlclose(library) == 0);
+    MUST(moved->find(1) == 11u && moved->insert(2, 12).status == cefrodil::Status::ok && moved->find(2) == 12u);
+    MUST(moved->close() == cefrodil::Status::ok && listed == nullptr);
+}
+
 int main(int argc, char **argv) {
     if (argc != 3) {
         return 2;
     }
-    const Calls *const one = load(argv[1]), *const other = load(argv[2]);
+    moved_by_a_library_that_is_unloaded(argv[2]);
+    const Calls *const one = calls_of(loaded(argv[1])), *const other = calls_of(loaded(argv[2]));
     MUST(one != other && one->find != other->find);
     pass_on(*one, *other);
     pass_on(*other, *one); // each library has opened one map before

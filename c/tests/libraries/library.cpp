@@ -7,10 +7,15 @@ static Map *open() {
 }
 static bool insert(Map *map, uint64_t key, uint64_t value) { return map->insert(key, value).status == cefrodil::Status::ok; }
 static uint64_t find(Map *map, uint64_t key) { return map->find(key).value_or(0); }
+static Map *move(Map *map) {
+    auto moved = std::make_unique<Map>(std::move(*map));
+    delete map;
+    return moved.release();
+}
 static void close(Map *map) { delete map; }
 
 extern "C" [[gnu::visibility("default")]] const Calls *calls();
 const Calls *calls() {
-    static constexpr Calls all{open, insert, find, close};
+    static constexpr Calls all{open, insert, find, move, close};
     return &all;
 }
