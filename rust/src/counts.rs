@@ -209,6 +209,7 @@ impl Counter {
     }
 
     /// Counts a try for the turn.
+    #[inline]
     pub fn tried(&self, status: u32) {
         if let (Some((line, _)), raw::HELD) = (&self.0, status) {
             line.add(HELD, 1);
@@ -223,6 +224,7 @@ impl Counter {
     }
 
     /// Counts the answer of a write.
+    #[inline]
     pub fn wrote(&self, status: u32, reply: &RawReply) {
         self.tried(status);
         let Some((line, _)) = &self.0 else { return };

@@ -254,6 +254,7 @@ impl Put {
         }
     }
 
+    #[inline]
     pub(crate) fn of((status, reply): Told) -> Result<Put, PutError> {
         match status {
             raw::OK => Ok(Put::done(reply)),
