@@ -69,7 +69,7 @@ template <class V> inline constexpr bool is_map_value = is_value<V> && words_of<
 // find no other: they are slower, and `shared_calls` counts their calls. Each thread that calls a map takes 4 kB more.
 struct MapOptions {
     uint32_t entries;         // 1 or more: the map has room for so many; `capacity` is about a tenth more at most
-    uint32_t shards = 0;      // a power of two, 1 to 256: so many threads can write at once. 0: one for each 125 entries, 16 at most. If they have more
+    uint32_t shards = 0;      // a power of two, 1 to 256: so many threads can write at once. 0: one for each 62 entries, 16 at most. If they have more
                               // room, the map holds a tenth more than `entries`, as by `set_capacity`
     uint32_t passes = 1 + 64; // 1 to 1,024, with the shared one
     uint32_t tries = 10000;   // how often a call is repeated that other threads keep from its turn. This takes over a second. A lookup is repeated

@@ -294,9 +294,9 @@ static void objects_in_threads(uint64_t puts) {
     MUST(living == 0);
 }
 
-// By default there is a shard for each 125 entries, 16 at most, and their number is a power of two. The room is theirs.
+// By default there is a shard for each 62 entries, 16 at most, and their number is a power of two. The room is theirs.
 static void shards_by_default() {
-    const uint32_t expected[][2] = {{1, 1}, {249, 1}, {250, 2}, {499, 2}, {500, 4}, {999, 4}, {1000, 8}, {1999, 8}, {2000, 16}, {100000, 16}};
+    const uint32_t expected[][2] = {{1, 1}, {123, 1}, {124, 2}, {247, 2}, {248, 4}, {495, 4}, {496, 8}, {991, 8}, {992, 16}, {100000, 16}};
     for (const auto &[entries, shards] : expected) {
         Numbers numbers;
         cefrodil_shape shape{};

@@ -43,7 +43,7 @@ impl<K: ?Sized, V> Builder<K, V> {
 impl<K: ?Sized, V, S> Builder<K, V, S> {
     /// How many shards: a power of two, 1 to 256. Threads that write to different shards don't wait for each other. Each shard evicts for
     /// itself, and several shards together have more room than was asked for. The map holds a tenth more at most. One shard
-    /// has just what was asked for. The default is one for each 125 entries, 16 at most.
+    /// has just what was asked for. The default is one for each 62 entries, 16 at most.
     pub fn shards(mut self, shards: u32) -> Self {
         self.settings.shards = Some(shards);
         self

@@ -13,7 +13,7 @@ const MOST_THREADS: usize = 1023;
 const SPARE_HANDLES: usize = 64;
 
 /// How many entries a shard has at least, and how many shards there are at most, by default.
-const ENTRIES_OF_A_SHARD: usize = 125;
+const ENTRIES_OF_A_SHARD: usize = 62;
 const MOST_SHARDS: usize = 16;
 
 /// The most stripes that all shards have together, but each may have `STRIPES_OF_A_SHARD`. Each stripe has a version of 8 bytes, and more of

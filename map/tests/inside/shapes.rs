@@ -14,11 +14,11 @@ fn many_shards_have_few_stripes_each() {
     }
 }
 
-// One for each 125 entries, a power of two, and 16 at most.
+// One for each 62 entries, a power of two, and 16 at most.
 #[test]
 fn there_are_so_many_shards_by_default() {
     let expected =
-        [(1, 1), (249, 1), (250, 2), (499, 2), (500, 4), (999, 4), (1_000, 8), (1_999, 8), (2_000, 16), (3_000_000, 16)];
+        [(1, 1), (123, 1), (124, 2), (247, 2), (248, 4), (495, 4), (496, 8), (991, 8), (992, 16), (3_000_000, 16)];
     for (capacity, shards) in expected {
         assert_eq!(Settings::new(capacity).shape().unwrap().1, shards, "of {capacity}");
     }
@@ -26,7 +26,7 @@ fn there_are_so_many_shards_by_default() {
 
 #[test]
 fn by_default_a_map_holds_a_tenth_more_at_most() {
-    for capacity in (1..100_000).step_by(13).chain([249, 250, 500, 1_000, 2_000, 40_000]) {
+    for capacity in (1..100_000).step_by(13).chain([123, 124, 248, 496, 992, 1_000, 40_000]) {
         let settings = Settings::new(capacity);
         let (shape, shards) = settings.shape().unwrap();
         let (bound, room) = (settings.bound(&shape, shards), shape.items as usize * shards as usize);

@@ -63,7 +63,7 @@ struct Seen {
 };
 
 // By default a shard has so many entries or more, and there are so many shards at most.
-inline constexpr uint32_t most_shards = 16, entries_of_a_shard = 125;
+inline constexpr uint32_t most_shards = 16, entries_of_a_shard = 62;
 inline uint32_t shards_for(uint32_t entries) noexcept {
     uint32_t shards = 1;
     while (shards < most_shards && shards * 2 <= entries / entries_of_a_shard) {
