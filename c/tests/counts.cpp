@@ -358,8 +358,22 @@ static void last_minute() {
     MUST(twice.rate(at(600), 10, 0) == 1 && twice.rate(at(1200), 10, 10) == 0 && twice.rate(at(1230), 30, 10) == 2.0 / 3);
 }
 
+// A thread frees what another one has retired, and so counts fewer than none. While only its numbers are there, no object waits.
+static void no_fewer_than_no_objects_wait() {
+    inside::LineGroup group(1);
+    group.front() = std::vector<inside::Line>(2);
+    std::vector<inside::Line> &of_handles = group.front();
+    inside::Lines lines;
+    lines.add(std::move(group));
+    of_handles[0].add(inside::waiting, uint64_t(0) - 1);
+    MUST(lines.sum().waiting == 0);
+    of_handles[1].add(inside::waiting, 3);
+    MUST(lines.sum().waiting == 2);
+}
+
 int main() {
     last_minute();
+    no_fewer_than_no_objects_wait();
     busy_lookups_are_no_part_of_the_rate();
     lookups();
     writes();
