@@ -172,6 +172,22 @@ fn the_end_of_a_waker_may_drop_a_future_of_the_same_flight() {
     });
 }
 
+// A waker ends, too, when it has been woken.
+#[test]
+fn a_waker_that_is_woken_may_drop_a_future_of_the_same_flight() {
+    ends(|| {
+        let (map, wakes) = (Numbers::new(100).unwrap(), Arc::new(Wakes::default()));
+        let lead = lead(&map);
+        let (mut first, mut second) = (wait(&map), wait(&map));
+        assert!(poll(&wakes, &mut second).is_pending());
+        let waker = Waker::from(Arc::new(Owns(second)));
+        assert!(pin!(&mut first).poll(&mut Context::from_waker(&waker)).is_pending());
+        drop(waker);
+        assert_eq!((lead.publish(70), wakes.count(), wakes.wakers()), (70, 1, 0));
+        assert_eq!(poll(&wakes, &mut first), Poll::Ready(Some(70)));
+    });
+}
+
 #[test]
 fn a_panic_lets_another_one_lead() {
     let (map, wakes) = (Numbers::new(100).unwrap(), Arc::new(Wakes::default()));

@@ -3,6 +3,7 @@
 use super::done;
 use super::one_shard;
 use super::turns::{before_calls, calls};
+use crate::generation::check_in;
 #[cfg(feature = "objects")]
 use crate::{generation::NONE, objects::Over, ObjectMap, Published};
 use crate::{Board, Map};
@@ -13,6 +14,14 @@ type Numbers = Map<u64, u64>;
 
 fn open() -> Numbers {
     Map::builder(1).open_shaped(&one_shard(100), 1, 5).unwrap()
+}
+
+// However many invalidations lie between them.
+#[test]
+fn no_two_generations_have_the_same_check_word() {
+    for bit in 0..64 {
+        assert_ne!(check_in(1, 7), check_in(1 ^ 1 << bit, 7), "bit {bit}");
+    }
 }
 
 // A call of an earlier generation finds an entry of a later one.

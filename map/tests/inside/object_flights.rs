@@ -1,5 +1,5 @@
 //! When writes of a map of objects detach the flights of their key, and what its computations look at.
-use super::waiting::while_it_waits;
+use super::waiting::{while_it_waits, LONG};
 use super::{done, hold};
 use crate::flight::{Boarding, Leader};
 use crate::objects::Held;
@@ -7,7 +7,9 @@ use crate::print::Print;
 use crate::wait::IN_PAUSE;
 use crate::ObjectMap;
 use std::cell::OnceCell;
-use std::time::Duration;
+use std::sync::mpsc::channel;
+use std::thread;
+use std::time::{Duration, Instant};
 
 type Numbers = ObjectMap<u64, u64>;
 
@@ -139,6 +141,23 @@ fn a_value_that_came_before_the_flight_is_not_computed_again() {
     map.insert(KEY, 10).unwrap();
     let value = map.inner.compute(map.hash_of(&KEY), &KEY, Some(&board(&map)), 1, || Err("it is computed again"));
     assert_eq!(value, Ok(10));
+}
+
+// It is put while the call waits. A thread that had missed the key before that begins to compute it anew.
+#[test]
+fn a_call_that_waited_gets_what_was_put_and_waits_for_no_later_flight() {
+    let map = Numbers::new(100).unwrap();
+    let (earlier, calls, begin) = (board(&map), map.clone(), Instant::now());
+    let (send, receive) = channel();
+    thread::spawn(move || send.send(calls.get_or_insert_with(&KEY, || 2)));
+    while map.inner.core.flights.passengers(print(&map)) == 0 {
+        assert!(begin.elapsed() < LONG, "the call does not wait");
+        thread::yield_now();
+    }
+    map.insert(KEY, 10).unwrap();
+    let _later = board(&map);
+    drop(earlier);
+    assert_eq!(receive.recv_timeout(LONG), Ok(10));
 }
 
 // A renewal comes once the update has begun to wait for its turn.

@@ -228,6 +228,13 @@ fn beside_a_removal_in_turn(map: &Numbers) -> bool {
 }
 
 #[test]
+fn a_touch_that_is_overtaken_begins_anew_or_says_so() {
+    let (map, _) = open();
+    assert!(beside_puts(&map, None, TRIES - 1, || map.touch(&1, LIFE)));
+    assert!(!beside_puts(&map, None, TRIES, || map.touch(&1, LIFE)));
+}
+
+#[test]
 fn a_clear_counts_what_it_removed_itself() {
     for removed in [0, 1, 4, 10] {
         let (map, _) = open();
