@@ -1,5 +1,5 @@
 // Of three callers that want one key one computes, and the others wait for it: each of them gets the value.
-#include "cefrodil_map.hpp"
+#include "cefrodil_object_map.hpp"
 #include "must.h"
 #include <algorithm>
 #include <atomic>
@@ -8,12 +8,12 @@
 #include <unistd.h>
 #include <vector>
 
+using cefrodil::object_map;
 using cefrodil::Status;
 
-int main() {
-    // A caller that nobody wakes waits for ever.
-    alarm(30);
-    cefrodil::map<int, int> map;
+// `call` asks a map for a key by a function that computes the value 7, and says whether it got that.
+template <class Map, class Call> static void one_computes(Call call) {
+    Map map;
     MUST(map.open({100}) == Status::ok);
     std::atomic<int> begun{0}, computed{0}, found{0};
     const auto compute = [&] {
@@ -26,7 +26,7 @@ int main() {
     };
     const auto want = [&] {
         begun++;
-        found += map.find_or_compute(1, compute).value == 7;
+        found += call(map, compute);
     };
     std::vector<std::thread> threads;
     for (int n = 0; n < 3; n++) {
@@ -34,5 +34,15 @@ int main() {
     }
     std::for_each(threads.begin(), threads.end(), [](std::thread &thread) { thread.join(); });
     MUST(found == 3 && computed == 1);
+}
+
+int main() {
+    // A caller that nobody wakes waits for ever.
+    alarm(30);
+    const auto by_value = [](auto &map, const auto &compute) { return map.find_or_compute(1, compute).value == 7; };
+    const auto by_pin = [](auto &map, const auto &compute) { return *map.pin_or_compute(1, compute).value == 7; };
+    one_computes<cefrodil::map<int, int>>(by_value);
+    one_computes<object_map<int, int>>(by_value);
+    one_computes<object_map<int, int>>(by_pin);
     return outcome("waiters");
 }

@@ -153,6 +153,21 @@ static void shares() {
     MUST(stay(1) == 30 && numbers.weight() > 950 && numbers.weight() <= 1000);
 }
 
+// Of eight shards, from the next one on, the one with the most objects is to evict. Here each has as many as its number says.
+static void the_fullest_of_eight() {
+    using cefrodil::inside::key_of_shard;
+    cefrodil::inside::Weights weights(1000);
+    weights.divide(16);
+    for (uint64_t shard = 0; shard < 16; shard++) {
+        for (uint64_t object = 0; object < shard; object++) {
+            weights.add(key_of_shard(shard), 1);
+        }
+    }
+    for (uint64_t next = 0; next < 16; next++) {
+        MUST(weights.fullest() == key_of_shard(std::min<uint64_t>(next + 7, 15)));
+    }
+}
+
 // As many objects leave as must, however many shards without one are looked at between two of them.
 static void few_of_many_shards() {
     object_map<uint64_t, uint64_t, Plain> numbers;
@@ -325,6 +340,7 @@ int main(int argc, char **argv) {
     used_keys_stay();
     a_new_object_stays();
     shares();
+    the_fullest_of_eight();
     few_of_many_shards();
     entries_alone();
     waiting();
