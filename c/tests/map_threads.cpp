@@ -99,7 +99,7 @@ static void shared_calls() {
     MUST(calls(numbers) == 0 && calls(alone) == 2);
     std::thread([&] { MUST(calls(numbers) == 2 && calls(alone) == 2); }).join();
     MUST(calls(numbers) == 0 && numbers.shared_calls() == 2);
-    // One call looks up to 32 keys up.
+    // One call of the index looks at most 32 keys up.
     const std::vector<uint64_t> keys(100, 1);
     std::vector<std::optional<uint64_t>> values(keys.size());
     for (const size_t count : {0, 1, 32, 33, 64, 100}) {
