@@ -139,6 +139,20 @@ fn who_holds_most_for_longest_is_cut_off() {
     assert_eq!([&second, &third].map(|seat| seat.cut().is_some()), [true, false]);
 }
 
+/// What is cut off is not counted, and leaves no more room than that to the others.
+#[test]
+fn the_others_hold_no_more_while_one_is_cut_off() {
+    let seats = seats(3, 1_000);
+    let take = || seats.take(0).expect("a seat is free");
+    let (mut first, mut second, mut third) = (take(), take(), take());
+    first.hold(FREE + 1_001, None);
+    second.hold(FREE + 500, None);
+    third.hold(FREE + 500, None);
+    assert_eq!([&first, &second, &third].map(|seat| seat.cut().is_some()), [true, false, false], "the others fit");
+    third.hold(FREE + 501, None);
+    assert!(second.cut().is_some() || third.cut().is_some());
+}
+
 #[test]
 fn who_has_held_less_for_much_longer_is_cut_off() {
     let seats = seats(2, 1_000);

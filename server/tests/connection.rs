@@ -251,6 +251,20 @@ fn a_client_holds_no_more_than_it_needs() {
     assert!((600_000..701_000).contains(&held), "{held}");
 }
 
+/// The system has memory for the buffer of one that sends a large value, and the items have room beside it.
+#[test]
+fn no_item_gives_way_to_what_a_client_sends() {
+    let mut both = Both::new();
+    assert_eq!(both.client.ask("set a 0 0 1\n5\n"), "STORED\n");
+    assert_eq!(both.send(b"set k 0 0 700000\r\n"), Next::Event);
+    for _ in 0..14 {
+        assert_eq!(both.send(&[b'x'; 50_000]), Next::Event);
+    }
+    assert_eq!(both.send(b"\r\n"), Next::Event);
+    assert_eq!(both.read_all(8), b"STORED\r\n");
+    assert_eq!((both.count(Count::Evicted), both.client.store.index.len()), (0, 2));
+}
+
 #[test]
 fn a_client_that_sends_no_more_gets_all_its_answers() {
     let mut both = Both::new();
