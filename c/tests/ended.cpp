@@ -66,10 +66,10 @@ static void locked_ones_stay() {
             MUST(entries.put({2, 2}, 20).status == Status::ok);
         }
     };
-    MUST(entries.flights.lock_of(1).try_lock());
+    MUST(entries.locks.of(1).try_lock());
     put_at_all_places();
     MUST(entries.keys() == 2);
-    entries.flights.lock_of(1).unlock();
+    entries.locks.of(1).unlock();
     put_at_all_places();
     MUST(entries.keys() == 1);
 }

@@ -1,31 +1,26 @@
 //! Locks of keys, which are tried, and never waited for. No code of the caller runs under one.
 use std::sync::atomic::{AtomicBool, Ordering::Acquire, Ordering::Release};
 
-/// So two threads seldom meet at a lock.
-const LOCKS: usize = 64;
+/// A byte each, in 64 cache lines: two threads hardly ever want the same lock, and seldom the same line.
+const LOCKS: usize = 4096;
 
 /// The locks of all keys. Each is that of some keys.
-pub(crate) struct KeyLocks([KeyLock; LOCKS]);
-
-/// A lock in a cache line of its own.
 #[repr(align(64))]
-struct KeyLock {
-    is_taken: AtomicBool,
-}
+pub(crate) struct KeyLocks([AtomicBool; LOCKS]);
 
-/// A lock, until this is dropped.
-pub(crate) struct Guard<'a>(&'a KeyLock);
+/// A lock, until this is dropped. It is true while it is taken.
+pub(crate) struct Guard<'a>(&'a AtomicBool);
 
 impl KeyLocks {
     pub fn new() -> KeyLocks {
-        KeyLocks([const { KeyLock { is_taken: AtomicBool::new(false) } }; LOCKS])
+        KeyLocks([const { AtomicBool::new(false) }; LOCKS])
     }
 
     /// The lock of the key with this hash, if no other thread has it.
     #[inline]
     pub fn lock(&self, hash: u64) -> Option<Guard<'_>> {
         let lock = &self.0[hash as usize % LOCKS];
-        let was_taken = lock.is_taken.swap(true, Acquire);
+        let was_taken = lock.swap(true, Acquire);
         (!was_taken).then(|| Guard(lock))
     }
 }
@@ -33,6 +28,6 @@ impl KeyLocks {
 impl Drop for Guard<'_> {
     #[inline]
     fn drop(&mut self) {
-        self.0.is_taken.store(false, Release);
+        self.0.store(false, Release);
     }
 }

@@ -5,6 +5,7 @@
 #include "cursors.hpp"
 #include "flights.hpp"
 #include "hash.hpp"
+#include "key_locks.hpp"
 #include "threads.hpp"
 #include "turns.hpp"
 #include <algorithm>
@@ -54,6 +55,7 @@ template <size_t Words, class Beside = NothingBeside> class Entries : public Tur
     using typename Turns<Words, Beside>::OwnSlot;
     Generation generations{};
     AllFlights flights{};
+    KeyLocks locks{};
 
     // Only objects are weighed.
     static uint64_t weight() noexcept { return 0; }
@@ -152,7 +154,7 @@ template <size_t Words, class Beside = NothingBeside> class Entries : public Tur
 
     template <class Call> [[gnu::always_inline]] auto with_lock(uint64_t key, Call made) noexcept {
         return [this, key, made](OwnSlot &slot) __attribute__((always_inline)) {
-            const std::unique_lock<KeyLock> guard(flights.lock_of(key), std::try_to_lock);
+            const std::unique_lock<KeyLock> guard(locks.of(key), std::try_to_lock);
             return guard ? made(slot) : refusal<decltype(made(slot))>(Status::held);
         };
     }

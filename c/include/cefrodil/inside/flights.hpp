@@ -148,20 +148,11 @@ template <class Parts> class FlightOf {
 using Flights = FlightsOf<Threads>;
 using Flight = FlightOf<Threads>;
 
-// The lock of some keys of a map. It is tried, and never waited for. No code of the user runs under one.
-struct KeyLock {
-    bool try_lock() noexcept { return !is_taken.exchange(true, std::memory_order_acquire); }
-    void unlock() noexcept { is_taken.store(false, std::memory_order_release); }
-    std::atomic<bool> is_taken{false};
-};
-
-// The flights of all keys of a map, and their locks. A write needs both, so those of some keys are in one cache line.
+// The flights of all keys of a map.
 class AllFlights {
   public:
     // Each call waits for others' functions for so long at most. Call it before all others.
     void limit(std::chrono::nanoseconds most_wait) noexcept { most_wait_ = most_wait; }
-    // There are so many locks that two threads seldom meet at one.
-    KeyLock &lock_of(uint64_t index) noexcept { return of(index).lock; }
     // The flight of a call, which waits no longer than to this time. The call's first flight sets it, if it is not set.
     Flight begin(const Identity &key, Until &until) {
         if (until == Until()) {
@@ -175,10 +166,7 @@ class AllFlights {
     }
 
   private:
-    // By inheritance the lock lies in what would be padding, so also a mutex of 48 bytes leaves it room.
-    struct alignas(64) Stripe : Flights {
-        KeyLock lock{};
-    };
+    struct alignas(64) Stripe : Flights {};
     // A clock of nanoseconds can't add much more.
     static constexpr std::chrono::hours ages{24 * 365 * 100};
 
