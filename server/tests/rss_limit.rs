@@ -21,7 +21,10 @@ fn bounded(bytes: u64) -> Budget {
 #[test]
 fn the_process_takes_what_the_system_counts_in_kilobytes() {
     let text = fs::read_to_string("/proc/self/status").expect("the system tells");
-    let counted = text.lines().find_map(|line| line.strip_prefix("VmRSS:")?.trim().strip_suffix(" kB")?.parse::<u64>().ok()).expect("a number");
+    let counted = text
+        .lines()
+        .find_map(|line| line.strip_prefix("VmRSS:")?.trim().strip_suffix(" kB")?.parse::<u64>().ok())
+        .expect("a number");
     let resident = high().resident().expect("the system tells") >> 10;
     assert!((counted / 2..2 * counted).contains(&resident), "{resident} kB, and the system says {counted}");
 }

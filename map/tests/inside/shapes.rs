@@ -17,8 +17,7 @@ fn many_shards_have_few_stripes_each() {
 // One for each 62 entries, a power of two, and 16 at most.
 #[test]
 fn there_are_so_many_shards_by_default() {
-    let expected =
-        [(1, 1), (123, 1), (124, 2), (247, 2), (248, 4), (495, 4), (496, 8), (991, 8), (992, 16), (3_000_000, 16)];
+    let expected = [(1, 1), (123, 1), (124, 2), (247, 2), (248, 4), (495, 4), (496, 8), (991, 8), (992, 16), (3_000_000, 16)];
     for (capacity, shards) in expected {
         assert_eq!(Settings::new(capacity).shape().unwrap().1, shards, "of {capacity}");
     }
