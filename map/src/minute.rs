@@ -83,6 +83,7 @@ impl Minute {
 mod tests {
     use super::*;
     use crate::Map;
+    use std::thread::sleep;
 
     #[test]
     fn sums_are_those_since_about_a_minute_ago() {
@@ -95,6 +96,17 @@ mod tests {
         // After a long time without a note, the last one before counts.
         assert_eq!((at(1_000, 400, 10), at(1_001, 401, 10)), ((90, 5), (91, 5)));
         assert_eq!(at(1_060, 500, 20), (100, 10));
+    }
+
+    // In the other tests it goes on by turns.
+    #[test]
+    fn time_goes_on() {
+        const LONG: Duration = Duration::from_millis(10);
+        let before = Instant::now();
+        let minute = Minute::new();
+        sleep(LONG);
+        let elapsed = minute.elapsed();
+        assert!((LONG..=before.elapsed()).contains(&elapsed), "{elapsed:?}");
     }
 
     // So what was found more than a minute ago does not count.

@@ -1,7 +1,10 @@
 //! Forked children: none takes its parent's handles for its own, also one that has its parent's process number.
+use crate::flight::Boarding;
 use crate::Map;
 use std::ffi::c_int;
 use std::process::exit;
+use std::sync::Arc;
+use std::{ptr, thread};
 
 extern "C" {
     fn fork() -> c_int;
@@ -62,4 +65,24 @@ fn the_end_of_a_child_waits_for_no_lock_of_its_parent() {
     map.insert(&1, 1).unwrap();
     let _locked = map.inner.core.slots.hold_free();
     assert_eq!(in_child(|| 0), 0);
+}
+
+// Another thread of the parent may have stopped while it changed a list. So the child's drop of the map doesn't drop what is in one.
+#[test]
+fn the_end_of_a_child_leaves_the_lists_of_flights_as_they_are() {
+    let map = Map::<u64, u64>::new(100).unwrap();
+    let flights = &map.inner.core.flights;
+    let print = map.inner.print(&1);
+    let Boarding::First(_leader) = flights.board(print) else { panic!("there is another flight") };
+    let flight = thread::scope(|threads| match threads.spawn(|| flights.board(print)).join().unwrap() {
+        Boarding::Other(flight) => flight,
+        _ => panic!("the flight has ended"),
+    });
+    let holders = Arc::strong_count(&flight);
+    let end = || {
+        // SAFETY: the child ends without another look at what it drops here.
+        drop(unsafe { ptr::read(&map) });
+        c_int::from(Arc::strong_count(&flight) != holders)
+    };
+    assert_eq!(in_child(end), 0);
 }
