@@ -66,7 +66,7 @@ def has_version_6():
 
 
 def addresses(program):
-    """The line that it prints has the address at which it listens, and it listens at no other."""
+    """The line that it prints has the address at which it listens, and so has `stats conns`. It listens at no other."""
     known = [('127.0.0.2', '127.0.0.2'), ('0.0.0.0', '0.0.0.0')] + [('::1', '[::1]')] * has_version_6()
     for address, shown in known:
         server = subprocess.Popen([program, *USER, '-l', address, '-p', '0'], stdout=subprocess.PIPE, text=True)
@@ -75,6 +75,9 @@ def addresses(program):
             assert begin == f'cefrodild: listening on {shown}', begin
             with socket.create_connection(('127.0.0.3' if address == '0.0.0.0' else address, int(port)), 10) as client:
                 assert ask(client, b'mn\r\n') == b'MN\r\n'
+                kind = 'tcp6' if ':' in address else 'tcp'
+                conns = ask(client, b'stats conns\r\n', END).decode()
+                assert re.search(rf'STAT \d+:addr {kind}:{re.escape(shown)}:{port}\r\n', conns), conns
             if address != '0.0.0.0':
                 with contextlib.suppress(ConnectionRefusedError), connect(int(port)):
                     raise AssertionError(f'it listens on 127.0.0.1, too, and not only on {address}')
