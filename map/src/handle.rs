@@ -179,10 +179,6 @@ impl AnyHandle {
     }
 
     pub fn get_or_turn(&mut self, key: u64) -> Reply<MOST> {
-        #[cfg(test)]
-        if is_to_be_busy() {
-            return Reply::Busy;
-        }
         any!(self, handle => wide_reply(handle.get_or_turn(key)))
     }
 
@@ -251,17 +247,4 @@ fn wide_reply<const WIDTH: usize>(reply: Reply<WIDTH>) -> Reply<MOST> {
         Reply::Absent { at } => Reply::Absent { at },
         Reply::Busy => Reply::Busy,
     }
-}
-
-#[cfg(test)]
-fn is_to_be_busy() -> bool {
-    let lookups = BUSY_AFTER.get();
-    BUSY_AFTER.set(lookups.and_then(|lookups| lookups.checked_sub(1)));
-    lookups == Some(0)
-}
-
-#[cfg(test)]
-thread_local! {
-    /// After how many calls of `get_or_turn` one of this thread is busy.
-    pub(crate) static BUSY_AFTER: std::cell::Cell<Option<u32>> = const { std::cell::Cell::new(None) };
 }

@@ -57,6 +57,11 @@ template <size_t Words, class Beside = NothingBeside> class Entries : public Tur
     AllFlights flights{};
     KeyLocks locks{};
 
+    [[nodiscard]] Status open(uint32_t entries, uint32_t shards, uint32_t passes, uint32_t tries) noexcept {
+        const Status status = Turns<Words, Beside>::open(entries, shards, passes, tries);
+        return status == Status::ok && !has_memory([&] { locks.divide(entries); }) ? Status::no_memory : status;
+    }
+
     // Only objects are weighed.
     static uint64_t weight() noexcept { return 0; }
     // Ends all entries, and outdates what is being computed.

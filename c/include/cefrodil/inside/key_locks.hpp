@@ -4,7 +4,9 @@
 
 #include <array>
 #include <atomic>
+#include <cstddef>
 #include <cstdint>
+#include <vector>
 
 namespace cefrodil::inside {
 
@@ -15,15 +17,26 @@ struct KeyLock {
     std::atomic<bool> is_taken{false};
 };
 
-// All locks: a byte each, in 64 cache lines. So two threads hardly ever want the same lock, and seldom the same line. Nothing else is in these lines: who
-// only reads need not wait for them.
+// All locks, a byte each: two threads hardly ever want the same one, and seldom the same cache line. Nothing else is in these lines, since who writes
+// to one waits for it less long than who has read it before.
 class KeyLocks {
   public:
-    KeyLock &of(uint64_t index) noexcept { return locks_[index % locks_.size()]; }
+    // Before any other call. Takes memory for the locks of a map for so many entries: a small map takes little.
+    void divide(uint32_t entries) {
+        size_t locks = line;
+        while (locks < most_locks && locks / 4 < entries) {
+            locks *= 2;
+        }
+        lines_ = std::vector<Line>(locks / line); // a power of two
+    }
+    KeyLock &of(uint64_t index) noexcept { return lines_[index / line & (lines_.size() - 1)].locks[index % line]; }
 
   private:
-    // map/SETTINGS has this number, and that of Rust's maps.
-    alignas(64) std::array<KeyLock, 4096> locks_{};
+    static constexpr size_t line = 64, most_locks = 4096;
+    struct alignas(line) Line {
+        std::array<KeyLock, line> locks{};
+    };
+    std::vector<Line> lines_{};
 };
 
 } // namespace cefrodil::inside
