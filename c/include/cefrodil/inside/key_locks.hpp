@@ -17,8 +17,8 @@ struct KeyLock {
     std::atomic<bool> is_taken{false};
 };
 
-// All locks, a byte each: two threads hardly ever want the same one, and seldom the same cache line. Nothing else is in these lines, since who writes
-// to one waits for it less long than who has read it before.
+// All locks, a byte each: two threads hardly ever want the same one, and seldom the same cache line. Nothing else is in these lines. A write that had
+// read its line before would wait for it twice: to read it, and to have it alone.
 class KeyLocks {
   public:
     // Before any other call. Takes memory for the locks of a map for so many entries: a small map takes little.
