@@ -27,9 +27,13 @@ class KeyLocks {
         while (locks < most_locks && locks / 4 < entries) {
             locks *= 2;
         }
-        lines_ = std::vector<Line>(locks / line); // a power of two
+        lines_ = std::vector<Line>(locks / line);
+        last_ = locks - 1;
     }
-    KeyLock &of(uint64_t index) noexcept { return lines_[index / line & (lines_.size() - 1)].locks[index % line]; }
+    KeyLock &of(uint64_t index) noexcept {
+        const uint64_t number = index & last_;
+        return lines_[number / line].locks[number % line];
+    }
 
   private:
     static constexpr size_t line = 64, most_locks = 4096;
@@ -37,6 +41,7 @@ class KeyLocks {
         std::array<KeyLock, line> locks{};
     };
     std::vector<Line> lines_{};
+    uint64_t last_ = 0; // of a power of two
 };
 
 } // namespace cefrodil::inside
