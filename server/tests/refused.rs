@@ -1,81 +1,23 @@
 //! Memory that the system refuses: each allocation in turn, and all for a while. Clients get an error or are cut off, and the server goes on. The index is the
 //! real one.
 mod plain;
-use cefrodild::books::Books;
-use cefrodild::budget::cost;
-use cefrodild::connection::{warm_up, Next};
+mod refusing;
+use cefrodild::connection::Next;
 use cefrodild::counts::Count;
 use cefrodild::item::new_item;
-use cefrodild::memory::Spare;
-use cefrodild::request::{How, Order};
-use cefrodild::slabs;
-use cefrodild::store::{Answer, Fault, Store};
+use cefrodild::store::Store;
 use cefrodild::worker::Worker;
 use plain::both::Both;
-use plain::client::{map_store, options_of, order};
-use plain::{Control, Plain};
-use std::alloc::{GlobalAlloc, Layout, System};
-use std::cell::Cell;
+use plain::client::map_store;
+use refusing::{refusing, set_up, ALLOCATOR};
+use std::alloc::{GlobalAlloc, Layout};
 use std::io::{ErrorKind, Read, Write};
-use std::ptr;
-use std::sync::atomic::Ordering::SeqCst;
-use std::sync::{Arc, Mutex, MutexGuard, Once, PoisonError};
+use std::sync::Arc;
 use std::thread::yield_now;
 use std::time::{Duration, Instant};
 
-/// Refuses some allocations of one thread.
-struct Refusing;
-
-thread_local! {
-    /// How many allocations succeed first, and how many are refused then.
-    static FIRST: Cell<usize> = const { Cell::new(usize::MAX) };
-    static REFUSED: Cell<usize> = const { Cell::new(0) };
-}
-
-fn is_refused() -> bool {
-    match (FIRST.get(), REFUSED.get()) {
-        (0, 0) | (usize::MAX, _) => false,
-        (0, left) => {
-            REFUSED.set(left - 1);
-            true
-        }
-        (first, _) => {
-            FIRST.set(first - 1);
-            false
-        }
-    }
-}
-
-// SAFETY: the system's allocator has all blocks.
-unsafe impl GlobalAlloc for Refusing {
-    unsafe fn alloc(&self, layout: Layout) -> *mut u8 {
-        if is_refused() {
-            return ptr::null_mut();
-        }
-        // SAFETY: the caller says that it may be called: here and below.
-        unsafe { System.alloc(layout) }
-    }
-
-    unsafe fn dealloc(&self, at: *mut u8, layout: Layout) {
-        // SAFETY: as above.
-        unsafe { System.dealloc(at, layout) }
-    }
-}
-
-#[global_allocator]
-static ALLOCATOR: Spare<Refusing> = Spare::new(Refusing);
-
 fn store() -> Store {
     map_store(1 << 20, "-t1")
-}
-
-/// Makes a call, of whose allocations so many succeed and so many are refused then. Returns whether some were.
-fn refusing<T>(first: usize, refused: usize, call: impl FnOnce() -> T) -> (T, bool) {
-    FIRST.set(first);
-    REFUSED.set(refused);
-    let result = call();
-    FIRST.set(usize::MAX);
-    (result, REFUSED.get() < refused)
 }
 
 /// Sends this in parts, and reads what it is answered to this place. Returns how many bytes that has, or `None` if the connection has ended.
@@ -180,15 +122,6 @@ fn assert_well(store: &Store, ordinary: &[Step]) {
     assert!(store.books.budget.buffers() == 0, "{}", store.books.budget.buffers());
 }
 
-/// One test at a time: what has left the index and is held is counted for the process.
-fn set_up() -> MutexGuard<'static, ()> {
-    static ONCE: Once = Once::new();
-    static TURN: Mutex<()> = Mutex::new(());
-    ONCE.call_once(|| slabs::set_up(64 << 20).expect("there are addresses"));
-    warm_up();
-    TURN.lock().unwrap_or_else(PoisonError::into_inner)
-}
-
 /// Runs the script again and again, with refusals from each allocation on. Returns how many allocations it makes, and what came of all runs.
 fn run_with_each(refused: usize) -> (usize, Ran) {
     let (store, script, ordinary) = (store(), script(), ordinary());
@@ -280,63 +213,6 @@ fn each_allocation_of_a_worker_is_refused() {
     }
 }
 
-/// If items that give way don't help, no more of them go in that second.
-#[test]
-fn items_do_not_go_in_vain() {
-    let _turn = set_up();
-    for how in [How::Set, How::Add] {
-        let (store, value) = (store(), vec![b'x'; 100_000]);
-        (0..200).for_each(|key: u8| assert!(store.store(&order(How::Set, &[key], 1_000), &value[..1_000]).is_ok()));
-        let mut gone = Vec::new();
-        for _ in 0..20 {
-            let before = store.index.len();
-            let (answer, _) = refusing(0, usize::MAX, || store.store(&order(how, b"large", value.len()), &value));
-            assert!(answer.is_err());
-            gone.push(before - store.index.len());
-        }
-        // A second may end meanwhile.
-        assert!(gone[0] > 0 && gone.iter().filter(|gone| **gone > 0).count() <= 3, "{how:?}: {gone:?}");
-    }
-}
-
-/// Stores a value as it is ordered. The first item of so many that are made has no memory.
-fn store_refused(store: &Store, order: &Order, refused: usize) -> (Result<Answer, Fault>, bool) {
-    refusing(0, refused, || store.store(order, &[b'x'; 2_000][..order.length]))
-}
-
-#[test]
-fn items_give_way_to_each_command() {
-    let _turn = set_up();
-    let (store, gone) = (store(), |store: &Store| store.books.counts.get(Count::Evicted));
-    (0..100).for_each(|key: u8| assert!(store_refused(&store, &order(How::Set, &[key], 2_000), 0).0.is_ok()));
-    for (how, key) in [(How::Add, b"new"), (How::Replace, b"new"), (How::Append, b"new"), (How::Prepend, b"new")] {
-        let (before, (answer, was_refused)) = (gone(&store), store_refused(&store, &order(how, key, 2_000), 1));
-        assert!(was_refused && matches!(answer, Ok(Answer::Done(_))) && gone(&store) > before, "{how:?}: {answer:?}");
-    }
-    let (before, (stale, was_refused)) = (gone(&store), refusing(0, 1, || store.invalidate(b"new", None, None)));
-    assert!(was_refused && matches!(stale, Ok(Answer::Done(_))) && gone(&store) > before, "{stale:?}");
-    // If that does not help, no more of them go in that second.
-    let (before, (answer, _)) = (gone(&store), store_refused(&store, &order(How::Add, b"key", 2_000), usize::MAX));
-    assert!(answer == Err(Fault::NoRoom) && gone(&store) - before < 10, "{answer:?}");
-}
-
-#[test]
-fn what_is_not_put_takes_no_memory() {
-    let _turn = set_up();
-    let store = map_store(1 << 20, "-t1 -I3000");
-    assert!(store_refused(&store, &order(How::Set, b"key", 2_000), 0).0.is_ok());
-    for (how, compare, answer) in [
-        (How::Add, None, Ok(Answer::NotStored)),
-        (How::Set, Some(9), Ok(Answer::Exists)),
-        (How::Append, Some(9), Ok(Answer::Exists)),
-        (How::Append, None, Err(Fault::TooLong)),
-    ] {
-        let order = Order { compare, ..order(how, b"key", 2_000) };
-        assert_eq!(store_refused(&store, &order, usize::MAX), (answer, false), "{how:?}");
-    }
-    assert_eq!(refusing(0, usize::MAX, || store.invalidate(b"key", Some(9), None)), (Ok(Answer::Exists), false));
-}
-
 /// The reserve has a megabyte. The thread of another test may have some of it until it has ended.
 #[test]
 fn the_reserve_begins_anew_when_none_of_it_is_taken() {
@@ -354,58 +230,6 @@ fn the_reserve_begins_anew_when_none_of_it_is_taken() {
     while !(0..50).all(is_taken) {
         assert!(Instant::now() < end, "it does not begin anew");
         yield_now();
-    }
-}
-
-/// The list of items that lie in no chunk does not grow.
-#[test]
-fn the_place_of_an_item_that_has_left_is_used_again() {
-    let _turn = set_up();
-    let item = || new_item(1, 0, 0, b"key", &[&[0; 2_000]]);
-    assert!(item().is_some());
-    for _ in 0..20_000 {
-        // It needs a block of its own, and nothing else.
-        assert!(refusing(1, usize::MAX, item).0.is_some());
-    }
-}
-
-/// A store over the plain index.
-fn plain_store() -> (Store, Arc<Control>) {
-    let (options, control) = (options_of("-t1"), Arc::new(Control::default()));
-    let books = Arc::new(Books::new(1 << 20, &options));
-    (Store::new(Box::new(Plain::new(&books, &control)), books, options), control)
-}
-
-#[test]
-fn what_gave_way_is_freed_before_the_system_is_asked_again() {
-    let _turn = set_up();
-    let (store, control) = plain_store();
-    let put = || store.store(&order(How::Set, b"key", 20_000), &[b'x'; 20_000]);
-    assert!(put().is_ok() && control.sweeps.load(SeqCst) == 0);
-    assert!(refusing(0, 1, put).0.is_ok() && control.sweeps.load(SeqCst) == 1);
-}
-
-/// Items give way that have four times the bytes of the value that has no memory: of the whole value, though only a part of it is new. They have at
-/// most a 32nd of the memory.
-#[test]
-fn items_give_way_for_the_whole_value() {
-    type Command = fn(&Store) -> Result<Answer, Fault>;
-    let _turn = set_up();
-    let commands: [(Command, u64); 6] = [
-        (|store| store.store(&order(How::Set, b"key", 2_000), &[b'x'; 2_000]), 8_000),
-        (|store| store.store(&order(How::Replace, b"key", 2_000), &[b'x'; 2_000]), 4 * 5_000),
-        (|store| store.store(&order(How::Append, b"key", 1), b"x"), 4 * 3_001),
-        (|store| store.store(&order(How::Prepend, b"key", 1), b"x"), 4 * 3_001),
-        (|store| store.invalidate(b"key", None, None), 4 * 3_000),
-        (|store| store.store(&order(How::Set, b"key", 20_000), &[b'x'; 20_000]), (1 << 20) / 32),
-    ];
-    for (command, bytes) in commands {
-        let (store, _) = plain_store();
-        (0..100).for_each(|key: u8| assert!(store.store(&order(How::Set, &[key], 1_000), &[b'x'; 1_000]).is_ok()));
-        assert!(store.store(&order(How::Set, b"key", 3_000), &[b'x'; 3_000]).is_ok());
-        let (answer, was_refused) = refusing(0, 1, || command(&store));
-        assert!(was_refused && matches!(answer, Ok(Answer::Done(_))), "{answer:?}");
-        assert_eq!(store.books.counts.get(Count::Evicted), bytes.div_ceil(cost(1, 1_000)));
     }
 }
 
