@@ -1,6 +1,7 @@
 //! A thread's handle of a cache.
 use crate::counts::Meter;
 use crate::error::{EvictError, Held, ListError, MoreError, PutError, PutIfAbsentError, PutIfError, Spent, TurnError};
+use crate::lists;
 use crate::open_handle::{openings, OpenHandle};
 use crate::raw;
 use crate::reply::{self, Entry, Evict, Put, Removal, Replaced, Reply, Swapped, Take};
@@ -309,7 +310,7 @@ impl<const WORDS: usize> Handle<WORDS> {
     /// [`TurnError::Held`]: a try for a turn did not win. `Call` with [`ListError::NoMemory`]. Nothing was listed.
     pub fn try_entries(&mut self) -> Result<Vec<(u64, [u64; WORDS])>, TurnError<ListError>> {
         let most = self.capacity();
-        reply::entries(&mut self.0, most)
+        lists::entries(&mut self.0, most)
     }
 
     /// Lists each entry with the moment of its key's last put, as [`Writing::stamped_entries`](crate::Writing::stamped_entries) does. It

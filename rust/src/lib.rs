@@ -26,6 +26,7 @@ mod error;
 mod filler;
 mod handle;
 mod hold;
+mod lists;
 mod loads;
 mod memory;
 mod open_handle;

@@ -2,6 +2,7 @@
 use crate::counts::Meter;
 use crate::error::{EvictError, ListError, MoreError, PutError, PutIfAbsentError, PutIfError, Spent};
 use crate::handle::Handle;
+use crate::lists;
 use crate::open_handle::{openings, OpenHandle};
 use crate::reply::{self, Entry, Evict, Put, Removal, Replaced, Reply, Swapped, Take};
 use std::fmt::{self, Debug, Formatter};
@@ -342,7 +343,7 @@ impl<const WORDS: usize> Writing<'_, WORDS> {
     /// ```
     pub fn entries(&mut self) -> Result<Vec<(u64, [u64; WORDS])>, ListError> {
         let most = self.len();
-        reply::without_turn(reply::entries(self.handle(), most))
+        lists::without_turn(lists::entries(self.handle(), most))
     }
 
     /// Lists each entry with the moment of its key's last put, as its shard counts. A lookup of the key would return the same `since`, so
@@ -374,7 +375,7 @@ impl<const WORDS: usize> Writing<'_, WORDS> {
     /// ```
     pub fn stamped_entries(&mut self) -> Result<Vec<Entry<WORDS>>, ListError> {
         let most = self.len();
-        reply::without_turn(reply::stamped_entries(self.handle(), most))
+        lists::without_turn(lists::stamped_entries(self.handle(), most))
     }
 
     /// Opens more handles of the cache, as [`Handle::more`] does.
