@@ -38,3 +38,5 @@ pub(crate) use epochs::{Epochs, BATCH};
 pub(crate) use object::Held;
 #[cfg(test)]
 pub(crate) use pinned::{Over, State};
+#[cfg(test)]
+pub(crate) use weights::{Claim, Weights};

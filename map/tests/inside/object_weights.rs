@@ -1,6 +1,8 @@
 //! A bound on weights, and an eviction that gets no turn.
 use super::turns::Turn;
 use super::{done, hold, one_shard};
+use crate::bound::SHARD;
+use crate::objects::{Claim, Weights};
 use crate::slots::BEFORE_CALL;
 use crate::stats::Kind;
 use crate::{Block, BytesMap, CapacityError, GetError, Head, InsertError, Inserted, ObjectBuilder, ObjectMap, RemoveError};
@@ -210,4 +212,16 @@ fn an_eviction_without_a_turn_says_so() {
     map.peek_hash(map.hash_of(b""), |look| assert!(matches!(look, Err(GetError::Busy))));
     drop(turn);
     assert_eq!((map.inner.evict(TRIES, Kind::Evicted, |_, _| ()), map.len()), (Ok(Some(())), 0));
+}
+
+// Of eight shards, from the next one on, the one with the most objects is to evict first. Here each has as many as its number says.
+#[test]
+fn the_fullest_of_eight_evicts_first() {
+    let weights = Weights::<()>::new(1000, Box::new(|_| 1), 16);
+    for shard in 0..16_u64 {
+        (0..shard).for_each(|_| Claim::of(Some(&weights), shard << SHARD, 1).unwrap().keep());
+    }
+    for next in 0..16 {
+        assert_eq!(weights.fullest_first().next(), Some((next + 7).min(15) << SHARD));
+    }
 }
