@@ -153,18 +153,22 @@ impl Wake for Owns {
     fn wake(self: Arc<Self>) {}
 }
 
+/// Polls the future by such a waker, which it keeps alone.
+fn poll_by_owner(map: &Numbers, wakes: &Arc<Wakes>, first: &mut Wait<u64>) {
+    let mut second = wait(map);
+    assert!(poll(wakes, &mut second).is_pending());
+    let waker = Waker::from(Arc::new(Owns(second)));
+    assert!(pin!(first).poll(&mut Context::from_waker(&waker)).is_pending());
+}
+
 // A waker ends when another one takes its place, and when its future is dropped.
 #[test]
 fn the_end_of_a_waker_may_drop_a_future_of_the_same_flight() {
     ends(|| {
         for is_replaced in [true, false] {
             let (map, wakes) = (Numbers::new(100).unwrap(), Arc::new(Wakes::default()));
-            let lead = lead(&map);
-            let (mut first, mut second) = (wait(&map), wait(&map));
-            assert!(poll(&wakes, &mut second).is_pending());
-            let waker = Waker::from(Arc::new(Owns(second)));
-            assert!(pin!(&mut first).poll(&mut Context::from_waker(&waker)).is_pending());
-            drop(waker);
+            let (lead, mut first) = (lead(&map), wait(&map));
+            poll_by_owner(&map, &wakes, &mut first);
             assert!(!is_replaced || poll(&wakes, &mut first).is_pending());
             drop(first);
             assert_eq!((lead.publish(70), wakes.wakers()), (70, 0));
@@ -177,12 +181,8 @@ fn the_end_of_a_waker_may_drop_a_future_of_the_same_flight() {
 fn a_waker_that_is_woken_may_drop_a_future_of_the_same_flight() {
     ends(|| {
         let (map, wakes) = (Numbers::new(100).unwrap(), Arc::new(Wakes::default()));
-        let lead = lead(&map);
-        let (mut first, mut second) = (wait(&map), wait(&map));
-        assert!(poll(&wakes, &mut second).is_pending());
-        let waker = Waker::from(Arc::new(Owns(second)));
-        assert!(pin!(&mut first).poll(&mut Context::from_waker(&waker)).is_pending());
-        drop(waker);
+        let (lead, mut first) = (lead(&map), wait(&map));
+        poll_by_owner(&map, &wakes, &mut first);
         assert_eq!((lead.publish(70), wakes.count(), wakes.wakers()), (70, 1, 0));
         assert_eq!(poll(&wakes, &mut first), Poll::Ready(Some(70)));
     });
