@@ -38,6 +38,14 @@ tells_now h k Busy t b = inl refl
 pub some_same : (xs ys : List ℕ) → ◌≡◌ {A = Option (List ℕ)} (Some xs) (Some ys) → xs ≡ ys
 some_same xs ys e = cc
 
+-- a key that was absent stays so when another is evicted
+pub absent_evicted : {V : ℕ} (h h' : List (Change V)) (k j : ℕ) (xs : List ℕ) → map_value h k ≡ None → map_value h j ≡ Some xs → h' ≡ h ++ Evict j ∷ [] → map_value h' k ≡ None
+absent_evicted {V} h h' k j xs none held grew =
+    ap (λ (z : List (Change V)). map_value z k) grew ∙ (others_stay h (Evict j) k (λ e. none_some (sym none ∙ (ap (map_value h) e ∙ held))) ∙ none)
+  where
+    none_some : ◌≡◌ {A = Option (List ℕ)} None (Some xs) → ⊥
+    none_some e = absurd (cc)
+
 held_found : {V : ℕ} (h : List (Change V)) (k : ℕ) (v : List ℕ) (since : ℕ) (reply : Reply V) → map_value h k ≡ Some (v ++ since ∷ []) → TellsNow h k reply → reply ≡ Found v (length h) since
 held_found {V} h k v since (Found w at stamp) held t =
     let same = same_from_push w v stamp since (some_same (w ++ stamp ∷ []) (v ++ since ∷ []) (sym t.0 ∙ held)) in

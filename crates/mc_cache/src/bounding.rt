@@ -79,7 +79,7 @@ impl<const V: usize> Writer<V> {
         match self.evict(cache) {
             Ok(Evict::Evicted { old, .. }) => Ok(Bounded::Evicted {
                 old,
-                put: self.put_kept(cache, key, value),
+                put: self.put_kept_absent(cache, key, value),
             }),
             Ok(Evict::Empty { .. }) => unreachable!(),
             Err(why) => Err(why),
@@ -109,7 +109,7 @@ impl<const V: usize> Writer<V> {
         match self.evict(cache) {
             Ok(Evict::Evicted { old, .. }) => Ok(BoundedPut::Evicted {
                 key: old.key,
-                put: self.put_kept(cache, key, value),
+                put: self.put_kept_absent(cache, key, value),
             }),
             Ok(Evict::Empty { .. }) => unreachable!(),
             Err(why) => Err(why),
@@ -130,10 +130,10 @@ impl<const V: usize> Writer<V> {
         ensures plain { PutWithinMeans V (history V self.old) (history V self.new) key value.entry most result }
         ensures fails { PutWithinFails V cache.now.layout.shape (history V self.new) (version_changes V self.new) key result }
     {
-        if self.has(cache, key) {
-            return Ok(BoundedPut::Put(self.put(cache, key, value)));
+        match self.put_if_present(cache, key, value) {
+            Some(told) => Ok(BoundedPut::Put(told)),
+            None => self.put_absent(cache, key, most, value),
         }
-        self.put_absent(cache, key, most, value)
     }
 
     /// Puts the key as `swap_if_absent_bounded` does, and returns no entry.
@@ -177,10 +177,10 @@ impl<const V: usize> Writer<V> {
         ensures plain { BoundedMeans V (history V self.old) (history V self.new) key value.entry most result }
         ensures fails { BoundedFails cache.now.layout.shape (history V self.new) (version_changes V self.new) key result }
     {
-        if self.has(cache, key) {
-            return Ok(Bounded::Swapped(self.swap(cache, key, value)));
+        match self.swap_if_present(cache, key, value) {
+            Some(told) => Ok(Bounded::Swapped(told)),
+            None => self.swap_absent(cache, key, most, value),
         }
-        self.swap_absent(cache, key, most, value)
     }
 
     /// Puts the key as `swap_bounded` does, but only if it is absent. A key that is there is marked, as by a hit.

@@ -1,5 +1,6 @@
 //! The writer's calls that also return the entry which they take out of the map.
-ghost use Rattle.std.specs.Prelude.{◌≡◌};
+ghost use Rattle.std.specs.Prelude.{◌≡◌, IfNone, IfSome, IsSome, None};
+ghost use Rattle.mc_words.specs.History.{map_value};
 ghost use Rattle.mc_cache.specs.Failing.{PutIfAbsentFails, SwapFails, SwapIfFails, TakeFails, TakeIfFails, version_changes};
 ghost use Rattle.mc_cache.specs.Plain.{history};
 ghost use Rattle.mc_cache.specs.Taking.{HasTakenIf, SwapIfAbsentMeans, SwapIfMeans, SwapMeans, TakeIfMeans, TakeMeans, absent_of, swap_answer, swap_if_answer, take_answer};
@@ -10,7 +11,7 @@ use crate::cache::Cache;
 use crate::writer::{Writer, at};
 use mc_plan::{AbsentError, IfError, PutError, Spent};
 use mc_words::Reply;
-use mc_writer::{Replaced, Swapped, Take, look, swap, swap_if, take};
+use mc_writer::{Replaced, Swapped, Take, look, swap, swap_if, swap_if_present, take};
 
 impl<const V: usize> Writer<V> {
     /// Puts the key as `put` does, and returns the entry that gives way: the key's earlier one, or that of the key that is evicted.
@@ -31,6 +32,31 @@ impl<const V: usize> Writer<V> {
                 Ok(swapped)
             }
             Err(why) => Err(why),
+        }
+    }
+
+    /// Puts the key as `swap` does, if it is there. `None`: it is absent, and nothing has changed.
+    pub(crate) fn swap_if_present(
+        &mut self,
+        cache: &Cache<V>,
+        key: u64,
+        value: [u64; V],
+    ) -> Option<Result<Swapped<V>, PutError>>
+        requires of { self.old.of ≡ cache.now }
+        ensures called { IfSome result (λ told. HasCalled V cache.now.layout.shape (PutCall key value.entry) self.old self.new (swap_answer told)) }
+        ensures plain { IfSome result (λ told. SwapMeans V (history V self.old) (history V self.new) key value.entry told) }
+        ensures fails { IfSome result (λ told. SwapFails cache.now.layout.shape (history V self.new) (version_changes V self.new) key told) }
+        ensures present { IfSome result (λ told. IsSome (map_value (history V self.old) key)) }
+        ensures same { IfNone result (self.new ≡ self.old) }
+        ensures absent { IfNone result (map_value (history V self.old) key ≡ None) }
+    {
+        match swap_if_present(&cache.cells, &mut self.seat, &mut self.books, key, &value) {
+            Some(Ok(swapped)) => {
+                self.moment = at(&swapped.put);
+                Some(Ok(swapped))
+            }
+            Some(Err(why)) => Some(Err(why)),
+            None => None,
         }
     }
 

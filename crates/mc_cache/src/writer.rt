@@ -1,6 +1,7 @@
 //! The writer.
-ghost use Rattle.std.specs.Prelude.{◌≡◌, ◌++◌, IfOk, length};
-ghost use Rattle.mc_words.specs.History.{key_count};
+ghost use Rattle.std.specs.Prelude.{◌≡◌, ◌++◌, IfNone, IfOk, IfSome, IsSome, None, length};
+ghost use Rattle.mc_words.specs.History.{key_count, map_value};
+ghost use Rattle.mc_words.specs.Places.{IsWidth};
 ghost use Rattle.mc_theory.specs.Lists.{state_of};
 ghost use Rattle.mc_shared.specs.SeatFacts.{IsRun};
 ghost use Rattle.mc_cache.specs.Resting.{IsAtRest};
@@ -15,7 +16,9 @@ use crate::cache::Cache;
 use mc_plan::{AbsentError, Books, IfError, Put, PutError, Remove, Spent, Why};
 use mc_shared::WriterSeat;
 use mc_words::Reply;
-use mc_writer::{get, look, put, put_if, put_if_absent, put_kept, remove};
+use mc_writer::{
+    get, look, put, put_if, put_if_absent, put_if_present, put_kept, put_kept_absent, remove,
+};
 use std::marker::Model;
 
 /// The one writer of a cache. In contracts it is its record: the acts that it has made.
@@ -134,6 +137,54 @@ impl<const V: usize> Writer<V> {
         ensures at { IfOk result (λ done. moment_of done ≡ length (history V self.new)) }
     {
         match put_kept(&cache.cells, &mut self.seat, &mut self.books, key, &value) {
+            Ok(done) => {
+                self.moment = at(&done);
+                Ok(done)
+            }
+            Err(why) => Err(why),
+        }
+    }
+
+    /// Puts the key as `put` does, if it is there. `None`: it is absent, and nothing has changed.
+    pub(crate) fn put_if_present(
+        &mut self,
+        cache: &Cache<V>,
+        key: u64,
+        value: [u64; V],
+    ) -> Option<Result<Put, PutError>>
+        requires of { self.old.of ≡ cache.now }
+        ensures width { IsWidth V }
+        ensures called { IfSome result (λ told. HasCalled V cache.now.layout.shape (PutCall key value.entry) self.old self.new (answer.Put told)) }
+        ensures plain { IfSome result (λ told. PutMeans V (history V self.old) (history V self.new) key value.entry told) }
+        ensures fails { IfSome result (λ told. PutFails cache.now.layout.shape (history V self.new) (version_changes V self.new) key told) }
+        ensures present { IfSome result (λ told. IsSome (map_value (history V self.old) key)) }
+        ensures same { IfNone result (self.new ≡ self.old) }
+        ensures absent { IfNone result (map_value (history V self.old) key ≡ None) }
+    {
+        match put_if_present(&cache.cells, &mut self.seat, &mut self.books, key, &value) {
+            Some(Ok(done)) => {
+                self.moment = at(&done);
+                Some(Ok(done))
+            }
+            Some(Err(why)) => Some(Err(why)),
+            None => None,
+        }
+    }
+
+    /// Puts a key that is absent as `put_kept` does, without a look for it. Condition: it is absent.
+    pub(crate) fn put_kept_absent(
+        &mut self,
+        cache: &Cache<V>,
+        key: u64,
+        value: [u64; V],
+    ) -> Result<Put, Why>
+        requires of { self.old.of ≡ cache.now }
+        requires absent { map_value (history V self.old) key ≡ None }
+        ensures called { HasCalled V cache.now.layout.shape (KeptCall key value.entry) self.old self.new (answer.Kept result) }
+        ensures plain { history V self.new ≡ history V self.old ++ changes_by key value.entry result }
+        ensures at { IfOk result (λ done. moment_of done ≡ length (history V self.new)) }
+    {
+        match put_kept_absent(&cache.cells, &mut self.seat, &mut self.books, key, &value) {
             Ok(done) => {
                 self.moment = at(&done);
                 Ok(done)

@@ -1,8 +1,8 @@
 //! What the writer keeps of its table beside the words, and how it decides a call.
-ghost use Rattle.std.specs.Prelude.{ℕ, ◌≡◌, ◌+◌, ◌*◌, ◌^◌, ◌<◌, ◌≤◌, [], ◌↔◌, IfOk, IsTrue};
+ghost use Rattle.std.specs.Prelude.{ℕ, ◌≡◌, ◌+◌, ◌*◌, ◌^◌, ◌<◌, ◌≤◌, [], ◌↔◌, IfOk, IsTrue, MatchOption, None};
 ghost use Rattle.mc_words.specs.Checks.{policy_of, shape_of};
 ghost use Rattle.mc_words.specs.declared.policy.Policy.TheVariants.{Clock};
-ghost use Rattle.mc_words.specs.History.{key_count};
+ghost use Rattle.mc_words.specs.History.{IsWord, key_count, map_value};
 ghost use Rattle.mc_words.specs.KeyParts.{HasParts};
 ghost use Rattle.mc_words.specs.Places.{IsWidth};
 ghost use Rattle.mc_theory.specs.States.{State, opening};
@@ -33,8 +33,10 @@ pub struct Books {
 }
 
 impl Books {
-    ghost use Rattle.mc_plan.specs.Books.{AreBooksOf};
+    ghost use Rattle.mc_plan.specs.Books.{AreBooksOf, IsLackingKey};
     ghost use Rattle.mc_plan.specs.Deciding.{IsDecided, IsIfDecided, IsRemovalDecided, IsVacancy};
+    ghost use Rattle.mc_plan.specs.declared.decision.Decision.TheVariants as decision;
+    ghost use Rattle.mc_plan.specs.declared.answer.PutError.TheVariants as refusal;
     ghost use Rattle.mc_search.specs.Sweeps.{HasSwept};
 
     /// The books of a new table.
@@ -158,17 +160,30 @@ impl Books {
         ensures vacancy { (s : State V) → AreBooksOf V self.now s → P.words peek.old ≡ s.words → IsVacancy V self.now key value.now s result }
         ensures kept { peek.new ≡ peek.old }
     {
-        have_words(value.as_slice());
         if let Some((_, item)) = find_by::<V, P>(&self.checked, peek, key, parts) {
             let since = stamp_at::<V, P>(&self.checked, peek, item);
             return Vacancy::Taken { item, since };
         }
+        match self.next_put::<V, P>(peek, value) {
+            Some(at) => Vacancy::Free { at },
+            None => Vacancy::Spent,
+        }
+    }
+
+    /// The moment of the put of a key that is absent, if the limit is far enough for it.
+    /// Condition: the books are those of the table whose words are looked at, between two calls.
+    #[inline(always)]
+    pub fn next_put<const V: usize, P: Peek>(&self, peek: &mut P, value: &[u64; V]) -> Option<u64>
+        requires books { (s : State V) × AreBooksOf V self.now s × (P.words peek.old ≡ s.words) }
+        ensures next { (k : ℕ) (s : State V) → AreBooksOf V self.now s → P.words peek.old ≡ s.words → IsWord k → map_value s.history k ≡ None →
+            MatchOption result (IsDecided V self.now k value.now s (decision.Refuse refusal.Spent)) (IsLackingKey V self.now k value.now s) }
+        ensures kept { peek.new ≡ peek.old }
+    {
+        have_words(value.as_slice());
         if self.is_spent(self.most_changes()) {
-            return Vacancy::Spent;
+            return None;
         }
-        Vacancy::Free {
-            at: moment(&self.checked, peek) + 1,
-        }
+        Some(moment(&self.checked, peek) + 1)
     }
 
     /// Decides a put on a condition: it renews the key if the key's stamp is `since`. No key moves for it, so it needs only two version

@@ -1,24 +1,16 @@
-use Rattle.std.proofs.Common.{All, ℕ, List, Err, ◌≡◌, ◌+◌, ◌∙◌, ap, arith, refl, subst, sym}
-use Rattle.std.proofs.lemmas.Bool.{false≢true}
-use Rattle.mc_words.specs.Answers.{PutIsSpent}
+use Rattle.std.proofs.Common.{ℕ, List, None, ◌≡◌, ◌∙◌, ap, arith, subst, sym}
 use Rattle.mc_words.specs.Checks.{shape_of}
-use Rattle.mc_words.specs.History.{IsWord}
+use Rattle.mc_words.specs.History.{map_value}
 use Rattle.mc_words.specs.Places.{item, payload, slot_number}
 use Rattle.mc_words.specs.Standing.{Stands, IsAbsent}
 use Rattle.mc_theory.specs.States.{State}
-use Rattle.mc_plan.specs.WholeCalls.{PutCall, quiet_of}
-use Rattle.mc_plan.specs.declared.answer.Answer.TheVariants as answer
-use Rattle.mc_plan.specs.declared.answer.PutError.TheVariants as why
-use Rattle.mc_plan.proofs.Calls.AfterPlan.{idle_planned, placed_in, moment_in}
+use Rattle.mc_plan.specs.Books.{AreBooksOf}
+use Rattle.mc_plan.proofs.Calls.AfterPlan.{placed_in}
 use Rattle.mc_plan.proofs.Calls.IfCalls.{stamp_held}
 use Rattle.mc_plan.proofs.Deeds.QuietStates.{absent_held}
 use Rattle.mc_plan.proofs.books.Books.vacancy.Goals as goal
-use Rattle.mc_plan.proofs.books.Books.vacancy.Goals.{After-have_words, In_default}
+use Rattle.mc_plan.proofs.books.Books.vacancy.Goals.{In_default}
 use Rattle.mc_plan.proofs.books.Books.vacancy.Given.{Over}
-
--- the words of the value have 64 bits each
-words : (g : Over) (c : After-have_words g) → All IsWord c.args.value.now
-words g c = subst (λ (x : List ℕ). All IsWord x) c.as_slice.ensures c.have_words.ensures
 
 pub find_by-requires-clause-placed : goal.find_by-requires-clause-placed
 find_by-requires-clause-placed g c = placed_in g.row.V c.args.self.now c.requires.books.0 _ c.requires.books.1 c.requires.books.2 c.args.key
@@ -38,28 +30,16 @@ returns-in-Some-clause-vacancy g c s old same =
 absent : (g : Over) (c : In_default g) (s : State g.row.V) → g.P.Peek.words c.args.peek.now ≡ s.words → IsAbsent g.row.V (shape_of c.args.self.now.checked) s.words c.args.key
 absent g c s same = subst (λ (x : List ℕ). IsAbsent g.row.V (shape_of c.args.self.now.checked) x c.args.key) same c.in_default.ensures.none
 
-pub returns-then-is_spent-clause-vacancy : goal.returns-then-is_spent-clause-vacancy
-returns-then-is_spent-clause-vacancy g c s old same =
-    let V = g.row.V in
-    let b = c.args.self.now in
-    let lacks = absent g (goal.at.returns-then-is_spent-clause-vacancy g c).In_default s same in
-    let spent : PutIsSpent (shape_of b.checked) (quiet_of s) = omega (arith, c.if-is_spent.ensures.0 refl, c.most_changes.ensures.value, old.version_steps) in
-    (absent_held V (shape_of b.checked) s c.args.key old.quiet lacks, (idle_planned V b (PutCall c.args.key c.args.value.now) s (answer.Put (Err why.Spent)) old (spent, refl) tt, refl))
+-- and not in the map
+held : (g : Over) (c : In_default g) (s : State g.row.V) → AreBooksOf g.row.V c.args.self.now s → g.P.Peek.words c.args.peek.now ≡ s.words → map_value s.history c.args.key ≡ None
+held g c s old same = absent_held g.row.V (shape_of c.args.self.now.checked) s c.args.key old.quiet (absent g c s same)
 
-pub returns-clause-vacancy : goal.returns-clause-vacancy
-returns-clause-vacancy g c s old same =
-    let V = g.row.V in
-    let b = c.args.self.now in
-    let at = goal.at.returns-clause-vacancy g c in
-    let lacks = absent g at.In_default s same in
-    let there = ap g.P.Peek.words c.find_by.ensures.kept ∙ same in (
-      absent_held V (shape_of b.checked) s c.args.key old.quiet lacks,
-      record {
-        known = old;
-        key = omega arith;
-        value = (c.told-value, words g at.After-have_words);
-        unspent = λ spent. false≢true (c.if-is_spent.ensures.1 (omega (arith, spent, c.most_changes.ensures.value, old.version_steps)));
-        absent = lacks;
-        next = moment_in V b s (g.P.Peek.words c.find_by.new.peek) old there (c.moment.result + 1) (ap (λ (n : ℕ). n + 1) c.moment.ensures.value);
-      },
-    )
+pub returns-in-Some-next_put-clause-vacancy : goal.returns-in-Some-next_put-clause-vacancy
+returns-in-Some-next_put-clause-vacancy g c s old same =
+    let none = held g (goal.at.returns-in-Some-next_put-clause-vacancy g c).In_default s old same in
+    (none, c.in-Some-next_put.ensures.next c.args.key s old (ap g.P.Peek.words c.find_by.ensures.kept ∙ same) (omega arith) none)
+
+pub returns-in-None-clause-vacancy : goal.returns-in-None-clause-vacancy
+returns-in-None-clause-vacancy g c s old same =
+    let none = held g (goal.at.returns-in-None-clause-vacancy g c).In_default s old same in
+    (none, c.in-None.ensures.next c.args.key s old (ap g.P.Peek.words c.find_by.ensures.kept ∙ same) (omega arith) none)

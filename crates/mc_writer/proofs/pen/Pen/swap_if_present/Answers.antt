@@ -1,0 +1,86 @@
+use Rattle.std.proofs.Common.{[], ◌∙◌, Ok, Err, arith, refl, sym, subst}
+use Rattle.mc_words.specs.Checks.{shape_of}
+use Rattle.mc_words.specs.KeyParts.{HasParts}
+use Rattle.mc_words.specs.Shapes.{IsShape}
+use Rattle.mc_plan.specs.Decisions.{renewal_acts}
+use Rattle.mc_plan.specs.WholeCalls.{PutCall}
+use Rattle.mc_plan.specs.declared.answer.Answer.TheVariants as answer
+use Rattle.mc_plan.specs.declared.answer.Put.TheVariants as put
+use Rattle.mc_plan.proofs.Deeds.QuietStates.{absent_held}
+use Rattle.mc_shared.specs.Records.{WriterRecord}
+use Rattle.mc_writer.specs.Inside.Pens.{IsSamePen, state_at}
+use Rattle.mc_writer.specs.WriterCalls.{HasCalled, IsRested}
+use Rattle.mc_writer.specs.declared.pen.Pen.{Pen}
+use Rattle.mc_writer.proofs.Chosen.{agrees_read}
+use Rattle.mc_writer.proofs.GivenWay.{renewed_stands}
+use Rattle.mc_writer.proofs.WholeCalls.{due_now, known_there, layout_rested, made_now, not_turned, refused_now, shape_read}
+use Rattle.mc_writer.proofs.pen.Pen.swap_if_present.Goals as goal
+use Rattle.mc_writer.proofs.pen.Pen.swap_if_present.Goals.{After-make_renewal}
+use Rattle.mc_writer.proofs.pen.Pen.swap_if_present.Given.{Over}
+
+pub make_renewal-requires : goal.make_renewal-requires
+make_renewal-requires g c =
+    let V = g.row.V in
+    let pen = c.args.self.now in
+    let q = c.entry_at-old.new.self in
+    let due = due_now V pen q c.args.books.now c.decide.new.self (PutCall c.args.key c.args.value.now) (answer.Put (Ok (put.Renewed c.in-Renew.at))) (λ _. renewal_acts c.args.key c.args.value.now c.in-Renew.at c.in-Renew.item) [] (layout_rested V pen c.args.books.now c.requires.rested) c.decide.ensures.shape (not_turned V pen q (c.entry_at-old.ensures.same ∙ c.decide.ensures.kept)) (c.in-Renew.ensures.decided (state_at V pen) (known_there V pen c.args.books.now c.requires.rested) refl) in
+    let width = c.requires.rested.known.width in
+    (omega arith, (omega (arith, width.most), (width, (due, subst (λ (x : Pen V). HasParts x.cells.now.layout.shape c.args.key c.parts-parts.result) (sym (c.entry_at-old.ensures.same ∙ c.decide.ensures.kept)) c.parts-parts.ensures))))
+
+pub entry_at-old-requires : goal.entry_at-old-requires
+entry_at-old-requires g c =
+    let V = g.row.V in
+    let pen = c.args.self.now in
+    let q = c.decide.new.peek in
+    let b = c.args.books.now in
+    let layout = layout_rested V pen b c.requires.rested in
+    let known = known_there V pen b c.requires.rested in
+    let read = not_turned V pen q c.decide.ensures.kept in
+    let due = due_now V pen q b c.decide.new.self (PutCall c.args.key c.args.value.now) (answer.Put (Ok (put.Renewed c.in-Renew.at))) (λ _. renewal_acts c.args.key c.args.value.now c.in-Renew.at c.in-Renew.item) [] layout c.decide.ensures.shape read (c.in-Renew.ensures.decided (state_at V pen) known refl) in
+    let sound = subst IsShape (shape_read V pen q b c.decide.new.self [] layout c.decide.ensures.shape read) c.decide.new.self.checked.sound in
+    let width = known.width in (
+      omega arith,
+      (
+        omega (arith, width.most),
+        (
+          width,
+          (
+            ((state_at V pen).history, agrees_read V pen q b [] layout known read),
+            renewed_stands V q.cells.now.layout.shape (state_at V q) c.args.key c.in-Renew.at c.in-Renew.item c.args.value.now due.later sound (omega (arith, width.some)) due.due.allowed,
+          ),
+        ),
+      ),
+    )
+
+-- a renewal is a whole call
+renewed : (g : Over) (c : After-make_renewal g) → IsSamePen g.row.V c.args.self.now c.make_renewal.new.self × HasCalled g.row.V c.args.self.now.cells.now.layout.shape (PutCall c.args.key c.args.value.now) c.args.self.now.seat.now c.make_renewal.new.self.seat.now (answer.Put (Ok (put.Renewed c.in-Renew.at))) × IsRested g.row.V c.decide.new.self c.make_renewal.new.self.seat.now
+renewed g c =
+    let V = g.row.V in
+    let pen = c.args.self.now in
+    let q = c.entry_at-old.new.self in
+    made_now V pen q c.args.books.now c.decide.new.self (PutCall c.args.key c.args.value.now) (answer.Put (Ok (put.Renewed c.in-Renew.at))) (λ _. renewal_acts c.args.key c.args.value.now c.in-Renew.at c.in-Renew.item) [] (layout_rested V pen c.args.books.now c.requires.rested) c.decide.ensures.shape (not_turned V pen q (c.entry_at-old.ensures.same ∙ c.decide.ensures.kept)) (c.in-Renew.ensures.decided (state_at V pen) (known_there V pen c.args.books.now c.requires.rested) refl) c.make_renewal.new.self c.make_renewal.ensures.made refl
+
+pub returns-in-Renew-clause-called : goal.returns-in-Renew-clause-called
+returns-in-Renew-clause-called g c = (renewed g (goal.at.returns-in-Renew-clause-called g c).After-make_renewal).1
+
+pub returns-in-Renew-clause-rested : goal.returns-in-Renew-clause-rested
+returns-in-Renew-clause-rested g c = (renewed g (goal.at.returns-in-Renew-clause-rested g c).After-make_renewal).2
+
+-- the limit could be passed
+pub returns-in-Some-clause-called : goal.returns-in-Some-clause-called
+returns-in-Some-clause-called g c =
+    let V = g.row.V in
+    let pen = c.args.self.now in
+    let q = c.decide.new.peek in
+    let call = PutCall c.args.key c.args.value.now in
+    let told = answer.Put (Err c.in-Refuse.why) in
+    let decided = c.in-Refuse.ensures.decided (state_at V pen) (known_there V pen c.args.books.now c.requires.rested) refl in
+    let done = refused_now V pen q c.args.books.now c.decide.new.self call told [] (layout_rested V pen c.args.books.now c.requires.rested) c.decide.ensures.shape (not_turned V pen q c.decide.ensures.kept) decided.0 decided.1 in
+    subst (λ (w : WriterRecord). HasCalled V pen.cells.now.layout.shape call pen.seat.now w told) (sym c.look.ensures.seat) done.1
+
+pub returns-in-Insert-clause-absent : goal.returns-in-Insert-clause-absent
+returns-in-Insert-clause-absent g c =
+    let V = g.row.V in
+    let pen = c.args.self.now in
+    let lacks = c.in-Insert.ensures.decided (state_at V pen) (known_there V pen c.args.books.now c.requires.rested) refl in
+    absent_held V (shape_of c.decide.new.self.checked) (state_at V pen) c.args.key lacks.known.quiet lacks.absent
